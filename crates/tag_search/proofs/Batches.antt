@@ -70,7 +70,7 @@ batch_bound (batch_passed {steps = first} {rest = rest} v search) =
     let a = batch_visit_bound v in let b = batch_bound search in let e = length-append first rest in omega arith
 
 -- a search over all words is a batch get
-pub batch_get : (l : Layout) (n first : ℕ) → 1 ≤ n → l.shift ≤ 6 → first ≤ words l
+batch_get : (l : Layout) (n first : ℕ) → 1 ≤ n → l.shift ≤ 6 → first ≤ words l
     → (answer : Option (ℕ × ℕ)) (steps : List WordStep)
     → IsBatchSearch l n (scan_order first (words l) true) steps answer → IsBatchGet l n first answer steps
 batch_get l n first some narrow h answer steps search =
@@ -80,7 +80,7 @@ batch_get l n first some narrow h answer steps search =
     record { search = search; alone = batch_alone l n search some (word_bits-le l narrow); bound = omega arith }
 
 -- the hint's word is one of the words, or there are none
-pub hint_word-le : (l : Layout) (at : ℕ) → word_of l (reduced l.depth at) ≤ words l
+hint_word-le : (l : Layout) (at : ℕ) → word_of l (reduced l.depth at) ≤ words l
 hint_word-le l at = cases l.depth refl
   where
     cases : (d : ℕ) → l.depth ≡ d → word_of l (reduced d at) ≤ words l
@@ -88,23 +88,15 @@ hint_word-le l at = cases l.depth refl
     cases (suc d) e = let low : at % suc d < suc d = mod_below at (suc d) (omega arith) in
         let below = word_of-below l (at % suc d) (subst (λ (x : ℕ). at % suc d < x) (sym e) low) in omega arith
 
--- the same, with equal layouts and first words
-pub batch_get_at : (l sizes : Layout) (n first word : ℕ) → 1 ≤ n → sizes.shift ≤ 6 → l ≡ sizes → first ≡ word
-    → word ≤ words sizes → (answer : Option (ℕ × ℕ)) (steps : List WordStep)
-    → IsBatchSearch l n (scan_order first (words l) true) steps answer → IsBatchGet sizes n word answer steps
-batch_get_at l sizes n first word some narrow e f h answer steps search =
-    let a = subst (λ (x : Layout). IsBatchSearch x n (scan_order first (words x) true) steps answer) e search in
-    batch_get sizes n word some narrow h answer steps
-    (subst (λ (x : ℕ). IsBatchSearch sizes n (scan_order x (words sizes) true) steps answer) f a)
-
 -- the search from the word of a reduced hint is the batch get
 pub batch_get_from : (l sizes : Layout) (n at depth from shift : ℕ) → 1 ≤ n → shift ≤ 6 → l ≡ sizes → depth ≡ l.depth
     → shift ≡ l.shift → from ≡ reduced depth at → (answer : Option (ℕ × ℕ)) (steps : List WordStep)
     → IsBatchSearch l n (scan_order (from / 2 ^ shift) (words l) true) steps answer
     → IsBatchGet sizes n (word_of sizes (reduced sizes.depth at)) answer steps
-batch_get_from l sizes n at depth from shift some narrow same deep wide hint =
+batch_get_from l sizes n at depth from shift some narrow same deep wide hint answer steps search =
     let is : shift ≡ sizes.shift = wide ∙ ap (λ (x : Layout). x.shift) same in
     let start : from ≡ reduced sizes.depth at = hint
     ∙ ap (λ (d : ℕ). reduced d at) (deep ∙ ap (λ (x : Layout). x.depth) same) in
-    batch_get_at l sizes n (from / 2 ^ shift) (word_of sizes (reduced sizes.depth at)) some (omega arith) same
-    (λ z. start z / 2 ^ is z) (hint_word-le sizes at)
+    batch_get sizes n (word_of sizes (reduced sizes.depth at)) some (omega arith) (hint_word-le sizes at) answer steps
+    (subst (λ (x : Layout × ℕ). IsBatchSearch x.0 n (scan_order x.1 (words x.0) true) steps answer)
+    (λ z. (same z, start z / 2 ^ is z)) search)

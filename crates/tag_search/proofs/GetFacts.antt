@@ -1,5 +1,5 @@
 -- A search over all words is a get.
-use Rattle.std.proofs.Common.{◌≡◌, ℕ, zero, suc, ◌<◌, ◌≤◌, Bool, true, false, List, Option, arith, ap, refl, subst, sym}
+use Rattle.std.proofs.Common.{◌≡◌, ℕ, zero, suc, ◌<◌, ◌≤◌, Bool, true, false, List, Option, arith, ap, refl, subst, sym, ◌∙◌}
 use Rattle.std.proofs.Math.Nat.{mod-eq_of_lt}
 use Rattle.tag_core.specs.declared.word_step.WordStep.{WordStep}
 use Rattle.tag_layout.specs.Layout.{Layout, words, word_of, word_depth}
@@ -10,6 +10,8 @@ use Rattle.tag_search.specs.Begun.{visits_from}
 use Rattle.tag_search.specs.Follows.{HintFollows}
 use Rattle.tag_search.specs.Gets.{IsGet}
 use Rattle.tag_search.specs.Hints.{reduced, hint_after_get}
+use Rattle.tag_search.specs.declared.scan.Scan.{Scan}
+use Rattle.tag_search.specs.Scans.{reach_of}
 use Rattle.tag_search.specs.Search.{IsSearch}
 use Rattle.tag_search.specs.Visits.{Reach, visits, plain_reach, shallow_reach}
 use Rattle.tag_search.proofs.Choices.{search_chooses}
@@ -44,37 +46,51 @@ pub shallow_within : (l : Layout) (depth hint i : ℕ) → i < words l → (shal
 shallow_within l depth hint i h = let start = word-start l i h in shallow_limit-le l depth i (omega arith)
 
 -- the same, with equal layouts, first words and reaches
-pub get_at : (l sizes : Layout) (first word : ℕ) (reach wanted : Reach) → l ≡ sizes → first ≡ word → reach ≡ wanted
-    → sizes.shift ≤ 6 → word ≤ words sizes
-    → ((i : ℕ) → i < words sizes → wanted.limit i ≤ word_depth sizes i)
+get_at : (l sizes : Layout) (first word : ℕ) (reach wanted : Reach) → l ≡ sizes → first ≡ word → reach ≡ wanted
+    → l.shift ≤ 6 → first ≤ words l → ((i : ℕ) → i < words sizes → wanted.limit i ≤ word_depth sizes i)
     → (answer : Option ℕ) (steps : List WordStep) → IsSearch l (visits l first reach) steps answer
     → IsGet sizes (visits sizes word wanted) answer steps
 get_at l sizes first word reach wanted e f r narrow h within answer steps search =
-    let a = subst (λ (x : Layout). IsSearch x (visits x first reach) steps answer) e search in
-    let b = subst (λ (x : ℕ). IsSearch sizes (visits sizes x reach) steps answer) f a in
-    let d = subst (λ (x : Reach). IsSearch sizes (visits sizes word x) steps answer) r b in
-    get_of_search sizes word wanted narrow h within answer steps d
+    let low = subst (λ (x : Layout × ℕ). (x.0.shift ≤ 6) × (x.1 ≤ words x.0)) (λ z. (e z, f z)) (narrow, h) in
+    get_of_search sizes word wanted low.0 low.1 within answer steps
+    (subst (λ (x : Layout × ℕ × Reach). IsSearch x.0 (visits x.0 x.1 x.2) steps answer) (λ z. (e z, f z, r z)) search)
+
+-- the search of a scan from a reduced hint is a get, whose visits its reach determines
+pub scan_get : (scan : Scan) (l sizes : Layout) (reach : Layout → ℕ → Reach) (at depth from : ℕ) → l ≡ sizes
+    → depth ≡ l.depth → from ≡ reduced depth at → scan.layout ≡ l → l.shift ≤ 6
+    → (scan.first ≡ word_of l from) × (scan.first ≤ words l) → reach_of scan ≡ reach l from
+    → let hint = reduced sizes.depth at in ((i : ℕ) → i < words sizes → (reach sizes hint).limit i ≤ word_depth sizes i)
+    → (answer : Option ℕ) (steps : List WordStep)
+    → IsSearch scan.layout (visits scan.layout scan.first (reach_of scan)) steps answer
+    → IsGet sizes (visits sizes (word_of sizes hint) (reach sizes hint)) answer steps
+scan_get scan l sizes reach at depth from same deep start own narrow first is within =
+    let hint : from ≡ reduced sizes.depth at = start
+    ∙ ap (λ (d : ℕ). reduced d at) (deep ∙ ap (λ (x : Layout). x.depth) same) in
+    let low = subst (λ (x : Layout). (x.shift ≤ 6) × (scan.first ≤ words x)) (sym own) (narrow, first.1) in
+    get_at scan.layout sizes scan.first (word_of sizes (reduced sizes.depth at)) (reach_of scan)
+    (reach sizes (reduced sizes.depth at)) (own ∙ same) (first.0 ∙ (λ z. word_of (same z) (hint z)))
+    (is ∙ (λ z. reach (same z) (hint z))) low.0 low.1 within
 
 -- a get without round robin from a hint below the depth
-module _ (l : Layout) (hint : Hint) (low : hint.at < l.depth) where
-  from-is : hint.at ≡ reduced l.depth hint.at
-  from-is = sym (reduced_below l.depth hint.at low)
+module _ (l sizes : Layout) (hint : Hint) (same : l ≡ sizes) (low : hint.at < sizes.depth) where
+  from-is : hint.at ≡ reduced sizes.depth hint.at
+  from-is = sym (reduced_below sizes.depth hint.at low)
 
   -- a search of whole words from the hint's word is the get
-  pub plain_get : hint.round_robin ≡ false → l.shift ≤ 6 → word_of l hint.at ≤ words l
-      → (answer : Option ℕ) (steps : List WordStep)
-      → IsSearch l (visits l (word_of l hint.at) (plain_reach l false 0)) steps answer
-      → IsGet l (visits_from l hint) answer steps
-  plain_get plain narrow below answer steps search =
-      let from : ℕ = reduced l.depth hint.at in let rr = hint.round_robin in
-      get_at l l (word_of l hint.at) (word_of l from) (plain_reach l false 0) (plain_reach l rr from) refl
-      (ap (word_of l) from-is) (λ z. plain_reach l (sym plain z) from) narrow
-      (subst (λ (x : ℕ). word_of l x ≤ words l) from-is below) (plain_within l rr from) answer steps search
+  pub plain_get : (word : ℕ) → word ≡ word_of l hint.at → hint.round_robin ≡ false → l.shift ≤ 6 → word ≤ words l
+      → (answer : Option ℕ) (steps : List WordStep) → IsSearch l (visits l word (plain_reach l false 0)) steps answer
+      → IsGet sizes (visits_from sizes hint) answer steps
+  plain_get word is plain narrow below =
+      let from : ℕ = reduced sizes.depth hint.at in let rr = hint.round_robin in
+      get_at l sizes word (word_of sizes from) (plain_reach l false 0) (plain_reach sizes rr from) same
+      (is ∙ (λ z. word_of (same z) (from-is z))) (λ z. plain_reach (same z) (sym plain z) from) narrow below
+      (plain_within sizes rr from)
 
   -- and the hint follows its answer from where it is
-  pub plain_follows : (answer : Option ℕ) (at : ℕ) → at ≡ hint_after_get l.depth hint.round_robin hint.at answer
-      → HintFollows l.depth hint (record { at = at; round_robin = hint.round_robin }) answer
-  plain_follows answer at is = record {
-    at = subst (λ (x : ℕ). at ≡ hint_after_get l.depth hint.round_robin x answer) from-is is;
+  pub plain_follows : (depth at : ℕ) (answer : Option ℕ) → depth ≡ l.depth
+      → at ≡ hint_after_get depth hint.round_robin hint.at answer
+      → HintFollows sizes.depth hint (record { at = at; round_robin = hint.round_robin }) answer
+  plain_follows depth at answer deep is = record {
+    at = is ∙ (λ z. hint_after_get ((deep ∙ ap (λ (x : Layout). x.depth) same) z) hint.round_robin (from-is z) answer);
     round_robin = refl;
   }

@@ -12,6 +12,7 @@ use Rattle.tag_core.specs.declared.word_step.WordStep.TheVariants.{LookAside, Cl
 use Rattle.tag_core.specs.Steps.{changed_at, without}
 use Rattle.tag_search.specs.Plain.{Plain, RunsAlone, IsTaken}
 use Rattle.tag_search.proofs.OneTag.{bit_is}
+use Rattle.tag_search.proofs.Seen.{Reads}
 
 -- a list with one entry changed, as a function of the index
 pub set_changed : (xs : List ℕ) (i v : ℕ) → i < length xs → (λ (j : ℕ). get_or (set xs i v) j 0) ≡ changed_at
@@ -25,59 +26,57 @@ set_changed xs i v h = λ z j. each j z
         (λ ne. get_or-set_other xs i j v 0 ne ∙ ap (λ (b : Bool). cond b v (get_or xs j 0)) (sym (ne_eqb j i ne)))
 
 -- the same for an entry that becomes a function of what was found there
-written : (xs : List ℕ) (i found : ℕ) (change : ℕ → ℕ) → i < length xs → found ≡ get_or xs i 0
+written : (xs : List ℕ) (i found : ℕ) (change : ℕ → ℕ) → Reads xs i found
     → (λ (j : ℕ). get_or (set xs i (change found)) j 0) ≡ changed_at (λ j. get_or xs j 0) i (change (get_or xs i 0))
-written xs i found change h e =
-    set_changed xs i (change found) h ∙ ap (λ (x : ℕ). changed_at (λ j. get_or xs j 0) i (change x)) e
+written xs i found change has =
+    set_changed xs i (change found) has.within ∙ ap (λ (x : ℕ). changed_at (λ j. get_or xs j 0) i (change x)) has.is
 
 -- a claim writes its word
-pub ran_claim : (p : Plain) (i mask found : ℕ) → i < length p.word → found ≡ get_or p.word i 0
+pub ran_claim : (p : Plain) (i mask found : ℕ) → Reads p.word i found
     → RunsAlone p (Claimed i mask found ∷ []) (record p { word = set p.word i (bit_or found mask) })
-ran_claim p i mask found h e = let now = written p.word i found (λ x. bit_or x mask) h e in record {
+ran_claim p i mask found has = let now = written p.word i found (λ x. bit_or x mask) has in record {
   layout = refl;
-  quiet = (e, tt);
+  quiet = (has.is, tt);
   leaves = λ z. record { word = now z; aside = λ j. get_or p.aside j 0 };
 }
 
 -- a give writes its word
-pub ran_give : (p : Plain) (i mask found : ℕ) → i < length p.word → found ≡ get_or p.word i 0
+pub ran_give : (p : Plain) (i mask found : ℕ) → Reads p.word i found
     → RunsAlone p (Give i mask found ∷ []) (record p { word = set p.word i (without found mask) })
-ran_give p i mask found h e = let now = written p.word i found (λ x. without x mask) h e in record {
+ran_give p i mask found has = let now = written p.word i found (λ x. without x mask) has in record {
   layout = refl;
-  quiet = (e, tt);
+  quiet = (has.is, tt);
   leaves = λ z. record { word = now z; aside = λ j. get_or p.aside j 0 };
 }
 
 -- a put writes the cleared set
-pub ran_put : (p : Plain) (i mask found : ℕ) → i < length p.aside → found ≡ get_or p.aside i 0
+pub ran_put : (p : Plain) (i mask found : ℕ) → Reads p.aside i found
     → RunsAlone p (Put i mask found ∷ []) (record p { aside = set p.aside i (bit_or found mask) })
-ran_put p i mask found h e = let now = written p.aside i found (λ x. bit_or x mask) h e in record {
+ran_put p i mask found has = let now = written p.aside i found (λ x. bit_or x mask) has in record {
   layout = refl;
-  quiet = (e, tt);
+  quiet = (has.is, tt);
   leaves = λ z. record { word = λ j. get_or p.word j 0; aside = now z };
 }
 
 -- the same, where the set and the bit have other names
-pub ran_put_at : (p : Plain) (i r place bit found : ℕ) → r ≡ i → bit ≡ 2 ^ place → r < length p.aside
-    → found ≡ get_or p.aside r 0
+pub ran_put_at : (p : Plain) (i r place bit found : ℕ) → r ≡ i → bit ≡ 2 ^ place → Reads p.aside r found
     → RunsAlone p (Put i (2 ^ place) found ∷ []) (record p { aside = set p.aside r (bit_or found bit) })
-ran_put_at p i r place bit found e b h is =
+ran_put_at p i r place bit found e b has =
     subst (λ (x : ℕ × ℕ). RunsAlone p (Put x.0 x.1 found ∷ []) (record p { aside = set p.aside r (bit_or found bit) }))
-    (λ j. (e j, b j)) (ran_put p r bit found h is)
+    (λ j. (e j, b j)) (ran_put p r bit found has)
 
 -- a sweep that finds nothing writes nothing
 pub ran_empty : (p : Plain) (i : ℕ) → get_or p.aside i 0 ≡ 0 → RunsAlone p (LookAside i 0 ∷ []) p
 ran_empty p i e = record { layout = refl; quiet = (sym e, tt); leaves = refl }
 
 -- a sweep that finds a mask writes both
-pub ran_sweep : (p : Plain) (i mask found : ℕ) → i < length p.word → i < length p.aside → mask ≡ get_or p.aside i 0
-    → found ≡ get_or p.word i 0
+pub ran_sweep : (p : Plain) (i mask found : ℕ) → Reads p.word i found → Reads p.aside i mask
     → RunsAlone p (LookAside i mask ∷ Swap i mask ∷ Spill i mask found ∷ [])
     (record p { word = set p.word i (without found mask); aside = set p.aside i 0 })
-ran_sweep p i mask found h k e f = let now = written p.word i found (λ x. without x mask) h f in record {
+ran_sweep p i mask found word aside = let now = written p.word i found (λ x. without x mask) word in record {
   layout = refl;
-  quiet = (e, (e, (f, tt)));
-  leaves = λ z. record { word = now z; aside = set_changed p.aside i 0 k z };
+  quiet = (aside.is, (aside.is, (word.is, tt)));
+  leaves = λ z. record { word = now z; aside = set_changed p.aside i 0 aside.within z };
 }
 
 -- a word masked with one bit is 0 exactly if the bit is clear

@@ -1,10 +1,11 @@
 -- The steps that calls on a shared map add, in the form of the port's clauses.
-use Rattle.std.proofs.Common.{◌≡◌, ◌≢◌, ℕ, ◌+◌, ◌^◌, ◌<◌, count_ones, List, [], ◌∷◌, length, get_or, bit_or}
+use Rattle.std.proofs.Common.{◌≡◌, ℕ, ◌+◌, ◌^◌, ◌<◌, List, [], ◌∷◌, length, get_or, bit_or}
 use Rattle.std.proofs.Common.{get_or-set_same, get_or-set_other, arith, sym, ap, ◌∙◌}
 use mathlib.Core.Logic.{dite}
 use native.Mathlib.Decide.{ℕ_discrete}
 use Rattle.std.specs.Int.{bit_at}
 use Rattle.std.proofs.lemmas.Nat.Bits.{bit_at_or, bit_at-lt}
+use Rattle.step_ledger.specs.History.{total}
 use Rattle.tag_layout.specs.Layout.{Layout, word_of, place_of}
 use Rattle.tag_core.specs.declared.caller.Caller.{Caller}
 use Rattle.tag_core.specs.declared.record.Record.{Record}
@@ -16,9 +17,10 @@ use Rattle.tag_core.specs.Records.{joined, held_after_word, tag_bit}
 use Rattle.tag_core.specs.Steps.{without}
 use Rattle.tag_search.specs.declared.shared.Shared.{Shared}
 use Rattle.tag_search.specs.Added.{AddsSteps as Ports}
-use Rattle.tag_search.specs.Search.{IsSweep, unseen, empty, spilled}
+use Rattle.tag_search.specs.Freed.{spilled as freed_by}
+use Rattle.tag_search.specs.Search.{IsSweep}
 use Rattle.tag_search.specs.SharedLaws.{adds_on}
-use Rattle.tag_search.specs.Shared.{FindsWord, FindsHeldBy, AddsAll, AddsThrough, latest_of}
+use Rattle.tag_search.specs.Shared.{FindsWord, FindsHeldBy, AddsAll, AddsThrough, latest_of, latest_after_all}
 
 -- adding bits to a word keeps the bit of a tag
 pub bit_kept : (l : Layout) (held : List ℕ) (i mask tag : ℕ) → i < length held → tag_bit l held tag ≡ 1
@@ -85,61 +87,22 @@ pub adds_claim : {R : Type 0} (i mask found : ℕ) (old new : Caller R) → i < 
 adds_claim i mask found old new near fits found_held a = adds_one (Claimed i mask found) old new a fits found_held
     (λ tag. bit_kept old.shape.value.layout old.held.items i (without mask found) tag near)
 
--- a load of a cleared set that is empty is a sweep
-pub swept_unseen : {R : Type 0} (i : ℕ) (old new : Shared R) → new.map.now ≡ old.map.now
-    → new.caller.ghost_name ≡ old.caller.ghost_name → new.freed ≡ old.freed
-    → latest_of new ≡ latest_of old
-    → Adds (Word (LookAside i 0)) old.caller.now new.caller.now → Ports AddsThrough old new (IsSweep i 0)
-swept_unseen i old new map lent none same look = record {
-  steps = LookAside i 0 ∷ [];
-  added = record {
-    added = adds_one (LookAside i 0) old.caller.now new.caller.now look tt tt (λ tag h. h);
-    map = map;
-    lent = lent;
-    freed = λ fits. omega arith;
-    latest = same;
-  };
-  holds = unseen;
-}
-
--- after a load of the cleared set, a swap alone
-pub swept_empty : {R : Type 0} (i seen : ℕ) (old new : Shared R) (mid : Caller R) → new.map.now ≡ old.map.now
-    → new.caller.ghost_name ≡ old.caller.ghost_name → new.freed ≡ old.freed
-    → latest_of new ≡ latest_of old
-    → seen ≢ 0 → Adds (Word (LookAside i seen)) old.caller.now mid
-    → Adds (Word (Swap i 0)) mid new.caller.now → Ports AddsThrough old new (IsSweep i 0)
-swept_empty i seen old new mid map lent none same has look swap = record {
-  steps = LookAside i seen ∷ Swap i 0 ∷ [];
-  added = record {
-    added = adds_on old.caller.now mid new.caller.now (LookAside i seen ∷ []) (Swap i 0 ∷ [])
-        (adds_one (LookAside i seen) old.caller.now mid look tt tt (λ tag h. h))
-        (adds_one (Swap i 0) mid new.caller.now swap tt tt (λ tag h. h));
-    map = map;
-    lent = lent;
-    freed = λ fits. omega arith;
-    latest = same;
-  };
-  holds = empty has;
-}
-
--- after a load of the cleared set, a swap and a spill
-pub swept_some : {R : Type 0} (i seen mask found : ℕ) (old new : Shared R) (mid : Caller R) → new.map.now ≡ old.map.now
-    → new.caller.ghost_name ≡ old.caller.ghost_name
-    → (old.freed + count_ones mask < 2 ^ 64 → new.freed ≡ old.freed + count_ones mask)
-    → latest_of new ≡ (i, mask)
-    → seen ≢ 0 → mask ≢ 0 → mask < 2 ^ 64 → Adds (Word (LookAside i seen)) old.caller.now mid
-    → AddsTwo (Word (Swap i mask)) (Word (Spill i mask found)) mid new.caller.now
+-- a load of the cleared set, and the steps of a sweep after it, on a port that counts what they free
+pub swept : {R : Type 0} (i mask seen : ℕ) (rest : List WordStep) (old new : Shared R) (mid : Caller R)
+    → new.map.now ≡ old.map.now → new.caller.ghost_name ≡ old.caller.ghost_name
+    → (old.freed + total freed_by rest < 2 ^ 64 → new.freed ≡ old.freed + total freed_by rest)
+    → latest_of new ≡ latest_after_all rest (latest_of old) → Adds (Word (LookAside i seen)) old.caller.now mid
+    → AddsAll rest mid new.caller.now → IsSweep i mask (LookAside i seen ∷ rest)
     → Ports AddsThrough old new (IsSweep i mask)
-swept_some i seen mask found old new mid map lent counts latest has some fits look two = record {
-  steps = LookAside i seen ∷ Swap i mask ∷ Spill i mask found ∷ [];
+swept i mask seen rest old new mid map lent counts latest look more is = record {
+  steps = LookAside i seen ∷ rest;
   added = record {
-    added = adds_on old.caller.now mid new.caller.now (LookAside i seen ∷ []) (Swap i mask ∷ Spill i mask found ∷ [])
-        (adds_one (LookAside i seen) old.caller.now mid look tt tt (λ tag h. h))
-        (adds_two i mask found mid new.caller.now fits two);
+    added = adds_on old.caller.now mid new.caller.now (LookAside i seen ∷ []) rest
+        (adds_one (LookAside i seen) old.caller.now mid look tt tt (λ tag h. h)) more;
     map = map;
     lent = lent;
-    freed = λ small. let more = counts (omega arith) in omega arith;
+    freed = λ fits. let counted = counts (omega arith) in omega arith;
     latest = latest;
   };
-  holds = spilled has some fits;
+  holds = is;
 }

@@ -12,6 +12,7 @@ use Rattle.tag_layout.specs.Layout.{word_depth, IsWithin}
 use Rattle.tag_search.specs.Plain.{Plain}
 use Rattle.tag_search.specs.Writes.{WritesBits, IsIn, IsTidy}
 use Rattle.tag_search.proofs.OneTag.{bit_is, one_place}
+use Rattle.tag_search.proofs.Seen.{Reads}
 use Rattle.tag_search.proofs.Sweeps.{bit_without}
 
 -- a bit that is not in a mask is 0 there
@@ -28,16 +29,17 @@ other_entries : (xs : List ℕ) (i v j : ℕ) → j ≢ i → get_or (set xs i v
 other_entries xs i v j ne = get_or-set_other xs i j v 0 ne
 
 -- bits or-ed into a word
-pub writes_or : (xs : List ℕ) (i v mask : ℕ) → i < length xs → v ≡ get_or xs i 0
+pub writes_or : (xs : List ℕ) (i v mask : ℕ) → Reads xs i v
     → WritesBits xs (set xs i (bit_or v mask)) i (IsIn mask) 1
-writes_or xs i v mask h e =
-    let here : get_or (set xs i (bit_or v mask)) i 0 ≡ bit_or v mask = get_or-set_same xs i (bit_or v mask) 0 h in
+writes_or xs i v mask has =
+    let here : get_or (set xs i (bit_or v mask)) i 0 ≡ bit_or v mask =
+    get_or-set_same xs i (bit_or v mask) 0 has.within in
     record {
       there = λ k one. let b = bit_at_or v mask k in let l = bit_at-lt v k in
           ap (λ (x : ℕ). bit_at x k) here ∙ omega arith;
       beside = λ k out. let none = bit_out mask k out in let b = bit_at_or v mask k in
           ap (λ (x : ℕ). bit_at x k) here ∙ (let same : bit_at (bit_or v mask) k ≡ bit_at v k = omega arith in
-          same ∙ ap (λ (x : ℕ). bit_at x k) e);
+          same ∙ ap (λ (x : ℕ). bit_at x k) has.is);
       others = λ j ne. other_entries xs i (bit_or v mask) j ne;
     }
 
@@ -50,16 +52,17 @@ bit_at_without v mask k fits narrow = dite (dec_lt k 64)
     omega arith)
 
 -- bits removed from a word
-pub writes_without : (xs : List ℕ) (i v mask : ℕ) → i < length xs → v ≡ get_or xs i 0 → v < 2 ^ 64 → mask < 2 ^ 64
+pub writes_without : (xs : List ℕ) (i v mask : ℕ) → Reads xs i v → v < 2 ^ 64 → mask < 2 ^ 64
     → WritesBits xs (set xs i (without v mask)) i (IsIn mask) 0
-writes_without xs i v mask h e fits narrow =
-    let here : get_or (set xs i (without v mask)) i 0 ≡ without v mask = get_or-set_same xs i (without v mask) 0 h in
+writes_without xs i v mask has fits narrow =
+    let here : get_or (set xs i (without v mask)) i 0 ≡ without v mask =
+    get_or-set_same xs i (without v mask) 0 has.within in
     record {
       there = λ k one. let b = bit_at_without v mask k fits narrow in ap (λ (x : ℕ). bit_at x k) here ∙ omega arith;
       beside = λ k out. let none = bit_out mask k out in let b = bit_at_without v mask k fits narrow in
           let l = bit_at-lt v k in
           ap (λ (x : ℕ). bit_at x k) here ∙ (let same : bit_at (without v mask) k ≡ bit_at v k = omega arith in
-          same ∙ ap (λ (x : ℕ). bit_at x k) e);
+          same ∙ ap (λ (x : ℕ). bit_at x k) has.is);
       others = λ j ne. other_entries xs i (without v mask) j ne;
     }
 
@@ -143,27 +146,27 @@ tidy_put p aside i place tidy broad was w = record {
 }
 
 -- a bit or-ed into a word, stated by the word's index and the bit's place
-pub writes_place : (xs : List ℕ) (r i found bit place : ℕ) → r ≡ i → bit ≡ 2 ^ place → r < length xs
-    → found ≡ get_or xs r 0 → WritesBits xs (set xs r (bit_or found bit)) i (λ k. k ≡ place) 1
-writes_place xs r i found bit place e b h f =
+pub writes_place : (xs : List ℕ) (r i found bit place : ℕ) → r ≡ i → bit ≡ 2 ^ place → Reads xs r found
+    → WritesBits xs (set xs r (bit_or found bit)) i (λ k. k ≡ place) 1
+writes_place xs r i found bit place e b has =
     let new : List ℕ = set xs r (bit_or found bit) in
     subst (λ (x : ℕ). WritesBits xs new x (λ k. k ≡ place) 1) e
     (writes_where xs new r 1 (IsIn bit) (λ k. k ≡ place)
     (λ k q. subst (λ (x : ℕ). IsIn x k) (sym b) (place_is place k q))
     (λ k q. one_place place k (subst (λ (x : ℕ). IsIn x k) b q))
-    (writes_or xs r found bit h f))
+    (writes_or xs r found bit has))
 
 -- a sweep that found a mask
-pub tidy_sweep : (p : Plain) (i mask found : ℕ) → IsTidy p → i < length p.word → i < length p.aside
-    → found ≡ get_or p.word i 0 → found < 2 ^ 64 → mask < 2 ^ 64
+pub tidy_sweep : (p : Plain) (i mask found : ℕ) → IsTidy p → Reads p.word i found → Reads p.aside i mask
+    → found < 2 ^ 64 → mask < 2 ^ 64
     → IsTidy (record p { word = set p.word i (without found mask); aside = set p.aside i 0 })
-tidy_sweep p i mask found tidy h g f fits narrow =
-    let empty : get_or (set p.aside i 0) i 0 ≡ 0 = get_or-set_same p.aside i 0 0 g in
+tidy_sweep p i mask found tidy word aside fits narrow =
+    let empty : get_or (set p.aside i 0) i 0 ≡ 0 = get_or-set_same p.aside i 0 0 aside.within in
     let none : (k : ℕ) → bit_at (get_or (set p.aside i 0) i 0) k ≡ 0 = λ k. ap (λ (x : ℕ). bit_at x k) empty
     ∙ bit_at-zero k in
     tidy_clear p (set p.word i (without found mask)) (set p.aside i 0) i mask tidy
     (length-set p.word i (without found mask)) (length-set p.aside i 0)
-    (writes_without p.word i found mask h f fits narrow)
+    (writes_without p.word i found mask word fits narrow)
     (λ j k one. dite (ℕ_discrete j i)
     (λ (e : j ≡ i). absurd (let here : bit_at (get_or (set p.aside i 0) i 0) k ≡ 1 =
     subst (λ (x : ℕ). bit_at (get_or (set p.aside i 0) x 0) k ≡ 1) e one in let z = none k in omega arith))

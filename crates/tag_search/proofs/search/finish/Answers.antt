@@ -1,13 +1,9 @@
 -- A search after the first try is the rest of the get, as a hint below the depth is reduced already.
-use Rattle.std.proofs.Common.{◌≡◌, ℕ, ◌<◌, ◌≤◌, List, ◌++◌, false, true, arith, sym, subst}
+use Rattle.std.proofs.Common.{◌≡◌, ℕ, List, ◌++◌, false, true, arith, sym, ap, ◌∙◌, subst}
 use Rattle.tag_core.specs.declared.word_step.WordStep.{WordStep}
-use Rattle.tag_layout.specs.Layout.{Layout, words, word_depth}
-use Rattle.tag_search.specs.declared.hint.Hint.{Hint}
+use Rattle.tag_layout.specs.Layout.{Layout, word_of, word_depth}
 use Rattle.tag_search.specs.declared.search.Unfinished.{Unfinished}
-use Rattle.tag_search.specs.declared.search.Unfinished.TheVariants.{Tried}
 use Rattle.tag_search.specs.Begun.{CanFinish, IsRestOfGet}
-use Rattle.tag_search.specs.Follows.{HintFollows}
-use Rattle.tag_search.specs.Hints.{hint_after_get}
 use Rattle.tag_search.specs.Order.{scan_order}
 use Rattle.tag_search.specs.Search.{IsSearch}
 use Rattle.tag_search.specs.Tries.{IsMissed}
@@ -22,36 +18,22 @@ returns-in-Tried-clause-steps g c =
     let same : layout ≡ l = c.layout-layout.ensures.value in let missed = c.in-Tried.missed in
     let word = c.word_of.result in let is = c.word_of.ensures.value in let inside = c.word_of.ensures.within in
     let answer = c.search_after-answer.result in
-    let can : CanFinish layout hint (Tried missed) =
-    subst (λ (x : Layout). CanFinish x hint (Tried missed)) (sym same)
-    (subst (λ (x : Unfinished). CanFinish l hint x) c.in-Tried.is c.requires.rest) in
-    let rest : (xs : List WordStep) → ((tried : List WordStep)
-    → IsMissed word (scan_order 0 (word_depth layout word) true) missed tried
-    → IsSearch layout (visits layout word (plain_reach layout false 0)) (tried ++ xs) answer)
-    → IsRestOfGet layout hint (Tried missed) answer xs =
-    λ xs search begun tried. plain_get layout hint can.0 can.1 c.search_after-answer.ensures.shift
-    (subst (λ (w : ℕ). w ≤ words layout) is (omega arith)) answer (begun ++ xs)
-    (subst (λ (w : ℕ). IsSearch layout (visits layout w (plain_reach layout false 0)) (begun ++ xs) answer) is
-    (search begun (subst (λ (w : ℕ). IsMissed w (scan_order 0 (word_depth layout w) true) missed begun) (sym is) tried)))
-    in
+    let there : word ≡ word_of l hint.at = is ∙ ap (λ (x : Layout). word_of x hint.at) same in
+    let can = subst (λ (x : Unfinished). CanFinish l hint x) c.in-Tried.is c.requires.rest in
     adds_weaker (λ p xs q. g.P.Port.adds p xs q) c.args.port.now c.search_after-answer.new.port
     (λ xs. (tried : List WordStep) → IsMissed word (scan_order 0 (word_depth layout word) true) missed tried
     → IsSearch layout (visits layout word (plain_reach layout false 0)) (tried ++ xs) answer)
     (IsRestOfGet l hint c.args.rest answer)
-    (λ xs search. subst (λ (x : Layout). IsRestOfGet x hint c.args.rest answer xs) same
-    (subst (λ (x : Unfinished). IsRestOfGet layout hint x answer xs) (sym c.in-Tried.is) (rest xs search)))
+    (λ xs search. subst (λ (x : Unfinished). IsRestOfGet l hint x answer xs) (sym c.in-Tried.is)
+    (λ begun tried. plain_get layout l hint same can.0 word is can.1 c.search_after-answer.ensures.shift (omega arith)
+    answer (begun ++ xs) (search begun
+    (subst (λ (x : Layout × ℕ). IsMissed x.1 (scan_order 0 (word_depth x.0 x.1) true) missed begun)
+    (λ z. (sym same z, sym there z)) tried))))
     c.search_after-answer.ensures.search
 
 pub returns-in-Tried-clause-hint : goal.returns-in-Tried-clause-hint
 returns-in-Tried-clause-hint g c =
-    let l = g.P.Port.sizes c.args.port.now in let layout = c.layout-layout.result in let hint = c.args.hint.now in
-    let answer = c.search_after-answer.result in
-    let can : CanFinish l hint (Tried c.in-Tried.missed) =
-    subst (λ (x : Unfinished). CanFinish l hint x) c.in-Tried.is c.requires.rest in
-    let low : hint.at < layout.depth =
-    subst (λ (x : Layout). hint.at < x.depth) (sym c.layout-layout.ensures.value) can.0 in
-    let new : Hint = record { at = c.after_get-hint.result; round_robin = hint.round_robin } in
-    subst (λ (x : Layout). HintFollows x.depth hint new answer) c.layout-layout.ensures.value
-    (plain_follows layout hint low answer c.after_get-hint.result
-    (subst (λ (d : ℕ). c.after_get-hint.result ≡ hint_after_get d hint.round_robin hint.at answer)
-    c.depth.ensures.value c.after_get-hint.ensures))
+    let l = g.P.Port.sizes c.args.port.now in let hint = c.args.hint.now in
+    let can = subst (λ (x : Unfinished). CanFinish l hint x) c.in-Tried.is c.requires.rest in
+    plain_follows c.layout-layout.result l hint c.layout-layout.ensures.value can.0 c.depth.result
+    c.after_get-hint.result c.search_after-answer.result c.depth.ensures.value c.after_get-hint.ensures

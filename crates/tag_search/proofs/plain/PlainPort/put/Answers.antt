@@ -1,11 +1,11 @@
 -- A put sets one bit of a cleared set, at a place that is taken, so the words stay tidy.
-use Rattle.std.proofs.Common.{◌≡◌, ℕ, ◌^◌, [], ◌∷◌, get_or, set, bit_or, sym, ap, ◌∙◌, subst}
+use Rattle.std.proofs.Common.{◌≡◌, ℕ, ◌^◌, [], ◌∷◌, get_or, set, bit_or, sym, ap, refl, ◌∙◌, subst}
 use Rattle.std.proofs.Math.ListN.{length-set}
 use Rattle.std.specs.Int.{bit_at}
 use Rattle.tag_layout.specs.Layout.{word_of, place_of}
 use Rattle.tag_search.specs.Plain.{Plain, RunsAlone, IsTaken}
 use Rattle.tag_core.specs.declared.word_step.WordStep.TheVariants.{Put}
-use Rattle.tag_search.proofs.Seen.{seen, aside_within, aside_found}
+use Rattle.tag_search.proofs.Seen.{seen, reads_aside}
 use Rattle.tag_search.proofs.PlainFacts.{ran_put_at}
 use Rattle.tag_search.proofs.PlainPools.{ran_put_pool}
 use Rattle.tag_search.proofs.Writings.{writes_place, tidy_put}
@@ -13,47 +13,42 @@ use Rattle.tag_search.proofs.plain.PlainPort.put.Goals as goal
 
 pub invariant_of-self : goal.invariant_of-self
 invariant_of-self c =
-    let p = seen c.self.inside in
+    let p = seen c.self.inside in let k : ℕ = place_of p.layout c.args.tag in
     let r = c.word_of-word.result in let bit = c.bit_of-bit.result in let found = c.index_mut.result.now in
-    let near = c.word_of-word.ensures.within in let within = aside_within p c.self.invariant r near in
-    let is = aside_found p c.self.invariant r near found c.index_mut.ensures.value in
-    let e : r ≡ word_of p.layout c.args.tag = c.word_of-word.ensures.value in
-    let k : ℕ = place_of p.layout c.args.tag in
+    let has = reads_aside p p refl c.self.invariant r c.word_of-word.ensures.within found c.index_mut.ensures.value in
     let taken : IsTaken p (word_of p.layout c.args.tag) k =
     subst (λ (x : Plain). IsTaken x (word_of x.layout c.args.tag) (place_of x.layout c.args.tag)) (sym c.self.view_is)
     c.requires.taken in
     let was : bit_at (get_or p.word r 0) k ≡ 1 = subst (λ (x : ℕ). bit_at (get_or p.word x 0) k ≡ 1)
-    (sym e) taken.taken in
+    (sym c.word_of-word.ensures.value) taken.taken in
     tidy_put p (set p.aside r (bit_or found bit)) r k c.self.invariant (length-set p.aside r (bit_or found bit)) was
-    (writes_place p.aside r r found bit k (λ _. r) c.bit_of-bit.ensures.value within is)
+    (writes_place p.aside r r found bit k (λ _. r) c.bit_of-bit.ensures.value has)
 
 pub returns-clause-aside : goal.returns-clause-aside
 returns-clause-aside c =
     let p = seen c.self.inside in
     let r = c.word_of-word.result in let bit = c.bit_of-bit.result in let found = c.index_mut.result.now in
-    let near = c.word_of-word.ensures.within in let within = aside_within p c.self.invariant r near in
-    let is = aside_found p c.self.invariant r near found c.index_mut.ensures.value in
+    let has = reads_aside p p refl c.self.invariant r c.word_of-word.ensures.within found c.index_mut.ensures.value in
     rw (← c.self.view_is)
     (writes_place p.aside r (word_of p.layout c.args.tag) found bit (place_of p.layout c.args.tag)
-    c.word_of-word.ensures.value c.bit_of-bit.ensures.value within is)
+    c.word_of-word.ensures.value c.bit_of-bit.ensures.value has)
 
 pub returns-clause-pool : goal.returns-clause-pool
 returns-clause-pool c =
     let p = seen c.self.inside in let i : ℕ = word_of p.layout c.args.tag in
+    let k : ℕ = place_of p.layout c.args.tag in
     let r = c.word_of-word.result in let bit = c.bit_of-bit.result in let found = c.index_mut.result.now in
-    let near = c.word_of-word.ensures.within in let within = aside_within p c.self.invariant r near in
-    let is = aside_found p c.self.invariant r near found c.index_mut.ensures.value in
-    rw (← c.self.view_is) (ran_put_pool p (record p { aside = set p.aside r (bit_or found bit) }) i
-    (place_of p.layout c.args.tag) found c.bit_of-bit.ensures.width (ran_put_at p i r (place_of p.layout c.args.tag) bit
-    found c.word_of-word.ensures.value c.bit_of-bit.ensures.value within is))
+    let has = reads_aside p p refl c.self.invariant r c.word_of-word.ensures.within found c.index_mut.ensures.value in
+    rw (← c.self.view_is) (ran_put_pool p (record p { aside = set p.aside r (bit_or found bit) }) i k found
+    c.bit_of-bit.ensures.width
+    (ran_put_at p i r k bit found c.word_of-word.ensures.value c.bit_of-bit.ensures.value has))
 
 pub returns-clause-step : goal.returns-clause-step
 returns-clause-step c =
     let p = seen c.self.inside in let i : ℕ = word_of p.layout c.args.tag in
     let k : ℕ = place_of p.layout c.args.tag in
     let r = c.word_of-word.result in let bit = c.bit_of-bit.result in let found = c.index_mut.result.now in
-    let near = c.word_of-word.ensures.within in let within = aside_within p c.self.invariant r near in
-    let is = aside_found p c.self.invariant r near found c.index_mut.ensures.value in
+    let has = reads_aside p p refl c.self.invariant r c.word_of-word.ensures.within found c.index_mut.ensures.value in
     let e : r ≡ i = c.word_of-word.ensures.value in rw (← c.self.view_is)
     (subst (λ (x : ℕ). RunsAlone p (Put i (2 ^ k) x ∷ []) (record p { aside = set p.aside r (bit_or found bit) }))
-    (is ∙ ap (λ (x : ℕ). get_or p.aside x 0) e) (ran_put_at p i r k bit found e c.bit_of-bit.ensures.value within is))
+    (has.is ∙ ap (λ (x : ℕ). get_or p.aside x 0) e) (ran_put_at p i r k bit found e c.bit_of-bit.ensures.value has))

@@ -1,8 +1,8 @@
 -- The bit of the tag in the word is whether it is taken, and the bit in the cleared set whether it is aside.
-use Rattle.std.proofs.Common.{◌≡◌, ℕ, ◌<◌, get_or, ap, ◌∙◌, subst}
+use Rattle.std.proofs.Common.{◌≡◌, ℕ, ◌<◌, get_or, ap, refl, ◌∙◌, subst}
 use Rattle.tag_layout.specs.Layout.{word_of, place_of}
 use Rattle.tag_search.specs.Plain.{Plain}
-use Rattle.tag_search.proofs.Seen.{seen, word_found, aside_found}
+use Rattle.tag_search.proofs.Seen.{seen, reads_word, reads_aside}
 use Rattle.tag_search.proofs.PlainFacts.{tells_taken, tells_free}
 use Rattle.tag_search.proofs.PlainPools.{busy_iff}
 use Rattle.tag_search.proofs.plain.PlainPort.taken.Goals as goal
@@ -12,9 +12,10 @@ returns-then-index-bit-ne0-clause-taken c =
     let p = seen c.self.inside in let r = c.word_of-word.result in
     let e : r ≡ word_of p.layout c.args.tag = c.word_of-word.ensures.value in
     let near = c.word_of-word.ensures.within in
-    let is = word_found p c.self.invariant r near c.index.result.now c.index.ensures
+    let is = (reads_word p p refl c.self.invariant r near c.index.result.now c.index.ensures).is
     ∙ ap (λ (x : ℕ). get_or p.word x 0) e in
-    let a = c.index-then-index-bit-ne0 in let is' = aside_found p c.self.invariant r near a.result.now a.ensures
+    let a = c.index-then-index-bit-ne0 in
+    let is' = (reads_aside p p refl c.self.invariant r near a.result.now a.ensures).is
     ∙ ap (λ (x : ℕ). get_or p.aside x 0) e in
     rw (← c.self.view_is) (tells_taken p (word_of p.layout c.args.tag) (place_of p.layout c.args.tag) c.index.result.now
     a.result.now c.bit_of-bit.result c.bit_of-bit.ensures.value is is' c.if-index-bit-ne0.true)
@@ -28,7 +29,8 @@ returns-then-index-bit-ne0-clause-busy c =
 pub returns-else-index-bit-ne0-clause-taken : goal.returns-else-index-bit-ne0-clause-taken
 returns-else-index-bit-ne0-clause-taken c =
     let p = seen c.self.inside in let r = c.word_of-word.result in
-    let is = word_found p c.self.invariant r c.word_of-word.ensures.within c.index.result.now c.index.ensures
+    let is =
+    (reads_word p p refl c.self.invariant r c.word_of-word.ensures.within c.index.result.now c.index.ensures).is
     ∙ ap (λ (x : ℕ). get_or p.word x 0) c.word_of-word.ensures.value in
     rw (← c.self.view_is) (tells_free p (word_of p.layout c.args.tag) (place_of p.layout c.args.tag) c.index.result.now
     c.bit_of-bit.result c.bit_of-bit.ensures.value is c.if-index-bit-ne0.false)
