@@ -4,7 +4,7 @@ use Rattle.std.proofs.Common.{Some, None, arith, refl, sym, ap, ◌∙◌, subst
 use Rattle.tag_core.specs.declared.word_step.WordStep.{WordStep}
 use Rattle.tag_layout.specs.Layout.{Layout, words, word_depth, tag_at}
 use Rattle.tag_search.specs.Order.{numbers, scan_order}
-use Rattle.tag_search.specs.Visits.{Reach, visit_of, visits, plain_reach}
+use Rattle.tag_search.specs.Visits.{visit_of, visits, plain_reach}
 use Rattle.tag_search.specs.Search.{Visit, IsVisit, IsSearch, won, passed, most_turns}
 use Rattle.tag_search.proofs.Orders.{numbers-cons}
 use Rattle.tag_search.proofs.Searches.{visits-split}
@@ -12,17 +12,6 @@ use Rattle.tag_search.proofs.Searches.{visits-split}
 start-same : (b : Bool) → let z : ℕ = 0 in z ≡ cond b z z
 start-same true = refl
 start-same false = refl
-
--- a search in the terms of the scan
-pub scanned : (m l : Layout) (one first : ℕ) (had reach : Reach) (a e end : ℕ) (steps : List WordStep)
-    (answer : Option ℕ) → m ≡ l → one ≡ first → had ≡ reach → e ≡ end
-    → IsSearch m (map (visit_of one had) (numbers a e)) steps answer
-    → IsSearch l (map (visit_of first reach) (numbers a end)) steps answer
-scanned m l one first had reach a e end steps answer p q r s search =
-    let i = subst (λ (x : Layout). IsSearch x (map (visit_of one had) (numbers a e)) steps answer) p search in
-    let j = subst (λ (x : ℕ). IsSearch l (map (visit_of x had) (numbers a e)) steps answer) q i in
-    let k = subst (λ (x : Reach). IsSearch l (map (visit_of first x) (numbers a e)) steps answer) r j in
-    subst (λ (x : ℕ). IsSearch l (map (visit_of first reach) (numbers a x)) steps answer) s k
 
 module _ (l : Layout) (first : ℕ) (h : first < words l) where
   abbrev of : ℕ → Visit

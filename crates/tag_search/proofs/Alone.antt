@@ -3,13 +3,12 @@ use Rattle.std.proofs.Common.{◌≡◌, ℕ, ◌<◌, ◌≤◌, Bool, true, fa
 use Rattle.std.proofs.Common.{sym, ap, ◌∙◌, subst}
 use Rattle.std.specs.Prelude.{All}
 use Rattle.std.specs.Int.{bit_at}
-use Rattle.std.proofs.lemmas.List.Elements.{All-nil, All-cons, All-head, All-tail}
 use Rattle.tag_core.specs.declared.word_step.WordStep.{WordStep}
 use Rattle.tag_core.specs.Steps.{Words, Quiet, words_after, words_after_all}
 use Rattle.tag_search.specs.Choice.{IsFree, IsSet, IsAside, IsBusy, IsFirst}
 use Rattle.tag_search.specs.PlainLaws.{words_after-append}
 use Rattle.tag_search.specs.Pool.{Pool, pool_of, freed_in, taken_at}
-use Rattle.tag_search.specs.Search.{AllTaken, IsTries, none_left, wins, loses, IsPass, pass, IsRetry, no_turn}
+use Rattle.tag_search.specs.Search.{AllTaken, IsTries, none_left, wins, loses, IsPass, pass, IsSweep, IsRetry, no_turn}
 use Rattle.tag_search.specs.Search.{turn_won, turn_passed, IsVisit, at_once, retried}
 use Rattle.tag_search.proofs.Passes.{all_behind}
 use Rattle.tag_search.proofs.Pools.{free_here, aside_of_open, freed_twice}
@@ -70,11 +69,6 @@ abbrev pub VisitTells : Pool → ℕ → List ℕ → Option ℕ → Pool → Ty
 VisitTells p i rank None left = All (IsBusy p i) rank × (left ≡ freed_in (i ∷ []) p)
 VisitTells p i rank (Some place) left = Wins p i rank place left
 
-all_before : {X : Type 0} (P : X → Type 0) (xs ys : List X) → All P (xs ++ ys) → All P xs
-all_before P [] ys h = All-nil P
-all_before P (x ∷ xs) ys h = All-cons P x xs (All-head P x (xs ++ ys) h)
-    (all_before P xs ys (All-tail P x (xs ++ ys) h))
-
 -- a place that is not free after its word is swept is busy
 all_busy : (p mid : Pool) (i : ℕ) (places : List ℕ) → mid ≡ freed_in (i ∷ []) p → All (IsSet mid i) places
     → All (IsBusy p i) places
@@ -82,25 +76,21 @@ all_busy p mid i places e set = λ k d h. let place = get_or places k d in
     sym (free_here p i place) ∙ ap (λ (q : Pool). q.free i place) (sym e) ∙ set k d h
 
 -- the second pass, after a sweep, wins the first place that was set aside
-second_tells : (p mid : Pool) (w left : Words) (i : ℕ) (rank : List ℕ) (answer : Option ℕ) → pool_of w ≡ mid
-    → mid ≡ freed_in (i ∷ []) p → All (IsSet p i) rank
+second_tells : (p : Pool) (w left : Words) (i : ℕ) (rank : List ℕ) (answer : Option ℕ)
+    → pool_of w ≡ freed_in (i ∷ []) p → All (IsSet p i) rank
     → PassTells w i rank answer left → VisitTells p i rank answer (pool_of left)
-second_tells p mid w left i rank None e f set tells = (
-  all_busy p (pool_of w) i rank (e ∙ f) tells.0,
-  ap pool_of tells.1
-      ∙ e ∙ f,
-)
-second_tells p mid w left i rank (Some place) e f set tells =
+second_tells p w left i rank None e set tells = (all_busy p (pool_of w) i rank e tells.0, ap pool_of tells.1 ∙ e)
+second_tells p w left i rank (Some place) e set tells =
     let first = tells.0 in let all = subst (All (IsSet p i)) first.order set in
     wins_aside set (record {
       before = first.before;
       behind = first.behind;
       order = first.order;
-      others = all_busy p (pool_of w) i first.before (e ∙ f) first.others;
+      others = all_busy p (pool_of w) i first.before e first.others;
       is = aside_of_open (p.free i place) (p.aside i place)
           (all_behind (IsSet p i) first.before place first.behind all).0
-          (sym (free_here p i place) ∙ ap (λ (q : Pool). q.free i place) (sym (e ∙ f)) ∙ first.is);
-    }) (tells.1 ∙ ap (taken_at i place) (e ∙ f))
+          (sym (free_here p i place) ∙ ap (λ (q : Pool). q.free i place) (sym e) ∙ first.is);
+    }) (tells.1 ∙ ap (taken_at i place) e)
 
 either_twice : (b : Bool) → ((b || false) || (b || false)) ≡ (b || false)
 either_twice true = refl
@@ -143,32 +133,30 @@ busy_turns p i (turn_passed {sweep = sweep} {second = second} {rest = rest} s ag
     let left = busy_turns p i more last h busy within outer.1 in
     (left.0, ap pool_of (words_after-append (sweep ++ second) rest w) ∙ left.1)
 
+-- a turn over a word with no free place of the rank
+turn_alone : {i mask : ℕ} {rank : List ℕ} {sweep second : List WordStep} {answer : Option ℕ} → IsSweep i mask sweep
+    → IsPass i rank second answer → (w : Words) → All (λ b. b < 64) rank → All (IsSet (pool_of w) i) rank
+    → Quiet (sweep ++ second) w
+    → VisitTells (pool_of w) i rank answer (pool_of (words_after_all (sweep ++ second) w))
+turn_alone {i = i} {rank = rank} {sweep = sweep} {second = second} {answer = answer} s again w within set quiet =
+    let parts = quiet-split sweep second w quiet in let mid = words_after_all sweep w in
+    subst (λ (x : Words). VisitTells (pool_of w) i rank answer (pool_of x)) (sym (words_after-append sweep second w))
+    (second_tells (pool_of w) mid (words_after_all second mid) i rank answer (sweep_pool s w parts.0) set
+    (pass_alone again mid within parts.1))
+
 retry_alone : {i : ℕ} {rank : List ℕ} {turns : ℕ} {steps : List WordStep} {answer : Option ℕ}
     → IsRetry i rank turns steps answer → 1 ≤ turns → (w : Words) → All (λ b. b < 64) rank
     → All (IsSet (pool_of w) i) rank → Quiet steps w
     → VisitTells (pool_of w) i rank answer (pool_of (words_after_all steps w))
 retry_alone no_turn some w within set quiet = absurd (omega arith)
-retry_alone {i = i} {rank = rank} (turn_won {place = place} {sweep = sweep} {second = second} s again) some w within set
-    quiet =
-    let parts = quiet-split sweep second w quiet in let mid = words_after_all sweep w in
-    let tells = pass_alone again mid within parts.1 in
-    subst (λ (x : Words). VisitTells (pool_of w) i rank (Some place) (pool_of x))
-    (sym (words_after-append sweep second w))
-    (second_tells (pool_of w) (pool_of mid) mid (words_after_all second mid) i rank (Some place) refl
-    (sweep_pool s w parts.0) set tells)
+retry_alone (turn_won s again) some w within set quiet = turn_alone s again w within set quiet
 retry_alone {i = i} {rank = rank} {answer = answer}
     (turn_passed {sweep = sweep} {second = second} {rest = rest} s again more) some w within set quiet =
-    let outer = quiet-split (sweep ++ second) rest w quiet in
-    let parts = quiet-split sweep second w outer.0 in let mid = words_after_all sweep w in
-    let tells = second_tells (pool_of w) (pool_of mid) mid (words_after_all second mid) i rank None refl
-    (sweep_pool s w parts.0) set (pass_alone again mid within parts.1) in
-    let last = words_after_all (sweep ++ second) w in
-    let h : pool_of last ≡ freed_in (i ∷ []) (pool_of w) = ap pool_of (words_after-append sweep second w) ∙ tells.1 in
-    let left = busy_turns (pool_of w) i more last h tells.0 within outer.1 in
-    let told : VisitTells (pool_of w) i rank None (pool_of (words_after_all ((sweep ++ second) ++ rest) w)) =
-    (tells.0, ap pool_of (words_after-append (sweep ++ second) rest w) ∙ left.1) in
+    let outer = quiet-split (sweep ++ second) rest w quiet in let tells = turn_alone s again w within set outer.0 in
+    let left = busy_turns (pool_of w) i more (words_after_all (sweep ++ second) w) tells.1 tells.0 within outer.1 in
     subst (λ (a : Option ℕ). VisitTells (pool_of w) i rank a
-    (pool_of (words_after_all ((sweep ++ second) ++ rest) w))) (sym left.0) told
+    (pool_of (words_after_all ((sweep ++ second) ++ rest) w))) (sym left.0)
+    (tells.0, ap pool_of (words_after-append (sweep ++ second) rest w) ∙ left.1)
 
 pub visit_alone : {i : ℕ} {rank : List ℕ} {turns : ℕ} {steps : List WordStep} {answer : Option ℕ}
     → IsVisit i rank turns steps answer

@@ -59,7 +59,7 @@ module _ {R : Type 0} where
       (λ h. subst (λ (own : List (Step R)). EachFound own) (sym (own_list c.shape.value (record_of c) h one))
       (each_found h.history (finds_one c.shape.value (record_of c) h one)))
 
-  -- so a change that the steps of a call make to any pool if they are quiet, they make to that of the caller's own steps
+  -- so a change that the steps of a call make to any pool if they are quiet, they make to the pool of the caller's own
   pub own_changes : (Change : Pool → Pool → Type 0) (old new : Caller R) (steps : List WordStep) → IsAlone new
       → AddsAll steps old new
       → ((w : Words) → Quiet steps w → Change (pool_of w) (pool_of (words_after_all steps w)))

@@ -1,13 +1,13 @@
 -- If no other caller steps, a search answers the choice.
 use Rattle.std.proofs.Common.{◌≢◌, ℕ, zero, suc, ◌+◌, ◌-◌, ◌<◌, ◌≤◌, List, [], ◌∷◌, ◌++◌}
-use Rattle.std.proofs.Common.{map, get_or, Option, Some, None, arith, sym, ap, ◌∙◌, subst}
+use Rattle.std.proofs.Common.{map, Option, Some, None, arith, sym, ap, ◌∙◌, subst}
 use Rattle.std.specs.Prelude.{All}
-use Rattle.std.proofs.lemmas.List.Elements.{All-nil, All-cons, All-head, All-tail, All-append, All-map}
+use Rattle.std.proofs.lemmas.List.Elements.{All-nil, All-cons, All-head, All-tail, All-append, All-map, All-weaker}
 use Rattle.tag_core.specs.declared.word_step.WordStep.{WordStep}
 use Rattle.tag_core.specs.Steps.{Words, Quiet, words_after_all}
 use Rattle.tag_layout.specs.Layout.{Layout, words, word_bits, word_depth, tag_at}
 use Rattle.tag_layout.proofs.PlaceFacts.{word_bits-le}
-use Rattle.tag_search.specs.Choice.{IsFree, IsSet, IsAside, IsBusy, IsFirst, IsFull, words_in, IsChoice, nothing}
+use Rattle.tag_search.specs.Choice.{IsSet, IsBusy, IsFirst, IsFull, words_in, IsChoice, nothing}
 use Rattle.tag_search.specs.Choice.{chosen_free, chosen_aside}
 use Rattle.tag_search.specs.Order.{numbers_from, numbers}
 use Rattle.tag_search.specs.PlainLaws.{words_after-append}
@@ -26,40 +26,24 @@ abbrev pub Distinct : List Visit → Type 0
 Distinct [] = Unit {0}
 Distinct (visit ∷ visits) = All (λ other. other.word ≢ visit.word) visits × Distinct visits
 
-set_elsewhere : (x : ℕ) (p : Pool) (i : ℕ) (places : List ℕ) → i ≢ x → All (IsSet (freed_in (x ∷ []) p) i) places
-    → All (IsSet p i) places
-set_elsewhere x p i places ne set = λ k d h. sym (free_elsewhere x p i (get_or places k d) ne) ∙ set k d h
-
-busy_still : (x : ℕ) (p : Pool) (i : ℕ) (places : List ℕ) → All (IsBusy (freed_in (x ∷ []) p) i) places
-    → All (IsBusy p i) places
-busy_still x p i places busy = λ k d h. sym (available_freed (x ∷ []) p i (get_or places k d)) ∙ busy k d h
-
--- freeing another word changes no free or aside place of this one
-first_elsewhere : (x : ℕ) (p : Pool) (i : ℕ) (rank : List ℕ) (place : ℕ) → i ≢ x
-    → IsFirst (IsFree (freed_in (x ∷ []) p) i) (IsSet (freed_in (x ∷ []) p) i) rank place
-    → IsFirst (IsFree p i) (IsSet p i) rank place
-first_elsewhere x p i rank place ne first = record {
-  before = first.before;
-  behind = first.behind;
-  order = first.order;
-  others = set_elsewhere x p i first.before ne first.others;
-  is = sym (free_elsewhere x p i place ne) ∙ first.is;
-}
-
-aside_first : (x : ℕ) (p : Pool) (i : ℕ) (rank : List ℕ) (place : ℕ) → i ≢ x
-    → IsFirst (IsAside (freed_in (x ∷ []) p) i) (IsBusy (freed_in (x ∷ []) p) i) rank place
-    → IsFirst (IsAside p i) (IsBusy p i) rank place
-aside_first x p i rank place ne first = record {
-  before = first.before;
-  behind = first.behind;
-  order = first.order;
-  others = busy_still x p i first.before first.others;
-  is = sym (aside_elsewhere x p i place ne) ∙ first.is;
-}
+busy_still : (x : ℕ) (p : Pool) (i k : ℕ) → IsBusy (freed_in (x ∷ []) p) i k → IsBusy p i k
+busy_still x p i k busy = sym (available_freed (x ∷ []) p i k) ∙ busy
 
 full_still : (x : ℕ) (p : Pool) (visits : List Visit) → All (IsFull (freed_in (x ∷ []) p)) visits
     → All (IsFull p) visits
-full_still x p visits full = λ k d h. let visit = get_or visits k d in busy_still x p visit.word visit.rank (full k d h)
+full_still x p = All-weaker (IsFull (freed_in (x ∷ []) p)) (IsFull p) (λ visit.
+    All-weaker (IsBusy (freed_in (x ∷ []) p) visit.word) (IsBusy p visit.word) (busy_still x p visit.word) visit.rank)
+
+-- the first place of a kind is the first of another, if what holds of it and of those before it holds in the other
+first_still : {This That Others Rest : ℕ → Type 0} {rank : List ℕ} {place : ℕ} → IsFirst This Others rank place
+    → ((k : ℕ) → This k → That k) → ((k : ℕ) → Others k → Rest k) → IsFirst That Rest rank place
+first_still {Others = Others} {Rest = Rest} {place = place} first this others = record {
+  before = first.before;
+  behind = first.behind;
+  order = first.order;
+  others = All-weaker Others Rest others first.before first.others;
+  is = this place first.is;
+}
 
 -- a choice that passes over a full word, which was swept
 choice_behind : (p : Pool) (first : Visit) {l : Layout} {vs : List Visit} {answer : Option ℕ} {left : Pool}
@@ -73,15 +57,18 @@ choice_behind p first {l = l} full apart (chosen_free fulls behind visit {place 
     subst (IsChoice l p (first ∷ (fulls ++ visit ∷ behind)) (Some (tag_at l visit.word place)))
     (sym (ap (taken_at visit.word place) (freed_before first.word (words_in fulls) p)))
     (chosen_free (first ∷ fulls) behind visit (All-cons (IsFull p) first fulls full (full_still first.word p fulls all))
-    (first_elsewhere first.word p visit.word visit.rank place ne is))
+    (first_still is (λ k free. sym (free_elsewhere first.word p visit.word k ne) ∙ free)
+    (λ k set. sym (free_elsewhere first.word p visit.word k ne) ∙ set)))
 choice_behind p first {l = l} full apart (chosen_aside fulls behind visit {place = place} all set is) =
     let ne = (all_behind (λ other. other.word ≢ first.word) fulls visit behind apart).0 in
     subst (IsChoice l p (first ∷ (fulls ++ visit ∷ behind)) (Some (tag_at l visit.word place)))
     (sym (ap (taken_at visit.word place) (freed_between first.word visit.word (words_in fulls) p)))
     (chosen_aside (first ∷ fulls) behind visit
     (All-cons (IsFull p) first fulls full (full_still first.word p fulls all))
-    (set_elsewhere first.word p visit.word visit.rank ne set)
-    (aside_first first.word p visit.word visit.rank place ne is))
+    (All-weaker (IsSet (freed_in (first.word ∷ []) p) visit.word) (IsSet p visit.word)
+    (λ k set. sym (free_elsewhere first.word p visit.word k ne) ∙ set) visit.rank set)
+    (first_still is (λ k aside. sym (aside_elsewhere first.word p visit.word k ne) ∙ aside)
+    (busy_still first.word p visit.word)))
 
 -- a choice that the first visit makes
 choice_here : (l : Layout) (p left : Pool) (visit : Visit) (more : List Visit) (place : ℕ)

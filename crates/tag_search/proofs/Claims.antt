@@ -38,7 +38,7 @@ clear_where_won found k fits h won = elim (bit_is found k) [
 pub taken_where_lost : (found k : ℕ) → found < 2 ^ 64 → k < 64 → without (2 ^ k) found ≡ 0 → bit_at found k ≡ 1
 taken_where_lost found k fits h lost = elim (bit_is found k) [
   | inl taken ↦ taken
-  | inr clear ↦ absurd (let all = won_where_clear found k fits h clear in let pos : 0 < 2 ^ k = pow_pos k in omega arith)
+  | inr clear ↦ absurd (let all = won_where_clear found k fits h clear in let some = pow_pos k in omega arith)
 ]
 
 -- zero has no bit

@@ -1,5 +1,5 @@
 -- Sums over the words of a list, in the order in which a search visits them.
-use Rattle.std.proofs.Common.{◌≡◌, ℕ, zero, suc, ◌+◌, ◌-◌, ◌*◌, ◌≤◌, Bool, true, false, cond, nat_eq, ne_eqb, List, [], ◌∷◌, ◌++◌, arith, refl, ap, ◌∙◌}
+use Rattle.std.proofs.Common.{◌≡◌, ℕ, zero, suc, ◌+◌, ◌-◌, ◌*◌, ◌≤◌, Bool, true, false, cond, nat_eq, ne_eqb, List, [], ◌∷◌, arith, refl, ap, ◌∙◌}
 use mathlib.Core.Logic.{dite}
 use native.Mathlib.Decide.{ℕ_discrete}
 use Rattle.sums.specs.Below.{sum_below}
@@ -11,10 +11,6 @@ use Rattle.tag_search.specs.Order.{numbers_from, numbers}
 abbrev pub tally : (ℕ → ℕ) → List ℕ → ℕ
 tally f [] = 0
 tally f (x ∷ xs) = f x + tally f xs
-
-pub tally-append : (f : ℕ → ℕ) (xs ys : List ℕ) → tally f (xs ++ ys) ≡ tally f xs + tally f ys
-tally-append f [] ys = omega arith
-tally-append f (x ∷ xs) ys = let rest = tally-append f xs ys in omega arith
 
 tally-from : (f : ℕ → ℕ) (a n : ℕ) → sum_below f a + tally f (numbers_from a n) ≡ sum_below f (a + n)
 tally-from f a zero = (let e : a ≡ a + zero = omega arith in
