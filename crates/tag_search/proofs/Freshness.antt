@@ -22,7 +22,7 @@ use Rattle.tag_search.specs.Search.{turn_passed, IsVisit, at_once, retried, Visi
 use Rattle.tag_search.specs.Shared.{FindsWord, FindsHeldBy}
 use Rattle.tag_search.proofs.RunFacts.{inside as won_inside}
 use Rattle.tag_search.proofs.Inside.{IsInside}
-use Rattle.tag_search.proofs.SharedFacts.{visit_wins, finds-split}
+use Rattle.tag_search.proofs.SharedFacts.{visit_wins, each-split}
 
 module _ {R : Type 0} (c : Caller R) where
   abbrev Blocks : List WordStep → Type 0
@@ -32,11 +32,6 @@ module _ {R : Type 0} (c : Caller R) where
   abbrev IsNew : ℕ → ℕ → Type 0
   IsNew i place = (tag : ℕ) → Holds c tag → word_of c.shape.value.layout tag ≡ i
       → ¬ (place_of c.shape.value.layout tag ≡ place)
-
-  -- a fact of each step of a concatenation is one of each step of both lists
-  blocks-split : (xs ys : List WordStep) → Blocks (xs ++ ys) → Blocks xs × Blocks ys
-  blocks-split [] ys h = (tt, h)
-  blocks-split (x ∷ xs) ys h = let rest = blocks-split xs ys h.1 in ((h.0, rest.0), rest.1)
 
   tries_new : {i : ℕ} {rank : List ℕ} {found : ℕ} {steps : List WordStep} {answer : Option ℕ}
       → IsTries i rank found steps answer
@@ -54,15 +49,15 @@ module _ {R : Type 0} (c : Caller R) where
       → IsRetry i rank turns steps answer → Blocks steps → IfSome answer (IsNew i)
   retry_new no_turn blocks = tt
   retry_new (turn_won {sweep = first} {second = second} sweep again) blocks = pass_new again
-      (blocks-split first second blocks).1
+      (each-split (FindsHeldBy c) first second blocks).1
   retry_new (turn_passed {sweep = first} {second = second} {rest = rest} sweep again more) blocks = retry_new more
-      (blocks-split (first ++ second) rest blocks).1
+      (each-split (FindsHeldBy c) (first ++ second) rest blocks).1
 
   visit_new : {i : ℕ} {rank : List ℕ} {turns : ℕ} {steps : List WordStep} {answer : Option ℕ}
       → IsVisit i rank turns steps answer → Blocks steps → IfSome answer (IsNew i)
   visit_new (at_once once) blocks = pass_new once blocks
   visit_new (retried {first = first} {rest = rest} some once again) blocks = retry_new again
-      (blocks-split first rest blocks).1
+      (each-split (FindsHeldBy c) first rest blocks).1
 
   -- the tag that a search answers was not held
   pub search_new : (l : Layout) → c.shape.value.layout ≡ l → word_bits l ≤ 64
@@ -79,7 +74,7 @@ module _ {R : Type 0} (c : Caller R) where
       (ap (λ (x : Layout). place_of x (tag_at l visit.word place)) same ∙ place_of-tag_at l visit.word place small)
   search_new l same narrow r (passed {visit = visit} {visits = more} {steps = steps} {rest = rest} v search) finds
       blocks inside =
-      search_new l same narrow r search (finds-split steps rest finds).1 (blocks-split steps rest blocks).1
+      search_new l same narrow r search (each-split FindsWord steps rest finds).1 (each-split (FindsHeldBy c) steps rest blocks).1
       (All-tail (IsInside l) visit more inside)
 
   -- a bit of a run that was won was clear when it was claimed
@@ -103,8 +98,8 @@ module _ {R : Type 0} (c : Caller R) where
   batch_visit_new narrow (run_lost next sweep run none) finds blocks = tt
   batch_visit_new {i = i} {depth = depth} {n = n} narrow
       (run_taken {place = place} {steps = steps} next sweep run some) finds blocks = λ k one.
-      let last = finds-split steps (Claimed i (run_mask n place) next ∷ []) finds in
-      let held = blocks-split steps (Claimed i (run_mask n place) next ∷ []) blocks in
+      let last = each-split FindsWord steps (Claimed i (run_mask n place) next ∷ []) finds in
+      let held = each-split (FindsHeldBy c) steps (Claimed i (run_mask n place) next ∷ []) blocks in
       let clear = run_clear n place next depth k run.fits narrow last.1.0 one in (
         clear.0,
         λ tag has is at. let taken : bit_at next (place + k) ≡ 1 = ap (bit_at next) (sym at) ∙ held.1.0 tag has is in
@@ -126,4 +121,4 @@ module _ {R : Type 0} (c : Caller R) where
       ((λ z. word_of (same z) (is z)) ∙ word_of-tag_at l i (place + k) small)
       ((λ z. place_of (same z) (is z)) ∙ place_of-tag_at l i (place + k) small)
   batch_new l same narrow (batch_passed {steps = steps} {rest = rest} v search) finds blocks tag within =
-      batch_new l same narrow search (finds-split steps rest finds).1 (blocks-split steps rest blocks).1 tag within
+      batch_new l same narrow search (each-split FindsWord steps rest finds).1 (each-split (FindsHeldBy c) steps rest blocks).1 tag within

@@ -10,7 +10,7 @@ use Rattle.tag_core.specs.declared.record.Record.{Record}
 use Rattle.tag_core.specs.declared.shape.Shape.{Shape}
 use Rattle.tag_core.specs.declared.word_step.WordStep.{WordStep}
 use Rattle.tag_core.specs.declared.claim.Spent.{Spent}
-use Rattle.tag_core.specs.Callers.{layout_of, IsCallerOf, record_of, slot_of, Holds, SameMap}
+use Rattle.tag_core.specs.Callers.{layout_of, IsCallerOf, record_of, SameMap}
 use Rattle.tag_core.specs.Holdings.{Acquires}
 use Rattle.tag_search.specs.declared.shared.Shared.{Shared}
 use Rattle.tag_search.specs.Added.{AddsSteps as Ports}
@@ -196,21 +196,18 @@ pub none_got : {R : Type 0} (l : Layout) (answer : Result (Option (ℕ × ℕ)) 
     → answer ≡ Ok None → new ≡ old
     → IfOk answer (λ won. GainsRun l won old new)
 none_got l answer old new none same =
-    subst (λ (x : Result (Option (ℕ × ℕ)) Spent). IfOk x (λ won. GainsRun l won old new)) (sym none) (record {
+    subst (λ (x : Result (Option (ℕ × ℕ)) Spent). IfOk x (λ won. GainsRun l won old new)) (sym none)
+    (subst (λ (c : Caller _). GainsRun l None old c) (sym same) (record {
       acquires = record {
         fresh = λ tag within. absurd within;
         joined = λ tag within. absurd within;
-        kept = λ tag holds. (
-          subst (λ (c : Caller _). Holds c tag) (sym same) holds,
-          ap
-              (λ (c : Caller _). slot_of c tag) same,
-        );
-        none_else = λ tag holds. inl (subst (λ (c : Caller _). Holds c tag) same holds);
+        kept = λ tag holds. (holds, refl);
+        none_else = λ tag holds. inl holds;
       };
-      held = ap (λ (c : Caller _). (record_of c).held) same;
-      count = let z = ap (λ (c : Caller _). (record_of c).won) same in omega arith;
-      back = ap (λ (c : Caller _). (record_of c).back) same;
-      number = ap (λ (c : Caller _). (record_of c).number) same;
-      shape = ap (λ (c : Caller _). (record_of c).shape) same;
-      same_map = ap (λ (c : Caller _). c.seat.table_id) same;
-    })
+      held = refl;
+      count = omega arith;
+      back = refl;
+      number = refl;
+      shape = refl;
+      same_map = refl;
+    }))

@@ -55,10 +55,10 @@ abbrev pub Won : {R : Type 0} → Layout → Option ℕ → Record R → Record 
 Won l answer old new = Took (held_with l answer) (count_of answer) (IfSome answer (λ tag. tag < l.depth)) old new
 
 -- a fact of each step of a concatenation is one of each step of both lists
-pub finds-split : (xs ys : List WordStep) → AllByRecursion FindsWord (xs ++ ys) → AllByRecursion FindsWord xs
-    × AllByRecursion FindsWord ys
-finds-split [] ys h = (tt, h)
-finds-split (x ∷ xs) ys h = let rest = finds-split xs ys h.1 in ((h.0, rest.0), rest.1)
+pub each-split : (P : WordStep → Type 0) (xs ys : List WordStep) → AllByRecursion P (xs ++ ys) → AllByRecursion P xs
+    × AllByRecursion P ys
+each-split P [] ys h = (tt, h)
+each-split P (x ∷ xs) ys h = let rest = each-split P xs ys h.1 in ((h.0, rest.0), rest.1)
 
 module _ {R : Type 0} where
   -- steps that took nothing, followed by steps that took something
@@ -152,7 +152,7 @@ module _ {R : Type 0} (bits i : ℕ) (narrow : bits ≤ 64) where
       → TookPlace bits i answer r (record_after_all (first ++ second) r)
   turn_took {first = first} {second = second} r sweep again finds small =
       took_more r first second (sweep_took r sweep)
-      (pass_took (record_after_all first r) again (finds-split first second finds).1 small)
+      (pass_took (record_after_all first r) again (each-split FindsWord first second finds).1 small)
 
   retry_took : {rank : List ℕ} {turns : ℕ} {steps : List WordStep} {answer : Option ℕ} (r : Record R)
       → IsRetry i rank turns steps answer → AllByRecursion FindsWord steps → All (λ place. place < bits) rank
@@ -160,7 +160,7 @@ module _ {R : Type 0} (bits i : ℕ) (narrow : bits ≤ 64) where
   retry_took r no_turn finds small = took_none r
   retry_took r (turn_won sweep again) finds small = turn_took r sweep again finds small
   retry_took r (turn_passed {sweep = first} {second = second} {rest = rest} sweep again more) finds small =
-      let split = finds-split (first ++ second) rest finds in
+      let split = each-split FindsWord (first ++ second) rest finds in
       took_more r (first ++ second) rest (turn_took r sweep again split.0 small)
       (retry_took (record_after_all (first ++ second) r) more split.1 small)
 
@@ -170,7 +170,7 @@ module _ {R : Type 0} (bits i : ℕ) (narrow : bits ≤ 64) where
       → TookPlace bits i answer r (record_after_all steps r)
   visit_took r (at_once once) finds small = pass_took r once finds small
   visit_took r (retried {first = first} {rest = rest} some once again) finds small =
-      let split = finds-split first rest finds in
+      let split = each-split FindsWord first rest finds in
       took_more r first rest (pass_took r once split.0 small)
       (retry_took (record_after_all first r) again split.1 small)
 
@@ -204,6 +204,6 @@ module _ {R : Type 0} (l : Layout) (narrow : word_bits l ≤ 64) where
       won_tag visit.word place r (record_after_all steps r)
       (visit_wins visit r v finds (All-head (IsInside l) visit more inside))
   search_wins r (passed {visit = visit} {visits = more} {steps = steps} {rest = rest} v search) finds inside =
-      let split = finds-split steps rest finds in
+      let split = each-split FindsWord steps rest finds in
       took_more r steps rest (visit_wins visit r v split.0 (All-head (IsInside l) visit more inside))
       (search_wins (record_after_all steps r) search split.1 (All-tail (IsInside l) visit more inside))

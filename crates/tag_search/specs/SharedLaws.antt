@@ -24,10 +24,10 @@ record_after-append [] ys r = refl
 record_after-append (x ∷ xs) ys r = record_after-append xs ys (record_after (Word x) r)
 
 -- a fact of each step of two lists is one of each step of their concatenation
-pub finds-append : (xs ys : List WordStep) → AllByRecursion FindsWord xs → AllByRecursion FindsWord ys
-    → AllByRecursion FindsWord (xs ++ ys)
-finds-append [] ys a b = b
-finds-append (x ∷ xs) ys a b = (a.0, finds-append xs ys a.1 b)
+each-append : (P : WordStep → Type 0) (xs ys : List WordStep) → AllByRecursion P xs → AllByRecursion P ys
+    → AllByRecursion P (xs ++ ys)
+each-append P [] ys a b = b
+each-append P (x ∷ xs) ys a b = (a.0, each-append P xs ys a.1 b)
 
 -- steps on words leave the shape unchanged
 pub shape_after : {R : Type 0} (steps : List WordStep) (r : Record R) → (record_after_all steps r).shape ≡ r.shape
@@ -49,11 +49,9 @@ held_earlier c d shape kept (Swap i found) f = tt
 held_earlier c d shape kept (Spill i mask found) f = tt
 
 all_earlier : {R : Type 0} (c d : Caller R) → d.shape.value ≡ c.shape.value → ((tag : ℕ) → Holds c tag → Holds d tag)
-    → (xs ys : List WordStep)
-    → AllByRecursion (FindsHeldBy c) xs → AllByRecursion (FindsHeldBy d) ys → AllByRecursion (FindsHeldBy c) (xs ++ ys)
-all_earlier c d shape kept [] [] a b = tt
-all_earlier c d shape kept [] (y ∷ ys) a b = (held_earlier c d shape kept y b.0, all_earlier c d shape kept [] ys a b.1)
-all_earlier c d shape kept (x ∷ xs) ys a b = (a.0, all_earlier c d shape kept xs ys a.1 b)
+    → (steps : List WordStep) → AllByRecursion (FindsHeldBy d) steps → AllByRecursion (FindsHeldBy c) steps
+all_earlier c d shape kept [] f = tt
+all_earlier c d shape kept (x ∷ xs) f = (held_earlier c d shape kept x f.0, all_earlier c d shape kept xs f.1)
 
 -- the empty list of steps leaves the caller unchanged
 pub adds_nothing : {R : Type 0} (c : Caller R) → AddsAll [] c c
@@ -65,9 +63,10 @@ pub adds_on : {R : Type 0} (c d e : Caller R) (xs ys : List WordStep) → AddsAl
 adds_on c d e xs ys a b = record {
   known = b.known ∙ ap (record_after_all ys) a.known ∙ sym (record_after-append xs ys (record_of c));
   kept = λ tag held. let once = a.kept tag held in let twice = b.kept tag once.0 in (twice.0, twice.1 ∙ once.1);
-  finds = finds-append xs ys a.finds b.finds;
-  finds_held = all_earlier c d (ap (λ (r : Record _). r.shape) a.known ∙ shape_after xs (record_of c))
-      (λ tag held. (a.kept tag held).0) xs ys a.finds_held b.finds_held;
+  finds = each-append FindsWord xs ys a.finds b.finds;
+  finds_held = each-append (FindsHeldBy c) xs ys a.finds_held (all_earlier c d
+      (ap (λ (r : Record _). r.shape) a.known ∙ shape_after xs (record_of c)) (λ tag held. (a.kept tag held).0) ys
+      b.finds_held);
   same_map = b.same_map ∙ a.same_map;
 }
 
