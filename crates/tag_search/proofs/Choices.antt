@@ -85,8 +85,8 @@ choice_here l p left visit more place (wins_aside set first e) =
 search_alone : {l : Layout} → word_bits l ≤ 64 → {vs : List Visit} {steps : List WordStep} {answer : Option ℕ}
     → IsSearch l vs steps answer → (w : Words) → Distinct vs → All (IsInside l) vs
     → Quiet steps w → IsChoice l (pool_of w) vs answer (pool_of (words_after_all steps w))
-search_alone {l = l} narrow over w distinct inside quiet = subst (IsChoice l (pool_of w) [] None) (freed_none (pool_of w))
-    (nothing (All-nil (IsFull (pool_of w))))
+search_alone {l = l} narrow over w distinct inside quiet =
+    subst (IsChoice l (pool_of w) [] None) (freed_none (pool_of w)) (nothing (All-nil (IsFull (pool_of w))))
 search_alone {l = l} narrow (won {visit = visit} {visits = more} {steps = steps} {place = place} v) w distinct inside
     quiet =
     choice_here l (pool_of w) (pool_of (words_after_all steps w)) visit more place

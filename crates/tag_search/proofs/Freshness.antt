@@ -74,8 +74,8 @@ module _ {R : Type 0} (c : Caller R) where
       (ap (λ (x : Layout). place_of x (tag_at l visit.word place)) same ∙ place_of-tag_at l visit.word place small)
   search_new l same narrow r (passed {visit = visit} {visits = more} {steps = steps} {rest = rest} v search) finds
       blocks inside =
-      search_new l same narrow r search (each-split FindsWord steps rest finds).1 (each-split (FindsHeldBy c) steps rest blocks).1
-      (All-tail (IsInside l) visit more inside)
+      search_new l same narrow r search (each-split FindsWord steps rest finds).1
+      (each-split (FindsHeldBy c) steps rest blocks).1 (All-tail (IsInside l) visit more inside)
 
   -- a bit of a run that was won was clear when it was claimed
   run_clear : (n place found depth k : ℕ) → place + n ≤ depth → depth ≤ 64 → found < 2 ^ 64
@@ -121,4 +121,5 @@ module _ {R : Type 0} (c : Caller R) where
       ((λ z. word_of (same z) (is z)) ∙ word_of-tag_at l i (place + k) small)
       ((λ z. place_of (same z) (is z)) ∙ place_of-tag_at l i (place + k) small)
   batch_new l same narrow (batch_passed {steps = steps} {rest = rest} v search) finds blocks tag within =
-      batch_new l same narrow search (each-split FindsWord steps rest finds).1 (each-split (FindsHeldBy c) steps rest blocks).1 tag within
+      batch_new l same narrow search (each-split FindsWord steps rest finds).1
+      (each-split (FindsHeldBy c) steps rest blocks).1 tag within

@@ -22,8 +22,9 @@ use Rattle.tag_search.specs.Batch.{run_mask, run_won, IsSweptLook, swept_look, I
 use Rattle.tag_search.specs.Batch.{run_taken, IsBatchSearch, batch_over, batch_won, batch_passed}
 use Rattle.tag_search.specs.Gains.{held_with_run, count_of_run}
 use Rattle.tag_search.specs.Shared.{record_after_all}
+use Rattle.tag_search.proofs.Claims.{count_ones-zero}
 use Rattle.tag_search.proofs.Runs.{run_below}
-use Rattle.tag_search.proofs.SharedFacts.{Took, TookNone, took_more, took_none, took_look, sweep_took, took_lost, count_ones-zero}
+use Rattle.tag_search.proofs.SharedFacts.{Took, TookNone, took_more, took_none, took_look, sweep_took, took_lost}
 
 -- the bits of a run that were won, shifted back to their places, are the mask that was won
 module _ (n place found : ℕ) where

@@ -13,5 +13,5 @@ returns-clause-steps g c =
     adds_weaker (λ p xs q. g.P.Port.adds p xs q) c.args.port.now c.search-answer.new.port _ _
     (scan_get c.plain.result c.args.layout l (λ l hint. plain_reach l c.args.hint.now.round_robin hint)
     c.args.hint.now.at c.depth.result c.reduced-from.result (sym c.requires.layout) c.depth.ensures.value
-    c.reduced-from.ensures made.layout made.shift made.first made.reach (plain_within l c.args.hint.now.round_robin hint)
-    c.search-answer.result) c.search-answer.ensures.search
+    c.reduced-from.ensures made.layout made.shift made.first made.reach
+    (plain_within l c.args.hint.now.round_robin hint) c.search-answer.result) c.search-answer.ensures.search

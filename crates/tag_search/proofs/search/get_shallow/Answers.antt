@@ -13,5 +13,5 @@ returns-clause-steps g c =
     adds_weaker (λ p xs q. g.P.Port.adds p xs q) c.args.port.now c.search-answer.new.port _ _
     (scan_get c.shallow.result c.layout-layout.result l (λ l hint. shallow_reach l c.args.depth hint)
     c.args.hint.now.at c.depth.result c.reduced-from.result c.layout-layout.ensures.value c.depth.ensures.value
-    c.reduced-from.ensures made.layout made.shift made.first made.reach (shallow_within l c.args.depth hint)
-    c.search-answer.result) c.search-answer.ensures.search
+    c.reduced-from.ensures made.layout made.shift made.first made.reach
+    (shallow_within l c.args.depth hint) c.search-answer.result) c.search-answer.ensures.search

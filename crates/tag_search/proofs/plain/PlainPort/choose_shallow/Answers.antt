@@ -10,5 +10,5 @@ use Rattle.tag_search.proofs.plain.PlainPort.choose_shallow.Goals as goal
 pub returns-clause-held : goal.returns-clause-held
 returns-clause-held c =
     let l : Layout = c.args.self.now.layout in let hint : ℕ = reduced l.depth c.args.hint.now.at in
-    get_held l (word_of l hint) (shallow_reach l c.args.depth hint) c.args.self.now c.get_shallow.new.port c.in-Ok.answer
-    (shallow_within l c.args.depth hint) c.in-Ok.ensures.steps
+    get_held l (word_of l hint) (shallow_reach l c.args.depth hint) c.args.self.now c.get_shallow.new.port
+    c.in-Ok.answer (shallow_within l c.args.depth hint) c.in-Ok.ensures.steps
