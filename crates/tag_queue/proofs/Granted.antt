@@ -29,6 +29,15 @@ look_grants_none found old new looked = let all = ap (total moved_by) looked in 
   sum_is = refl;
 }
 
+-- no steps grant nobody a wakeup
+pub none_granted : (steps : List GroupStep) → AreGrantsOf NO_GRANTS steps steps
+none_granted steps = record {
+  each = λ group low. let none : slice_index NO_GRANTS.in_group group ≡ 0 = get_or-replicate 8 group 0 0 low in
+      omega arith;
+  all = omega arith;
+  sum_is = refl;
+}
+
 -- grants that were made after a moment are all since an earlier one, if nobody was granted a wakeup in between
 pub granted_since : (grants : Grants) (before old new : List GroupStep) → AreGrantsOf NO_GRANTS before old
     → AreGrantsOf grants old new → AreGrantsOf grants before new

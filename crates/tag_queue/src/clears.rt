@@ -119,7 +119,7 @@ impl<R: Copy> Queue<R> {
     {
         let found = self.groups.active(&mut agent.waiter);
         if found == 0 {
-            return W::tell(&self.groups, &mut agent.waiter, NO_GRANTS);
+            return W::nobody();
         }
         self.charge_and_tell::<W>(agent, n)
     }

@@ -2,12 +2,13 @@
 ghost use Rattle.wake_book.specs.Grants.{AreGrantsOf, WokenBy};
 ghost use Rattle.wake_book.specs.Groups.{RingsGranted, steps_of};
 
-use crate::grants::Grants;
+use crate::grants::{Grants, NO_GRANTS};
 use crate::groups::{Groups, Waiter};
 
 /// A way to pass on the wakeups that a call granted.
 pub trait Waking {
     ghost use Rattle.std.specs.Prelude.{◌≡◌, ℕ};
+    ghost use Rattle.wake_book.specs.declared.grants.TheConstants.{NO_GRANTS};
     ghost use Rattle.wake_book.specs.declared.groups.Waiter.{Waiter};
     ghost use Rattle.wake_book.specs.Grants.{AreGrantsOf};
     ghost use Rattle.wake_book.specs.Groups.{IsWaiterOf, StandsAsBefore, steps_of};
@@ -21,7 +22,12 @@ pub trait Waking {
     // The answer is about the grants that the waiter's steps made between these two moments.
     ghost tells: { Self.Answer → Waiter → Waiter → Type 0 };
 
-    /// Passes on the grants of the latest call, once, and makes the answer. This makes no step.
+    /// Returns the answer of a call that granted nobody a wakeup.
+    fn nobody() -> Self::Answer
+        ensures woken { woken result ≡ 0 }
+        ensures tells { (old new : Waiter) → AreGrantsOf NO_GRANTS (steps_of old) (steps_of new) → tells result old new };
+
+    /// Passes on the grants of the latest call, once, and returns the answer. This makes no step.
     fn tell(groups: &Groups, waiter: &mut Waiter, grants: Grants) -> Self::Answer
         requires groups { IsWaiterOf groups.now waiter.old }
         ensures groups { IsWaiterOf groups.now waiter.new }
@@ -44,6 +50,11 @@ impl Waking for Ring {
     ghost tells = { λ woken. RingsGranted };
 
     #[inline]
+    fn nobody() -> u32 {
+        0
+    }
+
+    #[inline]
     fn tell(groups: &Groups, waiter: &mut Waiter, grants: Grants) -> u32 {
         if grants.woken != 0 {
             groups.ring(waiter, grants);
@@ -64,6 +75,11 @@ impl Waking for Report {
     ghost tells = { λ grants old new. AreGrantsOf grants (steps_of old) (steps_of new) };
 
     #[inline]
+    fn nobody() -> Grants {
+        NO_GRANTS
+    }
+
+    #[inline]
     fn tell(groups: &Groups, waiter: &mut Waiter, grants: Grants) -> Grants {
         grants
     }
@@ -79,6 +95,11 @@ impl Waking for Count {
     ghost woken = { λ woken. woken };
 
     ghost tells = { λ woken old new. WokenBy woken (steps_of old) (steps_of new) };
+
+    #[inline]
+    fn nobody() -> u32 {
+        0
+    }
 
     #[inline]
     fn tell(groups: &Groups, waiter: &mut Waiter, grants: Grants) -> u32 {

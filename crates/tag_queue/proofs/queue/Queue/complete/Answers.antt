@@ -8,8 +8,8 @@ use Rattle.tag_queue.proofs.Granted.{look_grants_none}
 use Rattle.tag_queue.proofs.queue.Queue.complete.Goals as goal
 
 pub returns-then-found-eq0-clause-tells : goal.returns-then-found-eq0-clause-tells
-returns-then-found-eq0-clause-tells g c = c.tell.ensures.tells c.args.agent.now.waiter (look_grants_none
-    c.active-found.result (group_steps c.args.agent.now) _ c.active-found.ensures.step)
+returns-then-found-eq0-clause-tells g c = c.nobody.ensures.tells c.args.agent.now.waiter c.active-found.new.waiter
+    (look_grants_none c.active-found.result (group_steps c.args.agent.now) _ c.active-found.ensures.step)
 
 pub returns-clause-tells : goal.returns-clause-tells
 returns-clause-tells g c = c.charge_and_tell.ensures.tells c.args.agent.now (look_grants_none c.active-found.result
