@@ -15,7 +15,9 @@ returns-in_err-check_mask-clause-not_held g c = let same : c.from_residual.resul
     c.check_mask.ensures.not_held
 
 pub returns-clause-no_such_tag : goal.returns-clause-no_such_tag
-returns-clause-no_such_tag g c = ?
+returns-clause-no_such_tag g c = let passed = c.in_ok-check_mask.ensures.succeeds.0 (search rules) in
+    (λ e. absurd (let never = e in cc), λ none. absurd (none passed.1))
 
 pub returns-clause-not_held : goal.returns-clause-not_held
-returns-clause-not_held g c = ?
+returns-clause-not_held g c = let passed = c.in_ok-check_mask.ensures.succeeds.0 (search rules) in
+    (λ e. absurd (let never = e in cc), λ none. absurd (none.1 passed.2))
