@@ -8,7 +8,7 @@ use std::sync::atomic::Ordering::SeqCst;
 use std::thread;
 use std::thread::Threads;
 use tag_model::Totals;
-use tag_sets::{GatherCause, Hand, Options, ResizeCause, SetFault, TagFault, Tags};
+use tag_sets::{GatherCause, Hand, Options, ResizeCause, Ring, SetFault, TagFault, Tags};
 
 /// Threads, each with a hand of its own.
 const THREADS: u32 = 2;
@@ -103,6 +103,6 @@ fn serve_one<W: Wait>(
     let tag = tags.get_blocking(rt, hand)?;
     tags.write(hand, tag, request)?;
     let found = tags.read(hand, tag)?;
-    tags.clear(hand, tag)?;
+    tags.clear::<Ring>(hand, tag)?;
     Ok(found)
 }

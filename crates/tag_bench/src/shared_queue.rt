@@ -8,6 +8,7 @@ use std::alloc::Global;
 use tag_core::Spent;
 use tag_model::Totals;
 use tag_queue::{Agent, Options, Queue};
+use wake_book::Ring;
 use tag_search::Hint;
 
 impl TagAllocator for Queue<u64> {
@@ -56,14 +57,14 @@ impl TagAllocator for Queue<u64> {
 
     #[inline]
     fn clear(&self, agent: &mut Agent<u64>, _hint: &mut Hint, tag: u32) {
-        let Ok(_) = Queue::clear(self, agent, tag) else {
+        let Ok(_) = Queue::clear::<Ring>(self, agent, tag) else {
             unreachable!()
         };
     }
 
     #[inline]
     fn test_and_clear(&self, agent: &mut Agent<u64>, _hint: &mut Hint, tag: u32) {
-        let _ = Queue::clear(self, agent, tag);
+        let _ = Queue::clear::<Ring>(self, agent, tag);
     }
 
     #[inline]

@@ -8,7 +8,7 @@ use std::alloc::Global;
 use tag_core::Spent;
 use tag_model::Totals;
 use tag_search::Hint;
-use tag_sets::{Hand, Options, Tags};
+use tag_sets::{Hand, Options, Ring, Tags};
 
 impl TagAllocator for Tags<u64> {
     type Hand = Hand<u64>;
@@ -56,14 +56,14 @@ impl TagAllocator for Tags<u64> {
 
     #[inline]
     fn clear(&self, hand: &mut Hand<u64>, _hint: &mut Hint, tag: u32) {
-        let Ok(_) = Tags::clear(self, hand, tag) else {
+        let Ok(_) = Tags::clear::<Ring>(self, hand, tag) else {
             unreachable!()
         };
     }
 
     #[inline]
     fn test_and_clear(&self, hand: &mut Hand<u64>, _hint: &mut Hint, tag: u32) {
-        let _ = Tags::clear(self, hand, tag);
+        let _ = Tags::clear::<Ring>(self, hand, tag);
     }
 
     #[inline]

@@ -6,6 +6,7 @@ use std::sync::Wait;
 use std::thread::Threads;
 use std::time::{Clock, CpuClock};
 use tag_queue::{Agent, Queue};
+use wake_book::Ring;
 
 /// Runs each case. Where no count of tags is asked for, there are half as many as threads, and at least one.
 pub(crate) fn run<R: AllocGlobal + Threads + Wait + Sync + Print + Clock + CpuClock>(
@@ -51,7 +52,7 @@ impl<R: Wait + Sync> Job<Queue<u64>> for Waiters<'_, R> {
             };
             // Neither is refused a tag that the agent holds.
             let _ = queue.write(agent, tag, u64::from(round));
-            let _ = queue.clear(agent, tag);
+            let _ = queue.clear::<Ring>(agent, tag);
         }
     }
 }

@@ -10,8 +10,7 @@ pub mod MaskGives
 pub mod MaskPlaced
 pub mod SoFar
 pub mod Counting
-pub mod WokenFacts
-pub mod Ringing
+pub mod Granted
 pub mod PassedOn
 pub mod Fronts
 pub mod Gathering

@@ -1,5 +1,5 @@
 -- The effect of clears on the agent that makes them.
-use Rattle.std.specs.Prelude.{◌≡◌, ℕ, ◌^◌, ◌≤◌, ◌⊎◌, List, ◌∷◌}
+use Rattle.std.specs.Prelude.{◌≡◌, ℕ, ◌+◌, ◌^◌, ◌≤◌, ◌⊎◌, List, ◌∷◌}
 use Rattle.tag_layout.specs.Layout.{Layout, word_of, place_of}
 use Rattle.tag_core.specs.declared.step.Step.TheVariants.{Word}
 use Rattle.tag_core.specs.declared.word_step.WordStep.TheVariants.{Put}
@@ -7,12 +7,14 @@ use Rattle.tag_core.specs.Callers.{Adds}
 use Rattle.tag_search.specs.Follows.{ClearFollows}
 use Rattle.wake_book.specs.declared.charge.Charge.{Charge}
 use Rattle.wake_book.specs.declared.charge.Charge.TheVariants.{Full, Below, Won, Busy}
+use Rattle.wake_book.specs.declared.grants.TheConstants.{NO_GRANTS}
 use Rattle.wake_book.specs.declared.steps.GroupStep.{GroupStep}
 use Rattle.wake_book.specs.declared.steps.GroupStep.TheVariants.{Look}
-use Rattle.wake_book.specs.Charging.{IsCharge}
+use Rattle.wake_book.specs.Charging.{IsCharge, count_steps}
+use Rattle.wake_book.specs.Grants.{AreGrantsOf}
 use Rattle.wake_book.specs.Groups.{StandsAsBefore}
 use Rattle.wake_book.specs.Waits.{active_at}
-use Rattle.wake_book.specs.Walks.{IsWalk}
+use Rattle.wake_book.specs.Walks.{IsWalk, walk_steps}
 use Rattle.tag_queue.specs.declared.agent.Agent.{Agent}
 use Rattle.tag_queue.specs.declared.queue.Queue.{Queue}
 use Rattle.tag_queue.specs.Holding.{HoldsLess}
@@ -31,6 +33,18 @@ Follows batch Full steps steps' woken = (steps' ≡ steps) × (woken ≡ 0)
 Follows batch Below steps steps' woken = (steps' ≡ steps) × (woken ≡ 0)
 Follows batch (Won start) steps steps' woken = IsWalk batch steps steps' woken
 Follows batch Busy steps steps' woken = (steps' ≡ steps) × (woken ≡ 0)
+
+-- the agent granted nobody a wakeup in between
+abbrev pub GrantsNone : {R : Type 0} → Agent R → Agent R → Type 0
+GrantsNone old new = AreGrantsOf NO_GRANTS (group_steps old) (group_steps new)
+
+-- the most steps of a charge: those of a count, and of the walk that follows
+abbrev pub charge_steps : ℕ
+charge_steps = count_steps + walk_steps
+
+-- the most steps of a completion: the load of the active count, and those of a charge
+abbrev pub complete_steps : ℕ
+complete_steps = 1 + charge_steps
 
 -- no agent is found active, so nothing is counted and nobody is woken
 pub record FindsNoneActive {R : Type 0} (old new : Agent R) (woken : ℕ) : Type 0 where

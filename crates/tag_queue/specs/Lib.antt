@@ -16,4 +16,3 @@ pub mod Shells
 pub mod Resizing
 pub mod Placing
 pub mod Tallies
-pub mod Woken

@@ -17,6 +17,7 @@ mod uses;
 mod waits;
 
 pub use agent::Agent;
+pub use clears::batches::MAX_BATCH;
 pub use clears::lists::{are_below, are_distinct};
 pub use fault::{QueueFault, QueueOpenFault};
 pub use gather::{QueueGatherFault, QueueTotals};

@@ -28,8 +28,8 @@ pub use resizes::TagsResizeFault;
 pub use shown::Shown;
 pub use step_ledger::{GatherCause, Numbered};
 pub use tag_queue::{
-    Found, MAX_CALLERS, MAX_CAP, MAX_DEPTH, MAX_SHIFT, MOST_WON, Options, QueueTotals, ResizeCause,
-    Wakes,
+    Found, MAX_BATCH, MAX_CALLERS, MAX_CAP, MAX_DEPTH, MAX_SHIFT, MOST_WON, Options, QueueTotals,
+    ResizeCause, Wakes,
 };
 pub use tags::Tags;
-pub use wake_book::{Grants, Left};
+pub use wake_book::{Count, Grants, Left, Report, Ring, Waking};

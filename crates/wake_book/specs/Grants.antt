@@ -17,3 +17,9 @@ pub record AreGrantsOf (grants : Grants) (old new : List GroupStep) : Type 0 whe
       → total (granted_in group) new ≡ total (granted_in group) old + slice_index grants.in_group group
   pub all : total moved_by new ≡ total moved_by old + grants.woken
   pub sum_is : grants.woken ≡ sum grants.in_group
+
+-- the steps made since granted this many waiters a wakeup, the sum of their grants in each group
+pub record WokenBy (woken : ℕ) (old new : List GroupStep) : Type 0 where
+  pub grants : Grants
+  pub are : AreGrantsOf grants old new
+  pub all : woken ≡ grants.woken

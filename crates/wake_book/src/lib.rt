@@ -18,6 +18,7 @@ mod sleeping;
 mod spacing;
 mod steps;
 mod waiting;
+mod waking;
 mod walk;
 
 pub use book::{Book, BookTotals, Teller, TellerGathering};
@@ -33,3 +34,4 @@ pub use sighting::Sighting;
 pub use sleeping::{Announcement, Key};
 pub use step_ledger::{GatherCause, Numbered};
 pub use waiting::Left;
+pub use waking::{Count, Report, Ring, Waking};

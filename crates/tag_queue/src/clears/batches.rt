@@ -1,11 +1,9 @@
 //! Clears of several tags at once.
 ghost use Rattle.std.specs.Prelude.{◌≡◌, ◌+◌, ◌≤◌, ◌↔◌, length, IfOk, IsOk, OnOk, OnErr, IsTrue};
 ghost use Rattle.tag_core.specs.Callers.{IsCallerOf, record_of, layout_of as layout_of_map};
-ghost use Rattle.tag_queue.specs.Agents.{layout_of, IsAgentOf, step_count, caller_of, waiter_of, SameCounts, group_steps};
+ghost use Rattle.tag_queue.specs.Agents.{layout_of, IsAgentOf, step_count, caller_of, waiter_of, SameCounts};
 ghost use Rattle.tag_queue.specs.Batches.{CountsTags, AreTags, AreHeldOnce, GivesAll, GivesBack};
-ghost use Rattle.tag_queue.specs.Clears.{Counts};
-ghost use Rattle.wake_book.specs.Grants.{AreGrantsOf};
-ghost use Rattle.wake_book.specs.Groups.{RingsGranted};
+ghost use Rattle.tag_queue.specs.Clears.{Counts, complete_steps};
 ghost use Rattle.tag_queue.specs.Tallies.{back_of};
 
 use crate::agent::Agent;
@@ -14,46 +12,22 @@ use crate::fault::QueueFault;
 use crate::queue::Queue;
 use tag_core::{Caller, Map};
 use tag_search::after_clear;
-use wake_book::Grants;
+use wake_book::Waking;
 
-/// The most tags that one call clears.
-const MAX_TAGS: usize = 64;
+/// The most tags that one call gets or clears, a bit of a mask for each.
+pub const MAX_BATCH: usize = 64;
 
 impl<R: Copy> Queue<R> {
-    /// Clears 1 to 64 held tags, counts them together if any agent waits, and returns how many waiters it woke. Like
-    /// `sbitmap_queue_clear_batch` (lib/sbitmap.c) it frees them at once, where `clear` only sets its tag aside.
-    /// Successive tags of the list that lie in one word take one step. `NotHeld` also means that a tag is named twice.
-    /// `BadCount` means no tag, or more than 64; `NoSuchTag` that a number is not below the depth. Nothing changes on
-    /// an error.
-    pub fn clear_batch(&self, agent: &mut Agent<R>, tags: &[u32]) -> Result<u32, QueueFault>
-        requires agent { IsAgentOf self.now agent.old }
-        ensures agent { IsAgentOf self.now agent.new }
-
-        // The causes are checked in this order, each for the whole list.
-        ensures bad_count { (result ≡ Err QueueFault.BadCount) ↔ ¬ (CountsTags tags.now) }
-        ensures no_such_tag { (result ≡ Err QueueFault.NoSuchTag) ↔ (CountsTags tags.now × ¬ (AreTags (layout_of self.now) tags.now)) }
-        ensures not_held { (result ≡ Err QueueFault.NotHeld)
-            ↔ (CountsTags tags.now × AreTags (layout_of self.now) tags.now × ¬ (AreHeldOnce (caller_of agent.old) tags.now)) }
-        ensures succeeds { IsOk result ↔ (CountsTags tags.now × AreHeldOnce (caller_of agent.old) tags.now) }
-        ensures gives { OnOk result (GivesBack (layout_of self.now) tags.now agent.old agent.new) }
-        ensures back { OnOk result ((record_of (caller_of agent.new)).back ≡ (record_of (caller_of agent.old)).back + length tags.now) }
-        ensures counts { IfOk result (λ woken. Counts self.now (length tags.now) agent.old agent.new woken) }
-        ensures rings { OnOk result (RingsGranted (waiter_of agent.old) (waiter_of agent.new)) }
-        ensures bound { OnOk result (step_count agent.new ≤ length tags.now + 117 + step_count agent.old) }
-        ensures err { OnErr result (agent.new ≡ agent.old) }
-    {
-        let grants = self.clear_batch_granted(agent, tags)?;
-        Ok(self.ring(agent, grants))
-    }
-
-    /// Like `clear_batch`, but wakes no sleeper, and pulls in no code that does. It returns how many waiters it granted
-    /// a wakeup in each group, and leaves waking them to the caller. It is refused as `clear_batch` is: `BadCount`,
-    /// `NoSuchTag`, `NotHeld`.
-    pub fn clear_batch_granted(
+    /// Clears 1 to 64 held tags, counts them together if any agent waits, and answers as `W` says whom this granted a
+    /// wakeup. Like `sbitmap_queue_clear_batch` (lib/sbitmap.c) it frees them at once, where `clear` only sets its tag
+    /// aside. Successive tags of the list that lie in one word take one step. `NotHeld` also means that a tag is named
+    /// twice. `BadCount` means no tag, or more than 64; `NoSuchTag` that a number is not below the depth. Nothing changes
+    /// on an error.
+    pub fn clear_batch<W: Waking>(
         &self,
         agent: &mut Agent<R>,
         tags: &[u32],
-    ) -> Result<Grants, QueueFault>
+    ) -> Result<W::Answer, QueueFault>
         requires agent { IsAgentOf self.now agent.old }
         ensures agent { IsAgentOf self.now agent.new }
 
@@ -64,30 +38,30 @@ impl<R: Copy> Queue<R> {
             ↔ (CountsTags tags.now × AreTags (layout_of self.now) tags.now × ¬ (AreHeldOnce (caller_of agent.old) tags.now)) }
         ensures succeeds { IsOk result ↔ (CountsTags tags.now × AreHeldOnce (caller_of agent.old) tags.now) }
         ensures gives { OnOk result (GivesBack (layout_of self.now) tags.now agent.old agent.new) }
-        ensures back { OnOk result ((record_of (caller_of agent.new)).back ≡ (record_of (caller_of agent.old)).back + length tags.now) }
-        ensures counts { IfOk result (λ grants. Counts self.now (length tags.now) agent.old agent.new grants.woken) }
-        ensures grants { IfOk result (λ grants. AreGrantsOf grants (group_steps agent.old) (group_steps agent.new)) }
-        ensures bound { OnOk result (step_count agent.new ≤ length tags.now + 117 + step_count agent.old) }
+        ensures back { OnOk result (back_of agent.new ≡ back_of agent.old + length tags.now) }
+        ensures counts { IfOk result (λ answer. Counts self.now (length tags.now) agent.old agent.new (W.woken answer)) }
+        ensures tells { IfOk result (λ answer. W.tells answer (waiter_of agent.old) (waiter_of agent.new)) }
+        ensures bound { OnOk result (step_count agent.new ≤ length tags.now + complete_steps + step_count agent.old) }
         ensures err { OnErr result (agent.new ≡ agent.old) }
     {
         self.check_batch(agent, tags)?;
-        Ok(self.clear_batch_held(agent, tags))
+        Ok(self.clear_batch_held::<W>(agent, tags))
     }
 
-    /// Clears 1 to 64 tags that the agent holds, like `clear_batch_granted` but for the tests: it wakes no sleeper.
-    pub fn clear_batch_held(&self, agent: &mut Agent<R>, tags: &[u32]) -> Grants
+    /// Clears 1 to 64 tags that the agent holds, like `clear_batch` but for the tests.
+    pub fn clear_batch_held<W: Waking>(&self, agent: &mut Agent<R>, tags: &[u32]) -> W::Answer
         requires agent { IsAgentOf self.now agent.old }
         requires count { CountsTags tags.now }
         requires held { AreHeldOnce (caller_of agent.old) tags.now }
         ensures agent { IsAgentOf self.now agent.new }
         ensures gives { GivesBack (layout_of self.now) tags.now agent.old agent.new }
         ensures back { back_of agent.new ≡ back_of agent.old + length tags.now }
-        ensures counts { Counts self.now (length tags.now) agent.old agent.new result.woken }
-        ensures grants { AreGrantsOf result (group_steps agent.old) (group_steps agent.new) }
-        ensures bound { step_count agent.new ≤ length tags.now + 117 + step_count agent.old }
+        ensures counts { Counts self.now (length tags.now) agent.old agent.new (W.woken result) }
+        ensures tells { W.tells result (waiter_of agent.old) (waiter_of agent.new) }
+        ensures bound { step_count agent.new ≤ length tags.now + complete_steps + step_count agent.old }
     {
         self.give_back(agent, tags);
-        self.complete(agent, tags.len() as u32)
+        self.complete::<W>(agent, tags.len() as u32)
     }
 
     /// Returns `Ok` if `clear_batch` would clear this list, and otherwise its refusal. This makes no step. The
@@ -102,7 +76,7 @@ impl<R: Copy> Queue<R> {
             ↔ (CountsTags tags.now × AreTags (layout_of self.now) tags.now × ¬ (AreHeldOnce (caller_of agent.now) tags.now)) }
         ensures succeeds { IsOk result ↔ (CountsTags tags.now × AreHeldOnce (caller_of agent.now) tags.now) }
     {
-        if tags.is_empty() || tags.len() > MAX_TAGS {
+        if tags.is_empty() || tags.len() > MAX_BATCH {
             return Err(QueueFault::BadCount);
         }
         if !are_below(tags, self.map.layout().depth()) {
@@ -121,7 +95,7 @@ impl<R: Copy> Queue<R> {
         requires held { AreHeldOnce (caller_of agent.old) tags.now }
         ensures agent { IsAgentOf self.now agent.new }
         ensures gives { GivesBack (layout_of self.now) tags.now agent.old agent.new }
-        ensures back { (record_of (caller_of agent.new)).back ≡ (record_of (caller_of agent.old)).back + length tags.now }
+        ensures back { back_of agent.new ≡ back_of agent.old + length tags.now }
         ensures others { SameCounts agent.old agent.new }
         ensures bound { step_count agent.new ≤ length tags.now + step_count agent.old }
     {

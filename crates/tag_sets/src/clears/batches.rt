@@ -1,27 +1,28 @@
 //! Clears of several ordinary tags at once.
 ghost use Rattle.std.specs.Prelude.{◌≡◌, ◌+◌, ◌≤◌, ◌↔◌, length, take, All, IfOk, IfSome, IsOk, IsSome, OnOk, OnErr};
-ghost use Rattle.tag_sets.specs.Hands.{IsHandOf, waiter_of, step_count, group_steps};
+ghost use Rattle.tag_sets.specs.Hands.{IsHandOf, waiter_of, step_count};
 ghost use Rattle.tag_sets.specs.Batches.{CountsTags, AreOrdinary, AreHeldOnce, GivesBack, numbers_of};
 ghost use Rattle.tag_sets.specs.Clears.{Counts, back_of};
 ghost use Rattle.tag_sets.specs.declared.kind.Kind.TheVariants.{Ordinary};
-ghost use Rattle.wake_book.specs.Grants.{AreGrantsOf};
-ghost use Rattle.wake_book.specs.Groups.{RingsGranted};
+ghost use Rattle.tag_queue.specs.Clears.{complete_steps};
 
 use crate::fault::TagFault;
 use crate::hand::Hand;
 use crate::tags::Tags;
-use wake_book::Grants;
-
-/// The most tags that one call clears.
-pub(crate) const MAX_TAGS: usize = 64;
+use tag_queue::MAX_BATCH;
+use wake_book::Waking;
 
 impl<R: Copy> Tags<R> {
-    /// Clears 1 to 64 held ordinary tags, counts them together if anybody waits, and returns how many waiters it woke.
-    /// Like `sbitmap_queue_clear_batch` (lib/sbitmap.c) it frees them at once, where `clear` only sets its tag aside.
-    /// Successive tags of the list that lie in one word take one step. `NoSuchTag` also means that a tag is reserved,
-    /// `NotHeld` that one is not held or named twice. `BadCount` means no tag, or more than 64. Nothing changes on an
-    /// error.
-    pub fn clear_batch(&self, hand: &mut Hand<R>, tags: &[u32]) -> Result<u32, TagFault>
+    /// Clears 1 to 64 held ordinary tags, counts them together if anybody waits, and answers as `W` says whom this granted
+    /// a wakeup. Like `sbitmap_queue_clear_batch` (lib/sbitmap.c) it frees them at once, where `clear` only sets its tag
+    /// aside. Successive tags of the list that lie in one word take one step. `NoSuchTag` also means that a tag is
+    /// reserved, `NotHeld` that one is not held or named twice. `BadCount` means no tag, or more than 64. Nothing changes
+    /// on an error.
+    pub fn clear_batch<W: Waking>(
+        &self,
+        hand: &mut Hand<R>,
+        tags: &[u32],
+    ) -> Result<W::Answer, TagFault>
         requires hand { IsHandOf self.now hand.old }
         ensures hand { IsHandOf self.now hand.new }
 
@@ -35,60 +36,17 @@ impl<R: Copy> Tags<R> {
             ↔ (CountsTags tags.now × AreOrdinary self.now tags.now × AreHeldOnce hand.old tags.now) }
         ensures gives { OnOk result (GivesBack self.now tags.now hand.old hand.new) }
         ensures back { OnOk result (back_of hand.new Ordinary ≡ back_of hand.old Ordinary + length tags.now) }
-        ensures counts { IfOk result (λ woken. Counts self.now Ordinary (length tags.now) hand.old hand.new woken) }
-        ensures rings { OnOk result (RingsGranted (waiter_of hand.old) (waiter_of hand.new)) }
-        ensures bound { OnOk result (step_count hand.new ≤ length tags.now + 117 + step_count hand.old) }
+        ensures counts { IfOk result (λ answer. Counts self.now Ordinary (length tags.now) hand.old hand.new (W.woken answer)) }
+        ensures tells { IfOk result (λ answer. W.tells answer (waiter_of hand.old) (waiter_of hand.new)) }
+        ensures bound { OnOk result (step_count hand.new ≤ length tags.now + complete_steps + step_count hand.old) }
         ensures err { OnErr result (hand.new ≡ hand.old) }
     {
-        if tags.is_empty() || tags.len() > MAX_TAGS {
-            return Err(TagFault::BadCount);
-        }
-        let Some(numbers) = ordinary_numbers(tags, self.reserved_count) else {
-            return Err(TagFault::NoSuchTag);
-        };
-        let numbers = &numbers[..tags.len()];
-        self.ordinary
-            .clear_batch(&mut hand.ordinary, numbers)
-            .map_err(TagFault::from)
+        self.check_batch(hand, tags)?;
+        Ok(self.clear_batch_held::<W>(hand, tags))
     }
 
-    /// Like `clear_batch`, but wakes no sleeper, and pulls in no code that does. It returns how many waiters it granted
-    /// a wakeup in each group, and leaves waking them to the caller. It is refused as `clear_batch` is: `BadCount`,
-    /// `NoSuchTag`, `NotHeld`.
-    pub fn clear_batch_granted(&self, hand: &mut Hand<R>, tags: &[u32]) -> Result<Grants, TagFault>
-        requires hand { IsHandOf self.now hand.old }
-        ensures hand { IsHandOf self.now hand.new }
-
-        // The causes are checked in this order, each for the whole list.
-        ensures bad_count { (result ≡ Err TagFault.BadCount) ↔ ¬ (CountsTags tags.now) }
-        ensures no_such_tag { (result ≡ Err TagFault.NoSuchTag)
-            ↔ (CountsTags tags.now × ¬ (AreOrdinary self.now tags.now)) }
-        ensures not_held { (result ≡ Err TagFault.NotHeld)
-            ↔ (CountsTags tags.now × AreOrdinary self.now tags.now × ¬ (AreHeldOnce hand.old tags.now)) }
-        ensures succeeds { IsOk result
-            ↔ (CountsTags tags.now × AreOrdinary self.now tags.now × AreHeldOnce hand.old tags.now) }
-        ensures gives { OnOk result (GivesBack self.now tags.now hand.old hand.new) }
-        ensures back { OnOk result (back_of hand.new Ordinary ≡ back_of hand.old Ordinary + length tags.now) }
-        ensures counts { IfOk result (λ grants. Counts self.now Ordinary (length tags.now) hand.old hand.new grants.woken) }
-        ensures grants { IfOk result (λ grants. AreGrantsOf grants (group_steps hand.old) (group_steps hand.new)) }
-        ensures bound { OnOk result (step_count hand.new ≤ length tags.now + 117 + step_count hand.old) }
-        ensures err { OnErr result (hand.new ≡ hand.old) }
-    {
-        if tags.is_empty() || tags.len() > MAX_TAGS {
-            return Err(TagFault::BadCount);
-        }
-        let Some(numbers) = ordinary_numbers(tags, self.reserved_count) else {
-            return Err(TagFault::NoSuchTag);
-        };
-        let numbers = &numbers[..tags.len()];
-        self.ordinary
-            .clear_batch_granted(&mut hand.ordinary, numbers)
-            .map_err(TagFault::from)
-    }
-
-    /// Clears 1 to 64 ordinary tags that the hand holds, like `clear_batch_granted` but for the tests: it wakes no
-    /// sleeper.
-    pub fn clear_batch_held(&self, hand: &mut Hand<R>, tags: &[u32]) -> Grants
+    /// Clears 1 to 64 ordinary tags that the hand holds, like `clear_batch` but for the tests.
+    pub fn clear_batch_held<W: Waking>(&self, hand: &mut Hand<R>, tags: &[u32]) -> W::Answer
         requires hand { IsHandOf self.now hand.old }
         requires count { CountsTags tags.now }
         requires ordinary { AreOrdinary self.now tags.now }
@@ -96,15 +54,16 @@ impl<R: Copy> Tags<R> {
         ensures hand { IsHandOf self.now hand.new }
         ensures gives { GivesBack self.now tags.now hand.old hand.new }
         ensures back { back_of hand.new Ordinary ≡ back_of hand.old Ordinary + length tags.now }
-        ensures counts { Counts self.now Ordinary (length tags.now) hand.old hand.new result.woken }
-        ensures grants { AreGrantsOf result (group_steps hand.old) (group_steps hand.new) }
-        ensures bound { step_count hand.new ≤ length tags.now + 117 + step_count hand.old }
+        ensures counts { Counts self.now Ordinary (length tags.now) hand.old hand.new (W.woken result) }
+        ensures tells { W.tells result (waiter_of hand.old) (waiter_of hand.new) }
+        ensures bound { step_count hand.new ≤ length tags.now + complete_steps + step_count hand.old }
     {
         let Some(numbers) = ordinary_numbers(tags, self.reserved_count) else {
             unreachable!()
         };
         let numbers = &numbers[..tags.len()];
-        self.ordinary.clear_batch_held(&mut hand.ordinary, numbers)
+        self.ordinary
+            .clear_batch_held::<W>(&mut hand.ordinary, numbers)
     }
 
     /// Returns `Ok` if `clear_batch` would clear this list, and otherwise its refusal. This makes no step. The
@@ -121,7 +80,7 @@ impl<R: Copy> Tags<R> {
         ensures succeeds { IsOk result
             ↔ (CountsTags tags.now × AreOrdinary self.now tags.now × AreHeldOnce hand.now tags.now) }
     {
-        if tags.is_empty() || tags.len() > MAX_TAGS {
+        if tags.is_empty() || tags.len() > MAX_BATCH {
             return Err(TagFault::BadCount);
         }
         let Some(numbers) = ordinary_numbers(tags, self.reserved_count) else {
@@ -135,12 +94,12 @@ impl<R: Copy> Tags<R> {
 }
 
 /// Returns the numbers of ordinary tags in their set, in the order of the list, or `None` if one of them is reserved.
-pub(crate) fn ordinary_numbers(tags: &[u32], reserved: u32) -> Option<[u32; MAX_TAGS]>
+pub(crate) fn ordinary_numbers(tags: &[u32], reserved: u32) -> Option<[u32; MAX_BATCH]>
     requires { length tags.now ≤ 64 }
     ensures ordinary { IsSome result ↔ All (λ tag. reserved ≤ tag) tags.now }
     ensures numbers { IfSome result (λ numbers. take (length tags.now) numbers ≡ numbers_of reserved tags.now) }
 {
-    let mut numbers = [0; MAX_TAGS];
+    let mut numbers = [0; MAX_BATCH];
     for i in 0..tags.len() {
         numbers[i] = tags[i].checked_sub(reserved)?;
     }

@@ -1,10 +1,8 @@
 //! Clears of the ordinary tags of a mask, as a batch get answers it.
 ghost use Rattle.std.specs.Prelude.{◌≡◌, ◌+◌, ◌-◌, ◌≤◌, ◌↔◌, count_ones, All, IfOk, IfSome, IsOk, IsSome, OnOk, OnErr};
-ghost use Rattle.wake_book.specs.Grants.{AreGrantsOf};
-ghost use Rattle.wake_book.specs.Groups.{RingsGranted};
+ghost use Rattle.tag_queue.specs.Clears.{complete_steps};
 ghost use Rattle.tag_queue.specs.Masks.{tags_in};
-ghost use Rattle.tag_queue.specs.Woken.{WokenBy};
-ghost use Rattle.tag_sets.specs.Hands.{IsHandOf, waiter_of, Holds, step_count, group_steps};
+ghost use Rattle.tag_sets.specs.Hands.{IsHandOf, waiter_of, Holds, step_count};
 ghost use Rattle.tag_sets.specs.Batches.{AreOrdinary, GivesBack, numbers_of};
 ghost use Rattle.tag_sets.specs.Clears.{Counts, back_of};
 ghost use Rattle.tag_sets.specs.Masks.{words_over};
@@ -13,89 +11,21 @@ ghost use Rattle.tag_sets.specs.declared.kind.Kind.TheVariants.{Ordinary};
 use crate::fault::TagFault;
 use crate::hand::Hand;
 use crate::tags::Tags;
-use wake_book::Grants;
+use wake_book::Waking;
 
 impl<R: Copy> Tags<R> {
     /// Clears the held ordinary tags of a mask, in which bit `i` is tag `first + i` as in the answer of `get_batch`,
-    /// counts them together if anybody waits, and returns how many waiters it woke. The effect is that of `clear_batch`
-    /// on these tags in order, by one step for each word that has any of them. `BadCount` means that the mask is empty,
-    /// and `NoSuchTag` also that one of its tags is reserved. `NotHeld` means that the hand does not hold one. Nothing
-    /// changes on an error.
-    pub fn clear_mask(&self, hand: &mut Hand<R>, first: u32, mask: u64) -> Result<u32, TagFault>
-        requires hand { IsHandOf self.now hand.old }
-        ensures hand { IsHandOf self.now hand.new }
-
-        // The causes are checked in this order, each for the whole mask.
-        ensures bad_count { (result ≡ Err TagFault.BadCount) ↔ (mask ≡ 0) }
-        ensures no_such_tag { (result ≡ Err TagFault.NoSuchTag) ↔ ¬ (AreOrdinary self.now (tags_in first mask)) }
-        ensures not_held { (result ≡ Err TagFault.NotHeld)
-            ↔ (AreOrdinary self.now (tags_in first mask) × ¬ (All (Holds hand.old) (tags_in first mask))) }
-        ensures succeeds { IsOk result
-            ↔ ((1 ≤ mask) × AreOrdinary self.now (tags_in first mask) × All (Holds hand.old) (tags_in first mask)) }
-        ensures gives { OnOk result (GivesBack self.now (tags_in first mask) hand.old hand.new) }
-        ensures back { OnOk result (back_of hand.new Ordinary ≡ back_of hand.old Ordinary + count_ones mask) }
-        ensures counts { IfOk result (λ woken. Counts self.now Ordinary (count_ones mask) hand.old hand.new woken) }
-        ensures rings { OnOk result (RingsGranted (waiter_of hand.old) (waiter_of hand.new)) }
-        ensures bound { OnOk result (step_count hand.new ≤ words_over self.now first (tags_in first mask) + 117 + step_count hand.old) }
-        ensures err { OnErr result (hand.new ≡ hand.old) }
-    {
-        if mask == 0 {
-            return Err(TagFault::BadCount);
-        }
-        let Some((first, mask)) = ordinary_mask(first, mask, self.reserved_count) else {
-            return Err(TagFault::NoSuchTag);
-        };
-        self.ordinary
-            .clear_mask(&mut hand.ordinary, first, mask)
-            .map_err(TagFault::from)
-    }
-
-    /// Like `clear_mask`, but wakes no sleeper, and pulls in no code that does. It returns how many waiters it granted
-    /// a wakeup in each group, and leaves waking them to the caller. It is refused as `clear_mask` is: `BadCount`,
-    /// `NoSuchTag`, `NotHeld`.
-    pub fn clear_mask_granted(
-        &self,
-        hand: &mut Hand<R>,
-        first: u32,
-        mask: u64,
-    ) -> Result<Grants, TagFault>
-        requires hand { IsHandOf self.now hand.old }
-        ensures hand { IsHandOf self.now hand.new }
-
-        // The causes are checked in this order, each for the whole mask.
-        ensures bad_count { (result ≡ Err TagFault.BadCount) ↔ (mask ≡ 0) }
-        ensures no_such_tag { (result ≡ Err TagFault.NoSuchTag) ↔ ¬ (AreOrdinary self.now (tags_in first mask)) }
-        ensures not_held { (result ≡ Err TagFault.NotHeld)
-            ↔ (AreOrdinary self.now (tags_in first mask) × ¬ (All (Holds hand.old) (tags_in first mask))) }
-        ensures succeeds { IsOk result
-            ↔ ((1 ≤ mask) × AreOrdinary self.now (tags_in first mask) × All (Holds hand.old) (tags_in first mask)) }
-        ensures gives { OnOk result (GivesBack self.now (tags_in first mask) hand.old hand.new) }
-        ensures back { OnOk result (back_of hand.new Ordinary ≡ back_of hand.old Ordinary + count_ones mask) }
-        ensures counts { IfOk result (λ grants. Counts self.now Ordinary (count_ones mask) hand.old hand.new grants.woken) }
-        ensures grants { IfOk result (λ grants. AreGrantsOf grants (group_steps hand.old) (group_steps hand.new)) }
-        ensures bound { OnOk result (step_count hand.new ≤ words_over self.now first (tags_in first mask) + 117 + step_count hand.old) }
-        ensures err { OnErr result (hand.new ≡ hand.old) }
-    {
-        if mask == 0 {
-            return Err(TagFault::BadCount);
-        }
-        let Some((first, mask)) = ordinary_mask(first, mask, self.reserved_count) else {
-            return Err(TagFault::NoSuchTag);
-        };
-        self.ordinary
-            .clear_mask_granted(&mut hand.ordinary, first, mask)
-            .map_err(TagFault::from)
-    }
-
-    /// Like `clear_mask_granted`, and refused as it is (`BadCount`, `NoSuchTag`, `NotHeld`), but returns only how many
-    /// waiters it granted a wakeup, for callers that wake threads by other means and need not know their groups.
+    /// counts them together if anybody waits, and answers as `W` says whom this granted a wakeup. The effect is that of
+    /// `clear_batch` on these tags in order, by one step for each word that has any of them. `BadCount` means that the
+    /// mask is empty, and `NoSuchTag` also that one of its tags is reserved. `NotHeld` means that the hand does not hold
+    /// one. Nothing changes on an error.
     #[inline]
-    pub fn clear_mask_counted(
+    pub fn clear_mask<W: Waking>(
         &self,
         hand: &mut Hand<R>,
         first: u32,
         mask: u64,
-    ) -> Result<u32, TagFault>
+    ) -> Result<W::Answer, TagFault>
         requires hand { IsHandOf self.now hand.old }
         ensures hand { IsHandOf self.now hand.new }
 
@@ -108,25 +38,19 @@ impl<R: Copy> Tags<R> {
             ↔ ((1 ≤ mask) × AreOrdinary self.now (tags_in first mask) × All (Holds hand.old) (tags_in first mask)) }
         ensures gives { OnOk result (GivesBack self.now (tags_in first mask) hand.old hand.new) }
         ensures back { OnOk result (back_of hand.new Ordinary ≡ back_of hand.old Ordinary + count_ones mask) }
-        ensures counts { IfOk result (λ woken. Counts self.now Ordinary (count_ones mask) hand.old hand.new woken) }
-        ensures grants { IfOk result (λ woken. WokenBy woken (group_steps hand.old) (group_steps hand.new)) }
-        ensures bound { OnOk result (step_count hand.new ≤ words_over self.now first (tags_in first mask) + 117 + step_count hand.old) }
+        ensures counts { IfOk result (λ answer. Counts self.now Ordinary (count_ones mask) hand.old hand.new (W.woken answer)) }
+        ensures tells { IfOk result (λ answer. W.tells answer (waiter_of hand.old) (waiter_of hand.new)) }
+        ensures bound { OnOk result (step_count hand.new
+            ≤ words_over self.now first (tags_in first mask) + complete_steps + step_count hand.old) }
         ensures err { OnErr result (hand.new ≡ hand.old) }
     {
-        if mask == 0 {
-            return Err(TagFault::BadCount);
-        }
-        let Some((first, mask)) = ordinary_mask(first, mask, self.reserved_count) else {
-            return Err(TagFault::NoSuchTag);
-        };
-        self.ordinary
-            .clear_mask_counted(&mut hand.ordinary, first, mask)
-            .map_err(TagFault::from)
+        self.check_mask(hand, first, mask)?;
+        Ok(self.clear_mask_held::<W>(hand, first, mask))
     }
 
-    /// Clears the ordinary tags of a mask, each of which the hand holds, like `clear_mask_granted` but for the tests: it
-    /// wakes no sleeper.
-    pub fn clear_mask_held(&self, hand: &mut Hand<R>, first: u32, mask: u64) -> Grants
+    /// Clears the ordinary tags of a mask, each of which the hand holds, like `clear_mask` but for the tests.
+    #[inline]
+    pub fn clear_mask_held<W: Waking>(&self, hand: &mut Hand<R>, first: u32, mask: u64) -> W::Answer
         requires hand { IsHandOf self.now hand.old }
         requires some { 1 ≤ mask }
         requires ordinary { AreOrdinary self.now (tags_in first mask) }
@@ -134,36 +58,16 @@ impl<R: Copy> Tags<R> {
         ensures hand { IsHandOf self.now hand.new }
         ensures gives { GivesBack self.now (tags_in first mask) hand.old hand.new }
         ensures back { back_of hand.new Ordinary ≡ back_of hand.old Ordinary + count_ones mask }
-        ensures counts { Counts self.now Ordinary (count_ones mask) hand.old hand.new result.woken }
-        ensures grants { AreGrantsOf result (group_steps hand.old) (group_steps hand.new) }
-        ensures bound { step_count hand.new ≤ words_over self.now first (tags_in first mask) + 117 + step_count hand.old }
+        ensures counts { Counts self.now Ordinary (count_ones mask) hand.old hand.new (W.woken result) }
+        ensures tells { W.tells result (waiter_of hand.old) (waiter_of hand.new) }
+        ensures bound { step_count hand.new
+            ≤ words_over self.now first (tags_in first mask) + complete_steps + step_count hand.old }
     {
         let Some((first, mask)) = ordinary_mask(first, mask, self.reserved_count) else {
             unreachable!()
         };
         self.ordinary
-            .clear_mask_held(&mut hand.ordinary, first, mask)
-    }
-
-    /// Like `clear_mask_held`, but returns only how many waiters it granted a wakeup.
-    #[inline]
-    pub fn clear_mask_held_counted(&self, hand: &mut Hand<R>, first: u32, mask: u64) -> u32
-        requires hand { IsHandOf self.now hand.old }
-        requires some { 1 ≤ mask }
-        requires ordinary { AreOrdinary self.now (tags_in first mask) }
-        requires held { All (Holds hand.old) (tags_in first mask) }
-        ensures hand { IsHandOf self.now hand.new }
-        ensures gives { GivesBack self.now (tags_in first mask) hand.old hand.new }
-        ensures back { back_of hand.new Ordinary ≡ back_of hand.old Ordinary + count_ones mask }
-        ensures counts { Counts self.now Ordinary (count_ones mask) hand.old hand.new result }
-        ensures grants { WokenBy result (group_steps hand.old) (group_steps hand.new) }
-        ensures bound { step_count hand.new ≤ words_over self.now first (tags_in first mask) + 117 + step_count hand.old }
-    {
-        let Some((first, mask)) = ordinary_mask(first, mask, self.reserved_count) else {
-            unreachable!()
-        };
-        self.ordinary
-            .clear_mask_held_counted(&mut hand.ordinary, first, mask)
+            .clear_mask_held::<W>(&mut hand.ordinary, first, mask)
     }
 
     /// Returns `Ok` if `clear_mask` would clear this mask, and otherwise its refusal. This makes no step. The refusals,

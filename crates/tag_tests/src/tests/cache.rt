@@ -26,7 +26,7 @@ use std::sync::Wait;
 use step_ledger::{GatherCause, Numbered};
 use tag_cache::Cache;
 use tag_queue::{QueueTotals, ResizeCause, Wakes};
-use tag_sets::{Kind, Shown, TagFault, Tags};
+use tag_sets::{Kind, Ring, Shown, TagFault, Tags};
 use wake_book::Left;
 
 /// The most tags of both sets.
@@ -113,7 +113,7 @@ impl TagAllocator for Mixed {
 
     fn clear(&self, caller: &mut Caller, tag: u32) -> Result<u32, TagFault> {
         match caller {
-            Caller::Bare(hand) => self.tags.clear(hand, tag),
+            Caller::Bare(hand) => self.tags.clear::<Ring>(hand, tag),
             Caller::Cached(cache) => cache.clear(&self.tags, tag),
         }
     }
@@ -124,14 +124,14 @@ impl TagAllocator for Mixed {
 
     fn clear_batch(&self, caller: &mut Caller, cleared: &[u32]) -> Result<u32, TagFault> {
         match caller {
-            Caller::Bare(hand) => self.tags.clear_batch(hand, cleared),
+            Caller::Bare(hand) => self.tags.clear_batch::<Ring>(hand, cleared),
             Caller::Cached(cache) => cache.clear_batch(&self.tags, cleared),
         }
     }
 
     fn clear_mask(&self, caller: &mut Caller, first: u32, mask: u64) -> Result<u32, TagFault> {
         match caller {
-            Caller::Bare(hand) => self.tags.clear_mask(hand, first, mask),
+            Caller::Bare(hand) => self.tags.clear_mask::<Ring>(hand, first, mask),
             Caller::Cached(cache) => cache.clear_mask(&self.tags, first, mask),
         }
     }

@@ -22,7 +22,7 @@ use std::sync::Wait;
 use step_ledger::{GatherCause, Numbered};
 use tag_queue::{Agent, Queue, QueueFault, QueueTotals, ResizeCause, Wakes};
 use tag_sets::{Kind, Shown, TagFault};
-use wake_book::Left;
+use wake_book::{Left, Ring};
 
 impl TagAllocator for Queue<u64> {
     type Caller = Agent<u64>;
@@ -66,7 +66,7 @@ impl TagAllocator for Queue<u64> {
     }
 
     fn clear(&self, agent: &mut Agent<u64>, tag: u32) -> Result<u32, TagFault> {
-        Ok(Queue::clear(self, agent, tag)?)
+        Ok(Queue::clear::<Ring>(self, agent, tag)?)
     }
 
     fn clear_uncounted(&self, agent: &mut Agent<u64>, tag: u32) -> Result<u32, TagFault> {
@@ -75,11 +75,11 @@ impl TagAllocator for Queue<u64> {
     }
 
     fn clear_batch(&self, agent: &mut Agent<u64>, tags: &[u32]) -> Result<u32, TagFault> {
-        Ok(Queue::clear_batch(self, agent, tags)?)
+        Ok(Queue::clear_batch::<Ring>(self, agent, tags)?)
     }
 
     fn clear_mask(&self, agent: &mut Agent<u64>, first: u32, mask: u64) -> Result<u32, TagFault> {
-        Ok(Queue::clear_mask(self, agent, first, mask)?)
+        Ok(Queue::clear_mask::<Ring>(self, agent, first, mask)?)
     }
 
     fn read(&self, agent: &mut Agent<u64>, tag: u32) -> Result<u64, TagFault> {

@@ -22,7 +22,7 @@ use std::sync::Wait;
 use std::test::Fail;
 use step_ledger::{GatherCause, Numbered};
 use tag_queue::{QueueTotals, ResizeCause, Wakes};
-use tag_sets::{Hand, Kind, Shown, TagFault, Tags};
+use tag_sets::{Hand, Kind, Ring, Shown, TagFault, Tags};
 use wake_book::Left;
 
 /// The most tags of both sets.
@@ -113,19 +113,19 @@ impl TagAllocator for Sets {
     }
 
     fn clear(&self, hand: &mut Hand<u64>, tag: u32) -> Result<u32, TagFault> {
-        self.tags.clear(hand, tag)
+        self.tags.clear::<Ring>(hand, tag)
     }
 
     fn clear_uncounted(&self, hand: &mut Hand<u64>, tag: u32) -> Result<u32, TagFault> {
-        self.tags.clear(hand, tag)
+        self.tags.clear::<Ring>(hand, tag)
     }
 
     fn clear_batch(&self, hand: &mut Hand<u64>, tags: &[u32]) -> Result<u32, TagFault> {
-        self.tags.clear_batch(hand, tags)
+        self.tags.clear_batch::<Ring>(hand, tags)
     }
 
     fn clear_mask(&self, hand: &mut Hand<u64>, first: u32, mask: u64) -> Result<u32, TagFault> {
-        self.tags.clear_mask(hand, first, mask)
+        self.tags.clear_mask::<Ring>(hand, first, mask)
     }
 
     fn read(&self, hand: &mut Hand<u64>, tag: u32) -> Result<u64, TagFault> {

@@ -6,6 +6,7 @@ use crate::tests::device::{SMALL, done, small_log};
 use loop_device::{Log, LogCause, OpenGate, PlayFault, Store, complete, play, verdict};
 use std::sync::Mutex;
 use std::test::Fail;
+use tag_sets::Ring;
 
 #[test]
 fn want_of_memory_is_told_of_a_log(rt: HostRuntime) {
@@ -52,7 +53,7 @@ fn want_of_memory_is_told_of_a_request(rt: HostRuntime) -> Result<(), Fail> {
         }
     }
     // The tag was cleared whatever became of its line.
-    assert!(rt; tags.clear(&mut hand, 0).is_err());
+    assert!(rt; tags.clear::<Ring>(&mut hand, 0).is_err());
     Ok(())
 }
 

@@ -9,7 +9,7 @@ use std::sync::Mutex;
 use std::sync::atomic::AtomicU64;
 use std::sync::atomic::Ordering::SeqCst;
 use std::test::Fail;
-use tag_sets::{Hand, Options, SetFault, Tags};
+use tag_sets::{Hand, Options, Ring, SetFault, Tags};
 
 /// Records the last line that was about to be carried out.
 #[derive(Drop)]
@@ -78,6 +78,6 @@ fn a_slot_without_an_io_line_is_spurious(rt: HostRuntime) -> Result<(), Fail> {
     assert_eq!(rt; gate.completed.load(SeqCst), 0);
     assert_eq!(rt; store.lock(&rt).history().len(), 0);
     // The tag was cleared, so it can't be cleared again.
-    assert!(rt; tags.clear(&mut hand, 0).is_err());
+    assert!(rt; tags.clear::<Ring>(&mut hand, 0).is_err());
     Ok(())
 }

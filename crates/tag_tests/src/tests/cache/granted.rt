@@ -10,7 +10,7 @@ use crate::tests::stage::Stage;
 use crate::tests::steps::Step::Calls;
 use crate::tests::totals::options;
 use std::test::Fail;
-use tag_sets::Grants;
+use tag_sets::{Grants, Report};
 use wake_book::Left as Leave;
 
 fn clear_granted(tags: &Mixed, caller: &mut Caller, tag: u32) -> Option<Grants>
@@ -18,7 +18,7 @@ fn clear_granted(tags: &Mixed, caller: &mut Caller, tag: u32) -> Option<Grants>
     ensures { IsOwn tags.now.tags caller.new }
 {
     match caller {
-        Caller::Bare(hand) => tags.tags.clear_granted(hand, tag).ok(),
+        Caller::Bare(hand) => tags.tags.clear::<Report>(hand, tag).ok(),
         Caller::Cached(cache) => cache.clear_granted(&tags.tags, tag).ok(),
     }
 }

@@ -2,6 +2,7 @@
 use crate::tests::totals::options;
 use std::test::Fail;
 use tag_queue::Queue;
+use wake_book::Ring;
 
 #[test]
 fn the_first_example(rt: HostRuntime) -> Result<(), Fail> {
@@ -15,7 +16,7 @@ fn the_first_example(rt: HostRuntime) -> Result<(), Fail> {
     if let Some(tag) = queue.get(&mut agent)? {
         queue.write(&mut agent, tag, request)?;
         assert_eq!(rt; (tag, queue.read(&mut agent, tag)?), (0, request));
-        let woken = queue.clear(&mut agent, tag)?;
+        let woken = queue.clear::<Ring>(&mut agent, tag)?;
         assert_eq!(rt; woken, 0);
         return Ok(());
     }

@@ -1,6 +1,6 @@
 //! The first example of the README and of docs/USING_RATTLE.md.
 use std::test::Fail;
-use tag_sets::{Options, Tags};
+use tag_sets::{Options, Ring, Tags};
 
 #[test]
 fn the_first_example(rt: HostRuntime) -> Result<(), Fail> {
@@ -15,7 +15,7 @@ fn the_first_example(rt: HostRuntime) -> Result<(), Fail> {
     if let Some(tag) = tags.get(&mut hand)? {
         tags.write(&mut hand, tag, request)?;
         assert_eq!(rt; (tag, tags.read(&mut hand, tag)?), (2, request));
-        let woken = tags.clear(&mut hand, tag)?;
+        let woken = tags.clear::<Ring>(&mut hand, tag)?;
         assert_eq!(rt; woken, 0);
         return Ok(());
     }

@@ -8,7 +8,7 @@ use std::sync::Wait;
 use std::test::Fail;
 use step_ledger::GatherCause;
 use tag_model::Totals;
-use tag_sets::{Hand, Kind, Left, Options, Shown, TagFault, Tags};
+use tag_sets::{Hand, Kind, Left, Options, Ring, Shown, TagFault, Tags};
 
 /// Gets an ordinary tag, which the hand then holds.
 fn win(tags: &Tags<u64>, hand: &mut Hand<u64>) -> Result<u32, Fail>
@@ -51,7 +51,7 @@ fn wait_for_clear<W: Wait>(
     ensures { IsHandOf tags.now waiting.new × IsHandOf tags.now hand.new }
 {
     tags.prepare_wait(waiting)?;
-    tags.clear(hand, tag)?;
+    tags.clear::<Ring>(hand, tag)?;
     tags.finish_wait(rt, waiting)
 }
 
@@ -78,7 +78,7 @@ fn a_batch_is_won_and_cleared(rt: HostRuntime) -> Result<(), Fail> {
     let (tags, mut hands) = Tags::open(rt.alloc(), 10, 2, words_of_eight, 0u64)?;
     let mut hand = next_hand(&tags, &mut hands)?;
     assert_eq!(rt; tags.get_batch(&mut hand, 5)?, Some((2, 31)));
-    assert_eq!(rt; tags.clear_batch(&mut hand, &[3, 5])?, 0);
+    assert_eq!(rt; tags.clear_batch::<Ring>(&mut hand, &[3, 5])?, 0);
     assert_eq!(rt; tags.get_batch(&mut hand, 3)?, Some((3, 5)));
     Ok(())
 }
@@ -92,7 +92,7 @@ fn a_pool_is_shown_and_closed(rt: HostRuntime) -> Result<(), Fail> {
     let (tags, mut hands) = Tags::open(rt.alloc(), 8, 0, words_of_four, 0u64)?;
     let mut hand = next_hand(&tags, &mut hands)?;
     tags.get_batch(&mut hand, 3)?;
-    tags.clear(&mut hand, 1)?;
+    tags.clear::<Ring>(&mut hand, 1)?;
     let shown = tags.show(&mut hand, Kind::Ordinary);
     let sums = Shown {
         depth: 8,

@@ -1,6 +1,8 @@
 -- The tag's number in its set is unique, so the put of the agent there is the clear of this tag alone.
 use Rattle.std.proofs.Common.{refl}
+use Rattle.tag_queue.proofs.Granted.{none_granted}
 use Rattle.tag_sets.specs.declared.kind.Kind.TheVariants.{Ordinary, Reserved}
+use Rattle.tag_sets.specs.Hands.{group_steps, waiter_of}
 use Rattle.tag_sets.proofs.Passing.{placed, clears_at}
 use Rattle.tag_sets.proofs.tags.Tags.clear.Goals as goal
 
@@ -18,3 +20,7 @@ returns-in_ok-clear_uncounted-in-Reserved-clause-clears g c = let hand = c.args.
     c.of-kind.ensures.kind c.of-kind.ensures.number in
     clears_at hand new Reserved _ c.args.tag at refl refl c.args.self.now
     c.in_ok-clear_uncounted-in-Reserved.ensures.puts
+
+pub returns-in_ok-clear_uncounted-in-Reserved-clause-tells : goal.returns-in_ok-clear_uncounted-in-Reserved-clause-tells
+returns-in_ok-clear_uncounted-in-Reserved-clause-tells g c = let waiter = waiter_of c.args.hand.now in
+    c.nobody.ensures.tells waiter waiter (none_granted (group_steps c.args.hand.now))

@@ -1,6 +1,8 @@
 -- The tag's number in its set is unique, so the put of the agent there is the clear of this tag alone.
 use Rattle.std.proofs.Common.{refl}
+use Rattle.tag_queue.proofs.Granted.{none_granted}
 use Rattle.tag_sets.specs.declared.kind.Kind.TheVariants.{Ordinary, Reserved}
+use Rattle.tag_sets.specs.Hands.{group_steps, waiter_of}
 use Rattle.tag_sets.proofs.Passing.{placed, clears_at}
 use Rattle.tag_sets.proofs.tags.Tags.clear_held.Goals as goal
 
@@ -17,3 +19,7 @@ returns-in-Ok-clause-clears g c = let hand = c.args.hand.now in
     let at = placed c.args.self.now hand c.args.tag c.of-kind.result Reserved c.requires.hand c.in-Reserved.is
     c.of-kind.ensures.kind c.of-kind.ensures.number in
     clears_at hand new Reserved _ c.args.tag at refl refl c.args.self.now c.in-Ok.ensures.puts
+
+pub returns-in-Ok-clause-tells : goal.returns-in-Ok-clause-tells
+returns-in-Ok-clause-tells g c = let waiter = waiter_of c.args.hand.now in
+    c.nobody.ensures.tells waiter waiter (none_granted (group_steps c.args.hand.now))

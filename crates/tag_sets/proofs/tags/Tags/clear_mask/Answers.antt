@@ -1,76 +1,23 @@
--- The mask's numbers correspond one to one to its tags, so what the ordinary set answers for them holds of the tags.
-use Rattle.std.proofs.Common.{arith, ℕ, ◌≤◌, refl, sym, ◌∙◌}
-use Rattle.std.proofs.lemmas.Result.{on_ok_weaker}
-use Rattle.tag_queue.specs.Masks.{tags_in}
-use Rattle.tag_queue.specs.declared.fault.QueueFault.TheVariants.{BadCount}
-use Rattle.tag_queue.proofs.MaskHolds.{none_in_zero}
-use Rattle.tag_sets.specs.Gets.{IsOrdinaryTag}
-use Rattle.tag_sets.specs.Hands.{Holds}
-use Rattle.tag_sets.proofs.Batching.{gives_back}
-use Rattle.tag_sets.proofs.Standing.{same_number}
-use Rattle.tag_sets.proofs.Told.{told_fault, told_on}
-use Rattle.tag_sets.proofs.MaskAnswers.{Refusals, refused, still_some}
-use Rattle.tag_sets.proofs.tags.Tags.clear_mask.Given as given
-use Rattle.tag_sets.proofs.tags.Tags.clear_mask.Goals.{After-map_err}
+-- It is refused exactly as the test, whose fault it passes on.
+use Rattle.std.proofs.Common.{rules, ◌≡◌, Err}
+use Rattle.tag_queue.proofs.PassedOn.{refused_alike}
+use Rattle.tag_sets.specs.declared.fault.TagFault.TheVariants.{NoSuchTag, NotHeld}
 use Rattle.tag_sets.proofs.tags.Tags.clear_mask.Goals as goal
 
-pub returns-then-mask-eq0-clause-no_such_tag : goal.returns-then-mask-eq0-clause-no_such_tag
-returns-then-mask-eq0-clause-no_such_tag g c = (
-  λ e. absurd (let z = e in cc),
-  λ n. absurd (n (none_in_zero c.args.first c.args.mask c.ranges.mask.fits c.if-mask-eq0.true
-      (IsOrdinaryTag c.args.self.now))),
-)
+pub returns-in_err-check_mask-clause-no_such_tag : goal.returns-in_err-check_mask-clause-no_such_tag
+returns-in_err-check_mask-clause-no_such_tag g c = let same : c.from_residual.result ≡ Err c.in_err-check_mask.field-0.0 = first_of (cc, search rules) in
+    refused_alike c.check_mask.result c.from_residual.result c.in_err-check_mask.field-0.0 NoSuchTag _ c.in_err-check_mask.was same
+    c.check_mask.ensures.no_such_tag
 
-pub returns-then-mask-eq0-clause-not_held : goal.returns-then-mask-eq0-clause-not_held
-returns-then-mask-eq0-clause-not_held g c = (
-  λ e. absurd (let z = e in cc),
-  λ n. absurd (n.1 (none_in_zero c.args.first c.args.mask c.ranges.mask.fits c.if-mask-eq0.true
-      (Holds c.args.hand.now))),
-)
-
--- the mask of the numbers is not 0 either
-some : (g : given.Over) (c : After-map_err g) → (1 ≤ c.args.mask) × (1 ≤ c.in-Some.mask)
-some g c = let whole : 1 ≤ c.args.mask = let ne = c.if-mask-eq0.false in omega arith in
-    (whole, still_some c.args.mask c.in-Some.mask c.ranges.mask.fits whole c.in-Some.ensures.ones)
-
-told : (g : given.Over) (c : After-map_err g) → Refusals c.args.self.now c.args.hand.now c.requires.hand
-    (tags_in c.args.first c.args.mask) (tags_in c.in-Some.first c.in-Some.mask) (c.in-Some.ensures.ordinary.0 refl)
-    c.in-Some.ensures.numbers.1 c.map_err.result
-told g c = let e = c.clear_mask.ensures in refused c.args.self.now c.args.hand.now c.requires.hand
-    (tags_in c.args.first c.args.mask) (tags_in c.in-Some.first c.in-Some.mask) (c.in-Some.ensures.ordinary.0 refl)
-    c.in-Some.ensures.numbers.1 c.clear_mask.result c.map_err.result c.map_err.ensures.cases (1 ≤ c.in-Some.mask)
-    (some g c).1 e.no_such_tag e.not_held e.succeeds
-
-pub returns-clause-bad_count : goal.returns-clause-bad_count
-returns-clause-bad_count g c = let s = some g c in let whole = s.0 in let part = s.1 in (
-  λ e. absurd (let zero = (told_fault c.clear_mask.result c.map_err.result c.map_err.ensures.cases BadCount _
-      c.clear_mask.ensures.bad_count).0 e in omega arith),
-  λ z. absurd (omega arith),
-)
+pub returns-in_err-check_mask-clause-not_held : goal.returns-in_err-check_mask-clause-not_held
+returns-in_err-check_mask-clause-not_held g c = let same : c.from_residual.result ≡ Err c.in_err-check_mask.field-0.0 = first_of (cc, search rules) in
+    refused_alike c.check_mask.result c.from_residual.result c.in_err-check_mask.field-0.0 NotHeld _ c.in_err-check_mask.was same
+    c.check_mask.ensures.not_held
 
 pub returns-clause-no_such_tag : goal.returns-clause-no_such_tag
-returns-clause-no_such_tag g c = (told g c).no_such_tag
+returns-clause-no_such_tag g c = let passed = c.in_ok-check_mask.ensures.succeeds.0 (search rules) in
+    (λ e. absurd (let never = e in cc), λ none. absurd (none passed.1))
 
 pub returns-clause-not_held : goal.returns-clause-not_held
-returns-clause-not_held g c = (told g c).not_held
-
-pub returns-clause-succeeds : goal.returns-clause-succeeds
-returns-clause-succeeds g c = let ok = (told g c).succeeds in (
-  λ t. let h = ok.0 t in ((some g c).0, h.0, h.1),
-  λ h. ok.1 (h.1, h.2),
-)
-
-pub returns-clause-gives : goal.returns-clause-gives
-returns-clause-gives g c = told_on c.clear_mask.result c.map_err.result c.map_err.ensures.cases _
-    (on_ok_weaker c.clear_mask.result (gives_back c.args.self.now c.args.hand.now c.requires.hand
-    (tags_in c.args.first c.args.mask) _ (c.in-Some.ensures.ordinary.0 refl) c.in-Some.ensures.numbers.1
-    c.clear_mask.new.agent) c.clear_mask.ensures.gives)
-
-pub returns-clause-hand : goal.returns-clause-hand
-returns-clause-hand g c = let e = c.clear_mask.ensures in let own = c.requires.hand in (
-  own.0,
-  e.agent,
-  own.2,
-  own.3 ∙ sym (same_number (λ (woken : ℕ). woken) c.args.self.now.ordinary _ _ _
-      c.clear_mask.result e.counts e.err),
-)
+returns-clause-not_held g c = let passed = c.in_ok-check_mask.ensures.succeeds.0 (search rules) in
+    (λ e. absurd (let never = e in cc), λ none. absurd (none.1 passed.2))

@@ -1,0 +1,69 @@
+-- Whom the steps of an agent granted a wakeup: a look at the active count grants none, and neither do steps on the map.
+use Rattle.std.proofs.Common.{arith, ◌≡◌, ℕ, ◌∷◌, List, slice_index, refl, sym, ap, ◌∙◌, subst}
+use Rattle.std.proofs.lemmas.List.{get_or-replicate}
+use Rattle.step_ledger.specs.History.{total}
+use Rattle.wake_book.specs.declared.book.Teller.{Teller}
+use Rattle.wake_book.specs.declared.grants.Grants.{Grants}
+use Rattle.wake_book.specs.declared.grants.TheConstants.{NO_GRANTS}
+use Rattle.wake_book.specs.declared.groups.Waiter.{Waiter}
+use Rattle.wake_book.specs.declared.steps.GroupStep.{GroupStep}
+use Rattle.wake_book.specs.declared.steps.GroupStep.TheVariants.{Look}
+use Rattle.wake_book.specs.Book.{steps_of}
+use Rattle.wake_book.specs.Charging.{IsCharge}
+use Rattle.wake_book.specs.Grants.{AreGrantsOf, granted_in}
+use Rattle.wake_book.specs.Groups.{StandsAsBefore}
+use Rattle.wake_book.specs.Waits.{active_at, moved_by}
+use Rattle.tag_queue.specs.declared.agent.Agent.{Agent}
+use Rattle.tag_queue.specs.declared.queue.Queue.{Queue}
+use Rattle.tag_queue.specs.Agents.{SameCounts, teller_of, waiter_of, book_steps, group_steps, batch_of, cap_of}
+use Rattle.tag_queue.specs.Clears.{ChargesNow, Follows}
+
+-- a look at the active count grants nobody a wakeup
+pub look_grants_none : (found : ℕ) (old new : List GroupStep) → new ≡ Look active_at found ∷ old
+    → AreGrantsOf NO_GRANTS old new
+look_grants_none found old new looked = let all = ap (total moved_by) looked in record {
+  each = λ group low. let none : slice_index NO_GRANTS.in_group group ≡ 0 = get_or-replicate 8 group 0 0 low in
+      let same = ap (total (granted_in group)) looked in
+      omega arith;
+  all = omega arith;
+  sum_is = refl;
+}
+
+-- no steps grant nobody a wakeup
+pub none_granted : (steps : List GroupStep) → AreGrantsOf NO_GRANTS steps steps
+none_granted steps = record {
+  each = λ group low. let none : slice_index NO_GRANTS.in_group group ≡ 0 = get_or-replicate 8 group 0 0 low in
+      omega arith;
+  all = omega arith;
+  sum_is = refl;
+}
+
+-- grants that were made after a moment are all since an earlier one, if nobody was granted a wakeup in between
+pub granted_since : (grants : Grants) (before old new : List GroupStep) → AreGrantsOf NO_GRANTS before old
+    → AreGrantsOf grants old new → AreGrantsOf grants before new
+granted_since grants before old new none made = let all = made.all in let still = none.all in record {
+  each = λ group low. let zero : slice_index NO_GRANTS.in_group group ≡ 0 = get_or-replicate 8 group 0 0 low in
+      let same = none.each group low in let is = made.each group low in omega arith;
+  all = omega arith;
+  sum_is = made.sum_is;
+}
+
+module _ {R : Type 0} where
+  -- what holds of the waiter after steps on the map alone holds of it before them
+  pub told_after : (told : Waiter → Type 0) (old new : Agent R) → SameCounts old new → told (waiter_of new)
+      → told (waiter_of old)
+  told_after told old new same = subst told same.1
+
+  -- a charge is as lawful as it was once its grants are passed on, by no step
+  pub charges_told : (queue : Queue R) (n : ℕ) (old mid new : Agent R) (woken told : ℕ) → told ≡ woken
+      → ChargesNow queue n old mid woken → group_steps new ≡ group_steps mid
+      → StandsAsBefore (waiter_of mid) (waiter_of new) → teller_of new ≡ teller_of mid → ChargesNow queue n old new told
+  charges_told queue n old mid new woken told same c steps stands teller = subst (ChargesNow queue n old new) (sym same)
+      (record {
+        charge = c.charge;
+        lawful = subst (λ (t : Teller). IsCharge (cap_of queue) (batch_of queue) n (book_steps old) (steps_of t) c.charge)
+            (sym teller) c.lawful;
+        follows = subst (λ (s : List GroupStep). Follows (batch_of queue) c.charge (group_steps old) s woken)
+            (sym steps) c.follows;
+        stands = (stands.0 ∙ c.stands.0, stands.1 ∙ c.stands.1, stands.2 ∙ c.stands.2);
+      })
