@@ -94,7 +94,7 @@ module _ (R : Type 0) (k : Shape) (narrow : k.layout.shift ≤ 6) (s : State R (
             (tag_mask_within k.layout u lu));
         tags = λ t l. let tag = sh.tags t l in
             let q : Place = now_world.place t in
-            reshow r.number q _ _ _ _ _ _ _ _ _ _ _ _
+            reshow
             (puts r.number q (only t u) (only_small k narrow t u) (held_tag u t has lu))
             (pick_only t u aside q ∙ ap (λ (z : ℕ). cond (nat_eq t z) aside q) (sym (tag_named k narrow u))) tag.word
             ((λ z. max (tag.aside z) (only_among k narrow u t z))
@@ -118,7 +118,7 @@ module _ (R : Type 0) (k : Shape) (narrow : k.layout.shift ≤ 6) (s : State R (
     cells = state_cells R k narrow s sh r ok u 1 lu;
     tags = λ t l. let tag = sh.tags t l in
         let q : Place = now_world.place t in
-        reshow r.number q _ _ _ _ _ _ _ _ _ _ _ _
+        reshow
         (posts r.number q (only t u) (only_small k narrow t u) (held_tag u t has lu))
         (pick_only t u posted q) tag.word tag.aside
         (dite (ℕ_discrete t u) (λ e. let one : only t u ≡ 1 = ap one_if (eq-eqb t u e) in let small = posted_small q in
@@ -149,7 +149,7 @@ module _ (R : Type 0) (k : Shape) (narrow : k.layout.shift ≤ 6) (s : State R (
         };
         cells = state_cells R k narrow s sh r ok u 0 lu;
         tags = λ t l. let tag = sh.tags t l in let q : Place = now_world.place t in
-            reshow r.number q _ _ _ _ _ _ _ _ _ _ _ _
+            reshow
             (takes r.number q (only t u) (only_small k narrow t u)
             (λ a. subst (λ (z : ℕ). now_world.place z ≡ posted) (sym (only_is k narrow t u a)) its))
             (pick_only t u (held r.number) q) tag.word tag.aside
@@ -181,7 +181,7 @@ module _ (R : Type 0) (k : Shape) (narrow : k.layout.shift ≤ 6) (s : State R (
         cells = aside_cells R k narrow s sh r ok i 0 0 inside refl (pow_pos (word_depth k.layout i));
         tags = λ t l. let tag = sh.tags t l in let q : Place = now_world.place t in
             let b : ℕ = t % 2 ^ k.layout.shift in
-            reshow r.number q _ _ _ _ _ _ _ _ _ _ _ _
+            reshow
             (gathers r.number q (only (t / 2 ^ k.layout.shift) i) (in_small k narrow t i))
             (pick_swept (t / 2 ^ k.layout.shift) i r.number q) tag.word
             (none_left k narrow now_cells.words.aside i t (aside_bit q) (aside_small q) tag.aside)
@@ -229,7 +229,7 @@ module _ (R : Type 0) (k : Shape) (narrow : k.layout.shift ≤ 6) (s : State R (
               (let a = minus_le (now_cells.words.word i) mask in let b = sh.cells.word_within i inside in omega arith);
           tags = λ t l. let tag = sh.tags t l in let q : Place = now_world.place t in
               let c : ℕ = r.number in
-              reshow c q _ _ _ _ _ _ _ _ _ _ _ _ (spills c q (only (t / 2 ^ k.layout.shift) i) (in_small k narrow t i))
+              reshow (spills c q (only (t / 2 ^ k.layout.shift) i) (in_small k narrow t i))
               (pick_spilled (t / 2 ^ k.layout.shift) i c q)
               ((λ z. min (tag.word z)
               (1 - among_as k narrow i mask t (sweep_bit c q) (sweep_small c q)
