@@ -66,45 +66,10 @@ by_index g (m ∷ ms) =
     let rest = by_index g ms in
     let s = sum_below-first (λ i. g (get_or (m ∷ ms) i 0)) (length ms) in omega arith
 
--- who may hold a tag after a change
-came : (b : Bool) (p q : Place) (d : ℕ) → cond b p q ≡ held d → (q ≡ held d) ⊎ (p ≡ held d)
-came true p q d e = inr e
-came false p q d e = inl e
-
-swept_held : (c d : ℕ) (q : Place) → swept_by c q ≡ held d → q ≡ held d
-swept_held c d free e = absurd cc
-swept_held c d (held a) e = e
-swept_held c d posted e = absurd cc
-swept_held c d aside e = absurd cc
-swept_held c d (sweep a) e = absurd cc
-
-spilled_held : (c d : ℕ) (q : Place) → spilled_by c q ≡ held d → q ≡ held d
-spilled_held c d free e = absurd cc
-spilled_held c d (held a) e = e
-spilled_held c d posted e = absurd cc
-spilled_held c d aside e = absurd cc
-spilled_held c d (sweep a) e = ⊎_elim (λ z. z) (λ (z : free ≡ held d). absurd cc) (came (a == c) free (sweep a) d e)
-
-same_holder : (c d n : ℕ) → c < n → held c ≡ held d → d < n
-same_holder c d n h e = let z : c ≡ d = cc in omega arith
-
 module _ (k : Shape) where
   known_after : (e : Event) (q : Place) (t d : ℕ) → caller_of e < k.callers → place_after k.layout e t q ≡ held d
       → (q ≡ held d) ⊎ (d < k.callers)
-  known_after event.Look q t d h e = inl e
-  known_after (event.Win c i m) q t d h e =
-      ⊎_elim inl (λ (z : held c ≡ held d). inr (same_holder c d k.callers h z))
-      (came (is_in_mask k.layout i m t) (held c) q d e)
-  known_after (event.Put c u) q t d h e = ⊎_elim inl (λ (z : aside ≡ held d). absurd cc) (came (t == u) aside q d e)
-  known_after (event.Give c i m) q t d h e =
-      ⊎_elim inl (λ (z : free ≡ held d). absurd cc) (came (is_in_mask k.layout i m t) free q d e)
-  known_after (event.Sweep c i) q t d h e =
-      ⊎_elim inl (λ z. inl (swept_held c d q z)) (came (word_of k.layout t == i) (swept_by c q) q d e)
-  known_after (event.Spill c i) q t d h e =
-      ⊎_elim inl (λ z. inl (spilled_held c d q z)) (came (word_of k.layout t == i) (spilled_by c q) q d e)
-  known_after (event.Post c u) q t d h e = ⊎_elim inl (λ (z : posted ≡ held d). absurd cc) (came (t == u) posted q d e)
-  known_after (event.Take c u) q t d h e =
-      ⊎_elim inl (λ (z : held c ≡ held d). inr (same_holder c d k.callers h z)) (came (t == u) (held c) q d e)
+  known_after e q t d h is = grind arith
 
   known : (h : List Event) (w : World) → ((t d : ℕ) → w.place t ≡ held d → d < k.callers)
       → IsHistory k.layout k.callers w h → (t d : ℕ) → (after_history k.layout h w).place t ≡ held d → d < k.callers
@@ -194,11 +159,7 @@ module _ (k : Shape) where
           sh.lawful.happens t d e))
 
     zero_or_one : (q : Place) → one_if (nat_eq (posted_bit q) 1) ≡ one_if (is_posted q)
-    zero_or_one free = refl
-    zero_or_one (held c) = refl
-    zero_or_one posted = refl
-    zero_or_one aside = refl
-    zero_or_one (sweep c) = refl
+    zero_or_one q = grind arith
 
     -- the states that are 1
     pub posted_all : sum_below

@@ -54,16 +54,14 @@ same_homes R k s homes' sh same id i v at =
 module _ (f : ℕ → ℕ) (u : ℕ) where
   -- the bit left out
   pub but_here : but f u u ≡ 0
-  but_here = ap (λ (b : Bool). cond b 0 (f u)) (eq-eqb u u refl)
+  but_here = grind (arith, eq-eqb)
 
   -- every other bit
   pub but_else : (t : ℕ) → t ≢ u → but f u t ≡ f t
-  but_else t n = ap (λ (b : Bool). cond b 0 (f t)) (ne_eqb t u n)
+  but_else t n = grind (arith, ne_eqb)
 
   but_one : (t : ℕ) → but f u t ≡ 1 → (t ≢ u) × (f t ≡ 1)
-  but_one t e = dite (ℕ_discrete t u)
-      (λ (same : t ≡ u). let none_there : but f u t ≡ 0 = ap (but f u) same ∙ but_here in absurd (omega arith))
-      (λ (ne : t ≢ u). (ne, sym (but_else t ne) ∙ e))
+  but_one t e = grind arith
 
 module _ (R : Type 0) (n : ℕ) (f : ℕ → ℕ) (u : ℕ) (lu : u < n) (has : f u ≡ 1) (hs : List (maybe.Option R))
     (deep : length hs ≡ n) (out : (t : ℕ) → t < n → f t ≡ 1 → get_elem? hs t ≡ some none) where

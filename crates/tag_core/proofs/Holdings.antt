@@ -35,21 +35,13 @@ named_below l i m t within e one = let b : ℕ = place_of l t in
 -- a tag that such a mask names is one of the map's
 pub named_in : (k : Shape) → k.layout.shift ≤ 6 → (i m t : ℕ) → IsWithin k.layout i m → IsInMask k.layout i m t
     → t < k.layout.depth
-named_in k narrow i m t within named = let one = among_one k.layout i m t named in
-    dite (ℕ_discrete (t / 2 ^ k.layout.shift) i)
-    (λ (e : t / 2 ^ k.layout.shift ≡ i). named_below k.layout i m t within e (among_here k narrow i m t e ∙ one))
-    (λ (n : t / 2 ^ k.layout.shift ≢ i). let none = among_else k narrow i m t n in absurd (omega arith))
+named_in k narrow i m t within named = grind (arith, among_one, among_here, among_else, named_below)
 
 -- what a claim wins it did not find taken
 pub not_found : (k : Shape) → k.layout.shift ≤ 6 → (i m found t : ℕ) → found < 2 ^ 64
     → IsInMask k.layout i (without m found) t
     → (word_of k.layout t ≡ i → bit_at found (place_of k.layout t) ≡ 1) → ⊥
-not_found k narrow i m found t fits named taken = let one = among_one k.layout i (without m found) t named in
-    dite (ℕ_discrete (t / 2 ^ k.layout.shift) i)
-    (λ (e : t / 2 ^ k.layout.shift ≡ i). let b =
-    bit_minus m found (t % 2 ^ k.layout.shift) fits (place_small k narrow t) in
-    let a = among_here k narrow i (without m found) t e in let f = taken e in omega arith)
-    (λ (n : t / 2 ^ k.layout.shift ≢ i). let none = among_else k narrow i (without m found) t n in omega arith)
+not_found k narrow i m found t fits named taken = grind (arith, among_one, among_here, among_else, bit_minus, place_small)
 
 -- a mask of one tag names that tag alone
 module _ (k : Shape) (narrow : k.layout.shift ≤ 6) (u : ℕ) where

@@ -12,12 +12,7 @@ use Rattle.tag_core.specs.Steps.{without}
 
 -- a bit is 0 or 1
 pub bit_cases : (n b : ℕ) → (bit_at n b ≡ 0) ⊎ (bit_at n b ≡ 1)
-bit_cases n b = cases (bit_at n b) (bit_at-lt n b)
-  where
-    cases : (x : ℕ) → x < 2 → (x ≡ 0) ⊎ (x ≡ 1)
-    cases zero h = inl refl
-    cases (suc zero) h = inr refl
-    cases (suc (suc x)) h = absurd (omega arith)
+bit_cases n b = grind (arith, bit_at-lt)
 
 -- a clear bit is set by adding it
 pub add_bit : (n b : ℕ) → bit_at n b ≡ 0 → bit_or n (2 ^ b) < 2 ^ 64 → (n + 2 ^ b) % 2 ^ 64 ≡ bit_or n (2 ^ b)

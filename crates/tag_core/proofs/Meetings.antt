@@ -19,9 +19,7 @@ use Rattle.tag_core.proofs.Turns.{held_from}
 
 -- one place has one holder
 one_holder : (place : Place) (a b : ℕ) → a ≢ b → held_bit a place ≡ 1 → held_bit b place ≢ 1
-one_holder place a b differ held_by_a held_by_b =
-    let at_b : one_if (nat_eq b a) ≡ 1 = ap (held_bit a) (sym (held_from b place held_by_b)) ∙ held_by_a in
-    let at_none : one_if (nat_eq b a) ≡ 0 = ap one_if (ne_eqb b a (λ same. differ (sym same))) in absurd (omega arith)
+one_holder place a b differ held_by_a held_by_b = grind (arith, ne_eqb)
 
 module _ {R : Type 0} (k : Shape) (s : State R (View R)) (sh : Shown k s) (id : ℕ) (first second : Record R)
     (at : get_elem? s.views id ≡ some (viewing (first ∷ second ∷ []))) where

@@ -49,19 +49,11 @@ holder (sweep c) = inr (λ d e. cc)
 module _ (R : Type 0) (home : maybe.Option (maybe.Option R)) where
   -- the slot of a tag that nobody holds is at home
   pub home_of : (q : Place) → SlotIs home q → ((d : ℕ) → q ≢ held d) → (y : R) × (home ≡ some (some y))
-  home_of free o n = o
-  home_of (held d) o n = absurd (n d refl)
-  home_of posted o n = o
-  home_of aside o n = o
-  home_of (sweep c) o n = o
+  home_of q o n = grind arith
 
   -- a slot at home is where it belongs when nobody holds the tag
   pub slot_some : (q : Place) → ((d : ℕ) → q ≢ held d) → (y : R) × (home ≡ some (some y)) → SlotIs home q
-  slot_some free n o = o
-  slot_some (held d) n o = absurd (n d refl)
-  slot_some posted n o = o
-  slot_some aside n o = o
-  slot_some (sweep c) n o = o
+  slot_some q n o = grind arith
 
 -- a map that opens is in balance
 pub opening_even : (k : Shape) → IsOpening k

@@ -204,11 +204,7 @@ module _ (R : Type 0) (k : Shape) (narrow : k.layout.shift ≤ 6) (s : State R (
       ∙ swept_word r.number (now_world.place t) mine
     where
       swept_word : (c : ℕ) (q : Place) → sweep_bit c q ≡ 1 → word_bit q ≡ 1
-      swept_word c free e = absurd (omega arith)
-      swept_word c (held d) e = refl
-      swept_word c posted e = refl
-      swept_word c aside e = refl
-      swept_word c (sweep d) e = refl
+      swept_word c q e = grind arith
 
   module _ (i : ℕ) (inside : i < words k.layout) (fits : get_or r.swept i 0 < 2 ^ 64) where
     abbrev mask : ℕ

@@ -30,12 +30,10 @@ abbrev pub placed : Layout → Event → (ℕ → Place) → ℕ → Place
 placed l e p t = place_after l e t (p t)
 
 by_bool : (b : Bool) (q p : Place) → pick (one_if b) q p ≡ cond b q p
-by_bool true q p = refl
-by_bool false q p = refl
+by_bool b q p = grind arith
 
 one_in : (b : Bool) (x : ℕ) → x < 2 → cond b x 0 ≡ one_if (b && (x == 1))
-one_in true x h = sym (one_if-bit x h)
-one_in false x h = refl
+one_in b x h = grind (arith, one_if-bit)
 
 -- the tag's bit in a mask is 1 where the mask names the tag
 pub among_named : (l : Layout) (word mask tag : ℕ) → among l.shift word mask tag ≡ one_if (is_in_mask l word mask tag)
@@ -46,8 +44,7 @@ is_one : (b : Bool) → IsTrue b → one_if b ≡ 1
 is_one b h = ap one_if h
 
 one_is : (b : Bool) → one_if b ≡ 1 → IsTrue b
-one_is true e = refl
-one_is false e = absurd (omega arith)
+one_is b e = grind arith
 
 -- a tag that the mask names has its bit
 pub among_one : (l : Layout) (word mask tag : ℕ) → IsTrue (is_in_mask l word mask tag) → among l.shift word mask tag ≡ 1
@@ -72,18 +69,10 @@ pub pick_only : (t u : ℕ) (q p : Place) → pick (only t u) q p ≡ cond (t ==
 pick_only t u q p = by_bool (nat_eq t u) q p
 
 swept : (c : ℕ) (p : Place) → pick (aside_bit p) (sweep c) p ≡ swept_by c p
-swept c free = refl
-swept c (held d) = refl
-swept c posted = refl
-swept c aside = refl
-swept c (sweep d) = refl
+swept c p = grind arith
 
 spilled : (c : ℕ) (p : Place) → pick (sweep_bit c p) free p ≡ spilled_by c p
-spilled c free = refl
-spilled c (held d) = refl
-spilled c posted = refl
-spilled c aside = refl
-spilled c (sweep d) = by_bool (nat_eq d c) free (sweep d)
+spilled c p = grind (arith, by_bool)
 
 -- a choice by the bits of a sweep
 pub pick_swept : (t u c : ℕ) (p : Place) → pick (only t u) (pick (aside_bit p) (sweep c) p) p

@@ -62,11 +62,7 @@ some_width l = omega arith
 pub set_spread : (ws : List ℕ) (at g : ℕ → ℕ) (n i x : ℕ) → ((a b : ℕ) → at a ≡ at b → a ≡ b) → at i < length ws
     → ((j : ℕ) → j < n → get_or ws (at j) 0 ≡ g j)
     → (j : ℕ) → j < n → get_or (set ws (at i) x) (at j) 0 ≡ changed_at g i x j
-set_spread ws at g n i x one inside same j l = dite (ℕ_discrete j i)
-    (λ e. ap (λ (z : ℕ). get_or (set ws (at i) x) (at z) 0) e ∙ get_or-set_same ws (at i) x 0 inside
-    ∙ ap (λ (b : Bool). cond b x (g j)) (sym (eq-eqb j i e)))
-    (λ ne. get_or-set_other ws (at i) (at j) x 0 (λ e. ne (one j i e)) ∙ same j l
-    ∙ ap (λ (b : Bool). cond b x (g j)) (sym (ne_eqb j i ne)))
+set_spread ws at g n i x one inside same j l = grind (arith, get_or-set_same, get_or-set_other)
 
 -- a tag is known by its word and its place there
 pub same_tag : (l : Layout) (t u : ℕ) → word_of l t ≡ word_of l u → place_of l t ≡ place_of l u → t ≡ u

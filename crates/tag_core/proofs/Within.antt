@@ -21,19 +21,11 @@ module _ (l : Layout) where
 
   set_within : (m : List ℕ) (i x : ℕ) → length m ≡ words l → AllWithin m → (i < words l → x < 2 ^ word_depth l i)
       → AllWithin (set m i x)
-  set_within m i x long fits new j h = dite (ℕ_discrete j i)
-      (λ e. subst (λ (z : ℕ). get_or (set m i x) z 0 < 2 ^ word_depth l z) (sym e)
-      (let low : i < words l = subst (λ (z : ℕ). z < words l) e h in
-      subst (λ (z : ℕ). z < 2 ^ word_depth l i)
-      (sym (get_or-set_same m i x 0 (subst (λ (z : ℕ). i < z) (sym long) low)))
-      (new low)))
-      (λ n. subst (λ (z : ℕ). z < 2 ^ word_depth l j) (sym (get_or-set_other m i j x 0 n)) (fits j h))
+  set_within m i x long fits new j h = grind (arith, get_or-set_same, get_or-set_other)
 
   parted_within : (m : List ℕ) (i x : ℕ) → length m ≡ words l → AllWithin m
       → AllWithin (set m i (without (get_or m i 0) x))
-  parted_within m i x long fits =
-      set_within m i (without (get_or m i 0) x) long fits
-      (λ h. let a = minus_le (get_or m i 0) x in let b = fits i h in omega arith)
+  parted_within m i x long fits = set_within m i (without (get_or m i 0) x) long fits (λ h. grind (arith, minus_le))
 
   -- a step leaves the held masks within the layout
   pub held_within : {R : Type 0} (c : ℕ) (st : Step R) → IsInLayout l (event_of l c st) → (m : List ℕ)
