@@ -24,11 +24,11 @@ module _ {R : Type 0} (l : Layout) (c : ℕ) where
 
   -- a step heads its caller's own list
   pub steps_here : (st : Step R) (h : History R) → steps_by c ((c, st) ∷ h) ≡ st ∷ steps_by c h
-  steps_here st h = ap (λ (b : Bool). cond b (st ∷ steps_by c h) (steps_by c h)) (eq-eqb c c refl)
+  steps_here st h = grind (arith, eq-eqb)
 
   -- a step stands in no other caller's list
   pub steps_else : (a : ℕ) (st : Step R) (h : History R) → a ≢ c → steps_by a ((c, st) ∷ h) ≡ steps_by a h
-  steps_else a st h n = ap (λ (b : Bool). cond b (st ∷ steps_by a h) (steps_by a h)) (ne_eqb c a (λ e. n (sym e)))
+  steps_else a st h n = grind (arith, ne_eqb)
 
   -- a step leaves the number of held masks
   pub held_long : (st : Step R) (m : List ℕ) → length (held_after l st m) ≡ length m
