@@ -36,29 +36,28 @@ use Rattle.tag_core.proofs.Picks.{among, among_named}
 -- numbers that are all different are no more than there are
 few_numbers : (num pos : ℕ → ℕ) (len m : ℕ) → ((n : ℕ) → n < len → (num n < m) × (pos (num n) ≡ n)) → len ≤ m
 few_numbers num pos len m one =
-    let F : ℕ → ℕ → ℕ = λ c n. cond (nat_eq (num n) c) 1 0 in
-    let hit : (c n : ℕ) → num n ≡ c → F c n ≡ 1 = (λ c n e. ap (λ (b : Bool). cond b 1 0) (eq-eqb (num n) c e)) in
-    let miss : (c n : ℕ) → num n ≢ c → F c n ≡ 0 = (λ c n e. ap (λ (b : Bool). cond b 1 0) (ne_eqb (num n) c e)) in
-    let whole = sum_below-same (λ n. 1) (λ n. sum_below (λ c. F c n) m) len
-    (λ n l. sym (sum_below-only (λ c. F c n) m (num n) (one n l).0 (λ c lc ne. miss c n (λ z. ne (sym z)))
-    ∙ hit (num n) n refl)) in
-    let turned = sum_below-swap F len m in
-    let less = sum_below-le (λ c. sum_below (F c) len) (λ c. 1) m (λ c lc. at_most c) in
+    let hits : ℕ → ℕ → ℕ = λ c n. one_if (nat_eq (num n) c) in
+    let whole = sum_below-same (λ n. 1) (λ n. sum_below (λ c. hits c n) m) len
+    (λ n l. sym (sum_below-only (λ c. hits c n) m (num n) (one n l).0
+    (λ c lc ne. ap one_if (ne_eqb (num n) c (λ z. ne (sym z)))) ∙ ap one_if (eq-eqb (num n) (num n) refl))) in
+    let turned = sum_below-swap hits len m in
+    let less = sum_below-le (λ c. sum_below (hits c) len) (λ c. 1) m (λ c lc. at_most c) in
     let left = ones len in let right = ones m in omega arith
   where
     ones : (n : ℕ) → sum_below (λ i. 1) n ≡ n
     ones zero = refl
     ones (suc n) = let before = ones n in omega arith
 
-    at_most : (c : ℕ) → sum_below (λ n. cond (nat_eq (num n) c) 1 0) len ≤ 1
+    -- what has the number c is at its place alone
+    elsewhere : (c n : ℕ) → n < len → n ≢ pos c → one_if (nat_eq (num n) c) ≡ 0
+    elsewhere c n l ne = grind (arith, ne_eqb, one n l)
+
+    at_most : (c : ℕ) → sum_below (λ n. one_if (nat_eq (num n) c)) len ≤ 1
     at_most c = let p : ℕ = pos c in dite (dec_lt p len)
-        (λ (low : p < len). let only = sum_below-only (λ n. cond (nat_eq (num n) c) 1 0) len p low
-        (λ n l ne. ap (λ (b : Bool). cond b 1 0) (ne_eqb (num n) c (λ z. ne (sym (one n l).1 ∙ ap pos z)))) in
+        (λ (low : p < len). let only = sum_below-only (λ n. one_if (nat_eq (num n) c)) len p low (elsewhere c) in
         let small = one_if-le (nat_eq (num p) c) in omega arith)
-        (λ (high : ¬ (p < len)). let none_there = sum_below-none (λ n. cond (nat_eq (num n) c) 1 0) len
-        (λ n l. ap (λ (b : Bool). cond b 1 0)
-        (ne_eqb (num n) c (λ z. let q : pos (num n) ≡ n = (one n l).1 in
-        let r : pos (num n) ≡ pos c = ap pos z in absurd (omega arith)))) in omega arith)
+        (λ (high : ¬ (p < len)). let none_there = sum_below-none (λ n. one_if (nat_eq (num n) c)) len
+        (λ n l. elsewhere c n l (omega arith)) in omega arith)
 
 by_index : (g : ℕ → ℕ) (ms : List ℕ) → total_of g ms ≡ sum_below (λ i. g (get_or ms i 0)) (length ms)
 by_index g [] = refl
@@ -89,12 +88,10 @@ module _ (k : Shape) where
   holders (sweep c) h = sum_below-none (λ c. 0) k.callers (λ c l. refl)
 
   here_among : (i m t : ℕ) → t / 2 ^ k.layout.shift ≡ i → among k.layout.shift i m t ≡ bit_at m (t % 2 ^ k.layout.shift)
-  here_among i m t e = ap (λ (b : Bool). cond b (bit_at m (t % 2 ^ k.layout.shift)) 0)
-      (eq-eqb (t / 2 ^ k.layout.shift) i e)
+  here_among i m t e = grind (arith, eq-eqb)
 
   else_among : (i m t : ℕ) → t / 2 ^ k.layout.shift ≢ i → among k.layout.shift i m t ≡ 0
-  else_among i m t e = ap (λ (b : Bool). cond b (bit_at m (t % 2 ^ k.layout.shift)) 0)
-      (ne_eqb (t / 2 ^ k.layout.shift) i e)
+  else_among i m t e = grind (arith, ne_eqb)
 
   -- the bits of one mask for each word, counted by tags
   pub by_tags : (ms : List ℕ) → length ms ≡ words k.layout
