@@ -1,5 +1,5 @@
 -- What a claim, a give and a look owe.
-use Rattle.std.proofs.Common.{◌≡◌, None, ℕ, ◌+◌, ◌-◌, ◌/◌, ◌%◌, ◌^◌, ◌<◌, ◌≤◌, length, get_or, set, cond, bit_or, count_ones, min, max, arith, sym, ap, ◌∙◌, subst, length-set, get_or-set_other}
+use Rattle.std.proofs.Common.{List, get_or-set_same, ◌≡◌, None, ℕ, ◌+◌, ◌-◌, ◌/◌, ◌%◌, ◌^◌, ◌<◌, ◌≤◌, length, get_or, set, cond, bit_or, count_ones, min, max, arith, sym, ap, ◌∙◌, subst, length-set, get_or-set_other}
 use mathlib.Core.Logic.{dite}
 use native.Mathlib.Decide.{ℕ_discrete}
 use Rattle.std.specs.Int.{bit_at}
@@ -30,9 +30,28 @@ use Rattle.tag_core.specs.Rule.{HasCells, IsKnown, Shown}
 use Rattle.tag_core.proofs.Picks.{pick, among, among_one, pick_among}
 use Rattle.tag_core.proofs.Turns.{Shows, claims, gives, unchanged, reshow, free_from, held_from}
 use Rattle.tag_core.proofs.Masks.{bit_minus, minus_le, ones_minus}
-use Rattle.tag_core.proofs.Stand.{word_at_one, aside_at_one, state_at_one, word_no_aside, word_no_state, aside_no_state, word_in, aside_in, state_in, set_spread}
+use Rattle.tag_core.proofs.Stand.{spread}
 use Rattle.tag_core.proofs.Advance.{Owed}
 use Rattle.tag_core.proofs.TagBits.{place_small, small_word, among_here, among_else, changed_here, changed_else, mask_here, mask_else, changed_within, among_small, or_bit, minus_bit, list_bit}
+
+-- what a change of one of the table's words is
+ruleset change = (length-set, get_or-set_same, get_or-set_other, spread)
+
+module _ (k : Shape) (ws : List ℕ) (c : Cells) (has : HasCells k ws c) where
+  -- the table after a change of one word
+  pub word_cells : (i x x' : ℕ) → i < words k.layout → x ≡ x' → IsWithin k.layout i x'
+      → HasCells k (set ws (word_at i) x) (record c { words = record c.words { word = changed_at c.words.word i x' } })
+  word_cells i x x' h same fits = grind (arith, change, has.word, has.aside, has.state, has.word_within, has.aside_within)
+
+  -- after a change of one cleared set
+  pub aside_cells : (i x x' : ℕ) → i < words k.layout → x ≡ x' → IsWithin k.layout i x'
+      → HasCells k (set ws (aside_at i) x) (record c { words = record c.words { aside = changed_at c.words.aside i x' } })
+  aside_cells i x x' h same fits = grind (arith, change, has.word, has.aside, has.state, has.word_within, has.aside_within)
+
+  -- after a change of one tag's state
+  pub state_cells : (u x : ℕ) → u < k.layout.depth
+      → HasCells k (set ws (state_at k.layout u) x) (record c { state = changed_at c.state u x })
+  state_cells u x h = grind (arith, change, has.word, has.aside, has.state, has.word_within, has.aside_within)
 
 module _ (R : Type 0) (k : Shape) (narrow : k.layout.shift ≤ 6) (s : State R (View R)) (sh : Shown k s) (r : Record R)
     (ok : IsKnown k sh.history r) where
@@ -41,62 +60,6 @@ module _ (R : Type 0) (k : Shape) (narrow : k.layout.shift ≤ 6) (s : State R (
 
   abbrev now_world : World
   now_world = world_of k sh.history
-
-  -- the table after a change of one word
-  pub word_cells : (i x x' : ℕ) → i < words k.layout → x ≡ x' → IsWithin k.layout i x'
-      → HasCells k (set s.words (word_at i) x)
-      (record now_cells { words = record now_cells.words { word = changed_at now_cells.words.word i x' } })
-  word_cells i x x' h same fits =
-      let inside : word_at i < length s.words = subst (λ (z : ℕ). word_at i < z) (sym sh.cells.wide)
-      (word_in k.layout i h) in record {
-        wide = length-set s.words (word_at i) x ∙ sh.cells.wide;
-        word = λ j l. set_spread s.words word_at now_cells.words.word (words k.layout) i x word_at_one
-            inside sh.cells.word j l
-            ∙ ap (λ (z : ℕ). changed_at now_cells.words.word i z j) same;
-        aside = λ j l. get_or-set_other s.words (word_at i) (aside_at j) x 0 (λ e. word_no_aside i j (sym e))
-            ∙ sh.cells.aside j l;
-        state = λ t l. get_or-set_other s.words (word_at i) (state_at k.layout t) x 0
-            (λ e. word_no_state k.layout i t h (sym e))
-            ∙ sh.cells.state t l;
-        word_within = changed_within k narrow now_cells.words.word i x' fits sh.cells.word_within;
-        aside_within = sh.cells.aside_within;
-      }
-
-  -- after a change of one cleared set
-  pub aside_cells : (i x x' : ℕ) → i < words k.layout → x ≡ x' → IsWithin k.layout i x'
-      → HasCells k (set s.words (aside_at i) x)
-      (record now_cells { words = record now_cells.words { aside = changed_at now_cells.words.aside i x' } })
-  aside_cells i x x' h same fits =
-      let inside : aside_at i < length s.words = subst (λ (z : ℕ). aside_at i < z) (sym sh.cells.wide)
-      (aside_in k.layout i h) in record {
-        wide = length-set s.words (aside_at i) x ∙ sh.cells.wide;
-        word = λ j l. get_or-set_other s.words (aside_at i) (word_at j) x 0 (word_no_aside j i) ∙ sh.cells.word j l;
-        aside = λ j l. set_spread s.words aside_at now_cells.words.aside
-            (words k.layout) i x aside_at_one inside sh.cells.aside j l
-            ∙ ap (λ (z : ℕ). changed_at now_cells.words.aside i z j) same;
-        state = λ t l. get_or-set_other s.words (aside_at i) (state_at k.layout t) x 0
-            (λ e. aside_no_state k.layout i t h (sym e))
-            ∙ sh.cells.state t l;
-        word_within = sh.cells.word_within;
-        aside_within = changed_within k narrow now_cells.words.aside i x' fits sh.cells.aside_within;
-      }
-
-  -- after a change of one tag's state
-  pub state_cells : (u x : ℕ) → u < k.layout.depth
-      → HasCells k (set s.words (state_at k.layout u) x) (record now_cells { state = changed_at now_cells.state u x })
-  state_cells u x h =
-      let inside : state_at k.layout u < length s.words = subst (λ (z : ℕ). state_at k.layout u < z) (sym sh.cells.wide)
-      (state_in k.layout u h) in record {
-        wide = length-set s.words (state_at k.layout u) x ∙ sh.cells.wide;
-        word = λ j l. get_or-set_other s.words (state_at k.layout u) (word_at j) x 0 (word_no_state k.layout j u l)
-            ∙ sh.cells.word j l;
-        aside = λ j l. get_or-set_other s.words (state_at k.layout u) (aside_at j) x 0 (aside_no_state k.layout j u l)
-            ∙ sh.cells.aside j l;
-        state = set_spread s.words (state_at k.layout) now_cells.state k.layout.depth u x
-            (state_at_one k.layout) inside sh.cells.state;
-        word_within = sh.cells.word_within;
-        aside_within = sh.cells.aside_within;
-      }
 
   -- nobody has won too much yet
   unspent : (c : ℕ) → now_world.won c ≤ MOST_WON
@@ -155,7 +118,7 @@ module _ (R : Type 0) (k : Shape) (narrow : k.layout.shift ≤ 6) (s : State R (
             places = λ t l named. free_from (now_world.place t)
                 (let one = among_one k.layout i (without m n) t named in let new = new_bit t l in omega arith);
           };
-          cells = word_cells i (bit_or n m) x inside same
+          cells = word_cells k s.words now_cells sh.cells i (bit_or n m) x inside same
               (or_lt (word_depth k.layout i) (now_cells.words.word i) m (sh.cells.word_within i inside) fits);
           tags = λ t l. let tag = sh.tags t l in let q : Place = now_world.place t in
               reshow (claims r.number q (among k.layout.shift i m t) (among_small k narrow i m t))
@@ -200,7 +163,7 @@ module _ (R : Type 0) (k : Shape) (narrow : k.layout.shift ≤ 6) (s : State R (
             places =
                 λ t l named. is_held i m t has l (among_one k.layout i m t named);
           };
-          cells = word_cells i (without n m) x inside same
+          cells = word_cells k s.words now_cells sh.cells i (without n m) x inside same
               (let a = minus_le (now_cells.words.word i) m in let b = sh.cells.word_within i inside in omega arith);
           tags = λ t l. let tag = sh.tags t l in
               let q : Place = now_world.place t in

@@ -18,7 +18,7 @@ use Rattle.tag_core.specs.declared.shape.Shape.{Shape}
 use Rattle.tag_core.specs.declared.step.Step.TheVariants.{Word, Post, Take}
 use Rattle.tag_core.specs.declared.word_step.WordStep.TheVariants.{Put, Swap, Spill}
 use Rattle.tag_core.specs.declared.record.Record.{Record}
-use Rattle.tag_core.specs.Steps.{without}
+use Rattle.tag_core.specs.Steps.{changed_at, without}
 use Rattle.tag_core.specs.Spacing.{word_at, aside_at, state_at}
 use Rattle.tag_core.specs.Bits.{word_bit, aside_bit, posted_bit, held_bit, sweep_bit}
 use Rattle.tag_core.specs.Histories.{Cells, cells_of, world_of, last_post}
@@ -31,6 +31,16 @@ use Rattle.tag_core.proofs.Stand.{tag_mask_within}
 use Rattle.tag_core.proofs.Advance.{Owed}
 use Rattle.tag_core.proofs.TagBits.{bit_tag, or_bit, minus_bit, list_bit, only_among, tag_mask, only_small, only_is, in_small, among_as, none_left, tag_named}
 use Rattle.tag_core.proofs.Owing.{word_cells, aside_cells, state_cells, none_more, held_or, held_minus}
+
+-- a tag's state once one tag is posted
+posted_at : (state : ℕ → ℕ) (q : Place) (u t : ℕ) → posted_bit q ≡ state t
+    → max (posted_bit q) (only t u) ≡ changed_at state u 1 t
+posted_at state q u t is = grind (arith, posted_small)
+
+-- and once one is taken
+taken_at : (state : ℕ → ℕ) (q : Place) (u t : ℕ) → posted_bit q ≡ state t
+    → min (posted_bit q) (1 - only t u) ≡ changed_at state u 0 t
+taken_at state q u t is = grind (arith, posted_small)
 
 module _ (R : Type 0) (k : Shape) (narrow : k.layout.shift ≤ 6) (s : State R (View R)) (sh : Shown k s) (r : Record R)
     (ok : IsKnown k sh.history r) where
@@ -89,7 +99,7 @@ module _ (R : Type 0) (k : Shape) (narrow : k.layout.shift ≤ 6) (s : State R (
           places = λ t l is. held_tag u t has lu (only_one t u (sym (ap (λ (z : ℕ). nat_eq t z) (tag_named k narrow u))
               ∙ is));
         };
-        cells = aside_cells R k narrow s sh r ok i (bit_or n m) x inside same
+        cells = aside_cells k s.words now_cells sh.cells i (bit_or n m) x inside same
             (or_lt (word_depth k.layout i) (now_cells.words.aside i) m (sh.cells.aside_within i inside)
             (tag_mask_within k.layout u lu));
         tags = λ t l. let tag = sh.tags t l in
@@ -115,18 +125,13 @@ module _ (R : Type 0) (k : Shape) (narrow : k.layout.shift ≤ 6) (s : State R (
       places =
           λ t l is. held_tag u t has lu (only_one t u is);
     };
-    cells = state_cells R k narrow s sh r ok u 1 lu;
+    cells = state_cells k s.words now_cells sh.cells u 1 lu;
     tags = λ t l. let tag = sh.tags t l in
         let q : Place = now_world.place t in
         reshow
         (posts r.number q (only t u) (only_small k narrow t u) (held_tag u t has lu))
         (pick_only t u posted q) tag.word tag.aside
-        (dite (ℕ_discrete t u) (λ e. let one : only t u ≡ 1 = ap one_if (eq-eqb t u e) in let small = posted_small q in
-        (let z : max (posted_bit q) (only t u) ≡ 1 = omega arith in z
-        ∙ ap (λ (b : Bool). cond b 1 (now_cells.state t)) (sym (eq-eqb t u e))))
-        (λ n. let none_here : only t u ≡ 0 = ap one_if (ne_eqb t u n) in
-        (let z : max (posted_bit q) (only t u) ≡ posted_bit q = omega arith in z ∙ tag.posted
-        ∙ ap (λ (b : Bool). cond b 1 (now_cells.state t)) (sym (ne_eqb t u n)))))
+        (posted_at now_cells.state q u t tag.posted)
         (held_without u t lu l) (ok.swept t l);
   }
 
@@ -147,20 +152,13 @@ module _ (R : Type 0) (k : Shape) (narrow : k.layout.shift ≤ 6) (s : State R (
               λ t l is. subst (λ (z : ℕ). now_world.place z ≡ posted)
               (sym (only_is k narrow t u (only_one t u is))) its;
         };
-        cells = state_cells R k narrow s sh r ok u 0 lu;
+        cells = state_cells k s.words now_cells sh.cells u 0 lu;
         tags = λ t l. let tag = sh.tags t l in let q : Place = now_world.place t in
             reshow
             (takes r.number q (only t u) (only_small k narrow t u)
             (λ a. subst (λ (z : ℕ). now_world.place z ≡ posted) (sym (only_is k narrow t u a)) its))
             (pick_only t u (held r.number) q) tag.word tag.aside
-            (dite (ℕ_discrete t u) (λ e. let one' : only t u ≡ 1 = ap one_if (eq-eqb t u e) in
-            let small = posted_small q in
-            (let z : min (posted_bit q) (1 - only t u) ≡ 0 = omega arith in z
-            ∙ ap (λ (b : Bool). cond b 0 (now_cells.state t)) (sym (eq-eqb t u e))))
-            (λ n. let none_here : only t u ≡ 0 = ap one_if (ne_eqb t u n) in
-            let small = posted_small q in
-            (let z : min (posted_bit q) (1 - only t u) ≡ posted_bit q = omega arith in z ∙ tag.posted
-            ∙ ap (λ (b : Bool). cond b 0 (now_cells.state t)) (sym (ne_eqb t u n)))))
+            (taken_at now_cells.state q u t tag.posted)
             (held_with u t lu l) (ok.swept t l);
       }
 
@@ -178,7 +176,7 @@ module _ (R : Type 0) (k : Shape) (narrow : k.layout.shift ≤ 6) (s : State R (
         finds = found;
         value = tt;
         needs = record { in_layout = inside; caller = ok.number; unspent = none_won; places = λ t l is. tt };
-        cells = aside_cells R k narrow s sh r ok i 0 0 inside refl (pow_pos (word_depth k.layout i));
+        cells = aside_cells k s.words now_cells sh.cells i 0 0 inside refl (pow_pos (word_depth k.layout i));
         tags = λ t l. let tag = sh.tags t l in let q : Place = now_world.place t in
             let b : ℕ = t % 2 ^ k.layout.shift in
             reshow
@@ -221,7 +219,7 @@ module _ (R : Type 0) (k : Shape) (narrow : k.layout.shift ≤ 6) (s : State R (
           finds = found;
           value = tt;
           needs = record { in_layout = inside; caller = ok.number; unspent = none_won; places = λ t l is. tt };
-          cells = word_cells R k narrow s sh r ok i (without n mask) x inside same
+          cells = word_cells k s.words now_cells sh.cells i (without n mask) x inside same
               (let a = minus_le (now_cells.words.word i) mask in let b = sh.cells.word_within i inside in omega arith);
           tags = λ t l. let tag = sh.tags t l in let q : Place = now_world.place t in
               let c : ℕ = r.number in

@@ -53,6 +53,19 @@ pub state_in : (l : Layout) (t : ℕ) → t < l.depth → state_at l t < table_w
 unfolding state_at table_width
 state_in l t h = omega arith
 
+-- where words, cleared sets and states stand
+pub ruleset spread = (
+  word_at_one,
+  aside_at_one,
+  state_at_one,
+  word_no_aside,
+  word_no_state,
+  aside_no_state,
+  word_in,
+  aside_in,
+  state_in,
+)
+
 -- the table has a word
 pub some_width : (l : Layout) → 0 < table_width l
 unfolding table_width
