@@ -1,5 +1,5 @@
 -- Each kind of step is allowed by the rule.
-use Rattle.std.proofs.Common.{◌≡◌, ◌≢◌, ℕ, ◌+◌, ◌-◌, ◌%◌, ◌^◌, ◌<◌, ◌≤◌, ◌⊎◌, List, ◌∷◌, length, get_or, set, ◌==◌, Bool, true, false, cond, eqb, count_ones, bit_or, arith, refl, sym, ap, ◌∙◌, subst, inl, inr, Some, None, eq-eqb, ne_eqb}
+use Rattle.std.proofs.Common.{◌≡◌, ◌≢◌, ℕ, ◌+◌, ◌-◌, ◌%◌, ◌^◌, ◌<◌, ◌≤◌, ◌⊎◌, List, ◌∷◌, length, get_or, set, ◌==◌, Bool, true, cond, eqb, count_ones, bit_or, arith, refl, sym, ap, ◌∙◌, subst, inl, inr, Some, None, eq-eqb, ne_eqb}
 use mathlib.Core.Option.{some, none, some-injective}
 use mathlib.Core.Logic.{dite}
 use native.Mathlib.Decide.{ℕ_discrete}
@@ -17,7 +17,7 @@ use Rattle.tag_core.specs.Views.{View}
 use Rattle.tag_layout.specs.Layout.{Layout, words, word_depth, word_of, place_of, IsWithin}
 use Rattle.tag_layout.proofs.PlaceFacts.{word_of-below}
 use Rattle.tag_model.specs.declared.place.Place.{Place}
-use Rattle.tag_model.specs.declared.place.Place.TheVariants.{Free as free, Held as held, Posted as posted, Aside as aside, Sweep as sweep}
+use Rattle.tag_model.specs.declared.place.Place.TheVariants.{Held as held, Posted as posted}
 use Rattle.tag_model.specs.declared.world.TheConstants.{MOST_WON}
 use Rattle.tag_model.specs.World.{place_after}
 use Rattle.tag_core.specs.declared.shape.Shape.{Shape}
@@ -34,12 +34,12 @@ use Rattle.tag_core.specs.Rule.{SlotIs, IsKnown, Shown}
 use Rattle.tag_core.specs.Plays.{Stepped, FindsHeld, looked, looked_aside, claimed, gave, put_aside, swapped, spilled, took}
 use Rattle.tag_core.specs.Plays as plays
 use Rattle.tag_core.proofs.Picks.{among, placed}
-use Rattle.tag_core.proofs.TagBits.{small_word, bit_tag, among_here}
+use Rattle.tag_core.proofs.TagBits.{small_word, among_here}
 use Rattle.tag_core.proofs.Turns.{held_from, posted_from, posted_small}
 use Rattle.tag_core.proofs.Owing.{claim_owed, give_owed, look_owed, look_aside_owed, miss_owed, held_shown}
 use Rattle.tag_core.proofs.OwingTags.{put_owed, post_owed, take_owed, swap_owed, swept_taken, spill_owed}
 use Rattle.tag_core.proofs.Masks.{add_bit, take_bits}
-use Rattle.tag_core.proofs.Stand.{word_at_one, aside_at_one, tag_mask_within}
+use Rattle.tag_core.proofs.Stand.{bit_tag, word_at_one, aside_at_one, tag_mask_within}
 use Rattle.tag_core.proofs.Singles.{same_state}
 use Rattle.tag_core.proofs.Advance.{Owed}
 use Rattle.tag_core.proofs.Moving.{moved, kept, told}
@@ -188,7 +188,7 @@ module _ (R : Type 0) (k : Shape) (narrow : k.layout.shift ≤ 6) (id : ℕ) (me
     where
       taken : (s : State R (View R)) (sh : Shown k s) → IsKnown k sh.history r → (b : ℕ) → bit_at m b ≡ 1
           → bit_at (get_or s.words (word_at i) 0) b ≡ 1
-      taken s sh o b one = let tag = bit_tag k narrow i m b low one in let t : ℕ = tag.0 in
+      taken s sh o b one = let tag = bit_tag k.layout i m b low one in let t : ℕ = tag.0 in
           let named : among k.layout.shift i m t ≡ 1 =
           sym (among_here k narrow i m t tag.2) ∙ ap (bit_at m) tag.3 ∙ one in
           sym (λ j. bit_at (get_or s.words (word_at (tag.2 j)) 0) (tag.3 j))

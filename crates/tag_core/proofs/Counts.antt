@@ -1,13 +1,10 @@
 -- The record of a caller after its step, beside the world after the event.
-use Rattle.std.proofs.Common.{◌≡◌, ◌≢◌, ℕ, zero, suc, ◌+◌, List, ◌∷◌, Bool, cond, arith, refl, sym, ap, ◌∙◌, eq-eqb, ne_eqb, length, length-set}
+use Rattle.std.proofs.Common.{◌≡◌, ◌≢◌, ℕ, ◌+◌, List, ◌∷◌, arith, eq-eqb, ne_eqb, length, length-set}
 use Rattle.tag_layout.specs.Layout.{Layout}
-use Rattle.tag_model.specs.declared.event.Event.{Event}
 use Rattle.tag_model.specs.Event.{caller_of, won_by, back_by}
 use Rattle.tag_model.specs.World.{plus_at}
 use Rattle.tag_model.proofs.HistoryFacts.{plus_at-here, plus_at-else, plus_at-none}
 use Rattle.tag_core.specs.declared.step.Step.{Step}
-use Rattle.tag_core.specs.declared.step.Step.TheVariants.{Word, Post, Take}
-use Rattle.tag_core.specs.declared.word_step.WordStep.TheVariants.{Look, LookAside, Claimed, Give, Put, Swap, Spill}
 use Rattle.tag_core.specs.Histories.{History, event_of, steps_by}
 use Rattle.tag_core.specs.Records.{held_after, swept_after}
 

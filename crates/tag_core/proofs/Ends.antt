@@ -1,5 +1,5 @@
 -- What the last state tells where one seat has the records of all callers.
-use Rattle.std.proofs.Common.{◌≡◌, ◌≢◌, ℕ, zero, suc, ◌/◌, ◌%◌, ◌^◌, ◌<◌, ◌≤◌, ◌⊎◌, List, [], ◌∷◌, length, get_or, nat_eq, ◌==◌, Bool, true, false, cond, count_ones, arith, refl, sym, ap, ◌∙◌, ⊎_elim, inl, inr, eq-eqb, ne_eqb}
+use Rattle.std.proofs.Common.{◌≡◌, ◌≢◌, ℕ, zero, suc, ◌/◌, ◌%◌, ◌^◌, ◌<◌, ◌≤◌, ◌⊎◌, List, [], ◌∷◌, length, get_or, nat_eq, count_ones, arith, refl, sym, ap, ◌∙◌, ⊎_elim, eq-eqb, ne_eqb}
 use mathlib.Core.Option.{some}
 use mathlib.Core.Logic.{dite}
 use native.Mathlib.Decide.{dec_lt}
@@ -15,8 +15,7 @@ use Rattle.tag_layout.proofs.PlaceFacts.{word_of-below}
 use Rattle.tag_model.specs.declared.place.Place.{Place}
 use Rattle.tag_model.specs.declared.place.Place.TheVariants.{Free as free, Held as held, Posted as posted, Aside as aside, Sweep as sweep}
 use Rattle.tag_model.specs.declared.event.Event.{Event}
-use Rattle.tag_model.specs.declared.event.Event.TheVariants as event
-use Rattle.tag_model.specs.Event.{caller_of, is_in_mask, swept_by, spilled_by}
+use Rattle.tag_model.specs.Event.{caller_of, is_in_mask}
 use Rattle.tag_model.specs.World.{World, place_after}
 use Rattle.tag_model.specs.Runs.{after_history, IsHistory}
 use Rattle.tag_model.specs.Totals.{is_held, is_posted, got_in, back_in, held_in, posted_in, Balances}

@@ -1,9 +1,8 @@
 -- Two callers whose records stand in one view hold no tag in common.
-use Rattle.std.proofs.Common.{◌≡◌, ◌≢◌, ℕ, [], ◌∷◌, nat_eq, arith, refl, sym, ap, ◌∙◌, subst, ne_eqb}
+use Rattle.std.proofs.Common.{◌≡◌, ◌≢◌, ℕ, [], ◌∷◌, arith, refl, sym, ap, ◌∙◌, subst, ne_eqb}
 use mathlib.Core.Option.{some, none}
 use lib.ListN.{get_elem?}
 use Rattle.atomic_table.specs.Table.{State, Me, step, Allows}
-use Rattle.sums.specs.Below.{one_if}
 use Rattle.step_ledger.specs.Views.{viewing}
 use Rattle.tag_core.specs.Views.{View}
 use Rattle.tag_model.specs.declared.place.Place.{Place}
@@ -15,7 +14,6 @@ use Rattle.tag_core.specs.Rule.{IsKnown, Shown}
 use Rattle.tag_core.specs.Meeting.{ShareHistory, AreApart}
 use Rattle.tag_core.specs.Plays.{met}
 use Rattle.tag_core.proofs.Fronts.{idle_allowed}
-use Rattle.tag_core.proofs.Turns.{held_from}
 
 -- one place has one holder
 one_holder : (place : Place) (a b : ℕ) → a ≢ b → held_bit a place ≡ 1 → held_bit b place ≢ 1

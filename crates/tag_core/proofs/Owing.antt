@@ -1,10 +1,9 @@
 -- What a claim, a give and a look owe.
-use Rattle.std.proofs.Common.{List, get_or-set_same, ◌≡◌, None, ℕ, ◌+◌, ◌-◌, ◌/◌, ◌%◌, ◌^◌, ◌<◌, ◌≤◌, length, get_or, set, cond, bit_or, count_ones, min, max, arith, sym, ap, ◌∙◌, subst, length-set, get_or-set_other}
+use Rattle.std.proofs.Common.{List, get_or-set_same, ◌≡◌, None, ℕ, ◌+◌, ◌-◌, ◌/◌, ◌%◌, ◌^◌, ◌<◌, ◌≤◌, get_or, set, bit_or, count_ones, min, max, arith, sym, ap, ◌∙◌, subst, length-set, get_or-set_other}
 use mathlib.Core.Logic.{dite}
 use native.Mathlib.Decide.{ℕ_discrete}
 use Rattle.std.specs.Int.{bit_at}
 use Rattle.std.proofs.lemmas.Nat.{or_lt}
-use Rattle.std.proofs.lemmas.Nat.Bits.{bit_at_or, bit_at-lt}
 use Rattle.atomic_table.specs.Table.{State}
 use Rattle.tag_core.specs.Views.{View}
 use Rattle.tag_layout.specs.Layout.{words, word_depth, word_of, place_of, IsWithin}
@@ -12,7 +11,6 @@ use Rattle.tag_layout.proofs.PlaceFacts.{word_of-below}
 use Rattle.tag_model.specs.declared.place.Place.{Place}
 use Rattle.tag_model.specs.declared.place.Place.TheVariants.{Free as free, Held as held}
 use Rattle.tag_model.specs.declared.world.TheConstants.{MOST_WON}
-use Rattle.tag_model.specs.Event.{is_in_mask}
 use Rattle.tag_model.specs.declared.event.Event.TheVariants as event
 use Rattle.tag_model.specs.World.{World, MayHappen}
 use Rattle.tag_model.proofs.HistoryFacts.{won-history}
@@ -32,7 +30,7 @@ use Rattle.tag_core.proofs.Turns.{Shows, claims, gives, unchanged, reshow, free_
 use Rattle.tag_core.proofs.Masks.{bit_minus, minus_le, ones_minus}
 use Rattle.tag_core.proofs.Stand.{spread}
 use Rattle.tag_core.proofs.Advance.{Owed}
-use Rattle.tag_core.proofs.TagBits.{place_small, small_word, among_here, among_else, changed_here, changed_else, mask_here, mask_else, changed_within, among_small, or_bit, minus_bit, list_bit}
+use Rattle.tag_core.proofs.TagBits.{place_small, small_word, among_here, among_else, among_small, or_bit, minus_bit, list_bit}
 
 -- what a change of one of the table's words is
 ruleset change = (length-set, get_or-set_same, get_or-set_other, spread)

@@ -1,17 +1,14 @@
 -- What steps on one tag and sweeps owe.
-use Rattle.std.proofs.Common.{◌≡◌, Some, ℕ, suc, ◌-◌, ◌/◌, ◌%◌, ◌+◌, ◌^◌, ◌<◌, ◌≤◌, length, get_or, set, Bool, cond, nat_eq, bit_or, min, max, arith, refl, sym, ap, ◌∙◌, subst, eq-eqb, ne_eqb}
+use Rattle.std.proofs.Common.{◌≡◌, Some, ℕ, suc, ◌-◌, ◌/◌, ◌%◌, ◌+◌, ◌^◌, ◌<◌, ◌≤◌, length, get_or, set, cond, nat_eq, bit_or, min, max, arith, refl, sym, ap, ◌∙◌, subst}
 use mathlib.Core.Option.{some}
-use mathlib.Core.Logic.{dite}
-use native.Mathlib.Decide.{ℕ_discrete}
 use Rattle.std.specs.Int.{bit_at}
 use Rattle.std.proofs.lemmas.Nat.{pow_pos, or_lt}
 use Rattle.atomic_table.specs.Table.{State}
-use Rattle.sums.specs.Below.{one_if}
 use Rattle.tag_core.specs.Views.{View}
 use Rattle.tag_layout.specs.Layout.{words, word_depth, word_of, place_of}
 use Rattle.tag_layout.proofs.PlaceFacts.{word_of-below}
 use Rattle.tag_model.specs.declared.place.Place.{Place}
-use Rattle.tag_model.specs.declared.place.Place.TheVariants.{Free as free, Held as held, Posted as posted, Aside as aside, Sweep as sweep}
+use Rattle.tag_model.specs.declared.place.Place.TheVariants.{Held as held, Posted as posted, Aside as aside}
 use Rattle.tag_model.specs.declared.world.TheConstants.{MOST_WON}
 use Rattle.tag_model.specs.World.{World}
 use Rattle.tag_core.specs.declared.shape.Shape.{Shape}
@@ -27,9 +24,9 @@ use Rattle.tag_core.specs.Rule.{IsKnown, Shown}
 use Rattle.tag_core.proofs.Picks.{only, only_one, pick_only, pick_swept, pick_spilled}
 use Rattle.tag_core.proofs.Turns.{puts, posts, takes, gathers, spills, posted_small, posted_from, aside_small, sweep_small, reshow, held_from}
 use Rattle.tag_core.proofs.Masks.{minus_le}
-use Rattle.tag_core.proofs.Stand.{tag_mask_within}
+use Rattle.tag_core.proofs.Stand.{bit_tag, tag_mask_within}
 use Rattle.tag_core.proofs.Advance.{Owed}
-use Rattle.tag_core.proofs.TagBits.{bit_tag, or_bit, minus_bit, list_bit, only_among, tag_mask, only_small, only_is, in_small, among_as, none_left, tag_named}
+use Rattle.tag_core.proofs.TagBits.{or_bit, minus_bit, list_bit, only_among, tag_mask, only_small, only_is, among_as, none_left, tag_named}
 use Rattle.tag_core.proofs.Owing.{word_cells, aside_cells, state_cells, none_more, held_or, held_minus}
 
 -- a tag's state once one tag is posted
@@ -180,7 +177,7 @@ module _ (R : Type 0) (k : Shape) (narrow : k.layout.shift ≤ 6) (s : State R (
         tags = λ t l. let tag = sh.tags t l in let q : Place = now_world.place t in
             let b : ℕ = t % 2 ^ k.layout.shift in
             reshow
-            (gathers r.number q (only (t / 2 ^ k.layout.shift) i) (in_small k narrow t i))
+            (gathers r.number q (only (t / 2 ^ k.layout.shift) i) (only_small k narrow (t / 2 ^ k.layout.shift) i))
             (pick_swept (t / 2 ^ k.layout.shift) i r.number q) tag.word
             (none_left k narrow now_cells.words.aside i t (aside_bit q) (aside_small q) tag.aside)
             tag.posted (ok.held t l)
@@ -195,7 +192,7 @@ module _ (R : Type 0) (k : Shape) (narrow : k.layout.shift ≤ 6) (s : State R (
   pub swept_taken : (i : ℕ) → i < words k.layout → (b : ℕ) → bit_at (get_or r.swept i 0) b ≡ 1
       → bit_at (get_or s.words (word_at i) 0) b ≡ 1
   swept_taken i inside b one =
-      let tag = bit_tag k narrow i (get_or r.swept i 0) b (ok.swept_within i inside) one in let t : ℕ = tag.0 in
+      let tag = bit_tag k.layout i (get_or r.swept i 0) b (ok.swept_within i inside) one in let t : ℕ = tag.0 in
       let mine = ok.swept t tag.1 ∙ (λ j. bit_at (get_or r.swept (tag.2 j) 0) (tag.3 j)) ∙ one in
       ap (λ (z : ℕ). bit_at z b) (sh.cells.word i inside)
       ∙ sym (λ j. bit_at (now_cells.words.word (tag.2 j)) (tag.3 j)) ∙ sym (sh.tags t tag.1).word
@@ -223,7 +220,7 @@ module _ (R : Type 0) (k : Shape) (narrow : k.layout.shift ≤ 6) (s : State R (
               (let a = minus_le (now_cells.words.word i) mask in let b = sh.cells.word_within i inside in omega arith);
           tags = λ t l. let tag = sh.tags t l in let q : Place = now_world.place t in
               let c : ℕ = r.number in
-              reshow (spills c q (only (t / 2 ^ k.layout.shift) i) (in_small k narrow t i))
+              reshow (spills c q (only (t / 2 ^ k.layout.shift) i) (only_small k narrow (t / 2 ^ k.layout.shift) i))
               (pick_spilled (t / 2 ^ k.layout.shift) i c q)
               ((λ z. min (tag.word z)
               (1 - among_as k narrow i mask t (sweep_bit c q) (sweep_small c q)

@@ -1,16 +1,14 @@
 -- A tag's bits in words and masks, and what they are once one word is changed.
-use Rattle.std.proofs.Common.{◌≡◌, ◌≢◌, ℕ, ◌-◌, ◌/◌, ◌%◌, ◌^◌, ◌<◌, ◌≤◌, List, length, get_or, set, Bool, cond, bit_or, min, max, arith, sym, ap, ◌∙◌, subst, get_or-set_other, get_or-set_same, eq-eqb, ne_eqb, ⊎_elim}
+use Rattle.std.proofs.Common.{◌≡◌, ◌≢◌, ℕ, ◌-◌, ◌/◌, ◌%◌, ◌^◌, ◌<◌, ◌≤◌, List, length, get_or, set, bit_or, min, max, arith, sym, ap, ◌∙◌, get_or-set_other, get_or-set_same, eq-eqb, ne_eqb}
 use mathlib.Core.Logic.{dite}
 use native.Mathlib.Decide.{ℕ_discrete}
 use Rattle.std.specs.Int.{bit_at, trailing_zeros, w64}
-use Rattle.std.proofs.lemmas.Bool.{cases_lt}
 use Rattle.std.proofs.lemmas.Nat.{pow_pos, pow_below, mod_below}
-use Rattle.std.proofs.lemmas.Nat.Bits.{bit_at_or, bit_at_above, bit_at-lt, bit_at-zero, bit_at-pow_same, bit_at-pow_other, bit_at-trailing_zeros}
+use Rattle.std.proofs.lemmas.Nat.Bits.{bit_at_or, bit_at-lt, bit_at-zero, bit_at-pow_same, bit_at-pow_other, bit_at-trailing_zeros}
 use Rattle.std.proofs.Math.Pow.{pow_mono}
-use Rattle.sums.specs.Below.{one_if}
 use Rattle.sums.proofs.Laws.{one_if-le}
-use Rattle.tag_layout.specs.Layout.{words, word_bits, word_depth, word_of, place_of, tag_at, IsWithin}
-use Rattle.tag_layout.proofs.PlaceFacts.{tag_at-back, tag_at-below, word_of-tag_at, place_of-tag_at}
+use Rattle.tag_layout.specs.Layout.{word_depth, word_of, place_of, tag_at}
+use Rattle.tag_layout.proofs.PlaceFacts.{tag_at-back}
 use Rattle.tag_core.specs.declared.shape.Shape.{Shape}
 use Rattle.tag_core.specs.Steps.{changed_at, without}
 use Rattle.tag_core.specs.Records.{tag_bit}
@@ -31,20 +29,6 @@ module _ (k : Shape) (narrow : k.layout.shift ≤ 6) where
       let le : 2 ^ k.layout.shift ≤ 2 ^ 6 = pow_mono narrow in let low : word_depth k.layout i ≤ 64 = omega arith in
       let le2 : 2 ^ word_depth k.layout i ≤ 2 ^ 64 = pow_mono low in omega arith
 
-  -- a bit of a mask within the layout is that of a tag
-  pub bit_tag : (i m b : ℕ) → IsWithin k.layout i m → bit_at m b ≡ 1
-      → (t : ℕ) × (t < k.layout.depth) × (word_of k.layout t ≡ i) × (place_of k.layout t ≡ b)
-  bit_tag i m b within one =
-      let low : b < word_depth k.layout i = ⊎_elim (λ h. h)
-      (λ past. let none = bit_at_above m (word_depth k.layout i) b within past in absurd (omega arith))
-      (cases_lt b (word_depth k.layout i)) in
-      let few : b < word_bits k.layout = omega arith in (
-        tag_at k.layout i b,
-        tag_at-below k.layout i b low,
-        word_of-tag_at k.layout i b few,
-        place_of-tag_at k.layout i b few,
-      )
-
   -- bit of a mask at a tag in its word, and in another
   pub among_here : (i m t : ℕ) → t / 2 ^ k.layout.shift ≡ i
       → bit_at m (t % 2 ^ k.layout.shift) ≡ among k.layout.shift i m t
@@ -53,34 +37,6 @@ module _ (k : Shape) (narrow : k.layout.shift ≤ 6) where
   -- and in another word
   pub among_else : (i m t : ℕ) → t / 2 ^ k.layout.shift ≢ i → 0 ≡ among k.layout.shift i m t
   among_else i m t e = grind (arith, ne_eqb)
-
-  -- a tag's bit in the word that was changed
-  pub changed_here : (g : ℕ → ℕ) (i x t : ℕ) → t / 2 ^ k.layout.shift ≡ i
-      → bit_at x (t % 2 ^ k.layout.shift) ≡ bit_at (changed_at g i x (t / 2 ^ k.layout.shift)) (t % 2 ^ k.layout.shift)
-  changed_here g i x t e = grind (arith, eq-eqb)
-
-  -- and in another word
-  pub changed_else : (g : ℕ → ℕ) (i x t : ℕ) → t / 2 ^ k.layout.shift ≢ i
-      → bit_at (g (t / 2 ^ k.layout.shift)) (t % 2 ^ k.layout.shift)
-      ≡ bit_at (changed_at g i x (t / 2 ^ k.layout.shift))
-      (t % 2 ^ k.layout.shift)
-  changed_else g i x t e = grind (arith, ne_eqb)
-
-  -- a tag's bit in masks of which its word's was set
-  pub mask_here : (l : List ℕ) (i x t : ℕ) → i < length l → t / 2 ^ k.layout.shift ≡ i
-      → bit_at x (t % 2 ^ k.layout.shift) ≡ tag_bit k.layout (set l i x) t
-  mask_here l i x t h e = grind (arith, get_or-set_same)
-
-  -- and where another word's was
-  pub mask_else : (l : List ℕ) (i x t : ℕ) → t / 2 ^ k.layout.shift ≢ i
-      → tag_bit k.layout l t ≡ tag_bit k.layout (set l i x) t
-  mask_else l i x t e = grind (arith, get_or-set_other)
-
-  -- the cells after a step on one of them
-  pub changed_within : (g : ℕ → ℕ) (i x : ℕ) → IsWithin k.layout i x
-      → ((j : ℕ) → j < words k.layout → IsWithin k.layout j (g j)) → (j : ℕ) → j < words k.layout
-      → IsWithin k.layout j (changed_at g i x j)
-  changed_within g i x h all j l = grind arith
 
   -- it is 0 or 1
   pub among_small : (i m t : ℕ) → among k.layout.shift i m t < 2
@@ -128,18 +84,6 @@ module _ (k : Shape) (narrow : k.layout.shift ≤ 6) where
       (λ ne. let none_there = bit_at-pow_other p (trailing_zeros w64 (2 ^ p)) (λ e. ne (sym e)) in
       let one = low.1 in absurd (omega arith)) in
       ap (tag_at k.layout (word_of k.layout u)) is ∙ tag_at-back k.layout u
-
-  -- a tag's own word
-  pub in_word : (t i : ℕ) → t / 2 ^ k.layout.shift ≡ i → only (t / 2 ^ k.layout.shift) i ≡ 1
-  in_word t i e = ap one_if (eq-eqb (t / 2 ^ k.layout.shift) i e)
-
-  -- another word
-  pub not_in_word : (t i : ℕ) → t / 2 ^ k.layout.shift ≢ i → only (t / 2 ^ k.layout.shift) i ≡ 0
-  not_in_word t i e = ap one_if (ne_eqb (t / 2 ^ k.layout.shift) i e)
-
-  -- it is 0 or 1
-  pub in_small : (t i : ℕ) → only (t / 2 ^ k.layout.shift) i < 2
-  in_small t i = grind (arith, one_if-le)
 
   -- the bits y of a mask for one word
   pub among_as : (i m t y : ℕ) → y < 2 → (t / 2 ^ k.layout.shift ≡ i → bit_at m (t % 2 ^ k.layout.shift) ≡ y)

@@ -1,7 +1,5 @@
 -- What each event does to what one tag's place shows.
-use Rattle.std.proofs.Common.{◌≡◌, ◌≢◌, ℕ, zero, suc, ◌-◌, ◌<◌, min, max, nat_eq, arith, refl, sym, ap, ◌∙◌, subst, eq-eqb, ne_eqb}
-use mathlib.Core.Logic.{dite}
-use native.Mathlib.Decide.{ℕ_discrete}
+use Rattle.std.proofs.Common.{◌≡◌, ◌≢◌, ℕ, ◌-◌, ◌<◌, min, max, nat_eq, arith, refl, sym, ap, eq-eqb, ne_eqb}
 use Rattle.sums.specs.Below.{one_if}
 use Rattle.sums.proofs.Laws.{one_if-le}
 use Rattle.tag_model.specs.declared.place.Place.{Place}

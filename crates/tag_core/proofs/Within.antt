@@ -1,7 +1,5 @@
 -- Held masks and sweeps stay within the words' usable bits.
 use Rattle.std.proofs.Common.{◌≡◌, ℕ, zero, suc, ◌^◌, ◌<◌, List, length, get_or, set, bit_or, arith, sym, subst, get_or-set_same, get_or-set_other}
-use mathlib.Core.Logic.{dite}
-use native.Mathlib.Decide.{ℕ_discrete}
 use Rattle.std.proofs.lemmas.Nat.{or_lt, pow_pos}
 use Rattle.tag_layout.specs.Layout.{Layout, words, word_of, place_of, word_depth, IsWithin}
 use Rattle.tag_model.specs.Event.{IsInLayout}
