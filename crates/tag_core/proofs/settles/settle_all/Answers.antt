@@ -10,7 +10,7 @@ use Rattle.tag_core.specs.declared.shape.Shape.{Shape}
 use Rattle.tag_core.specs.Callers.{IsCallerOf, record_of, IsUnchanged, AreUnchanged}
 use Rattle.tag_core.specs.Gathering.{numbers, numbers_of}
 use Rattle.tag_core.specs.Settling.{AreSettled}
-use Rattle.step_ledger.proofs.Turned.{all_last, taken_first}
+use Rattle.step_ledger.proofs.Turned.{all_front, all_last, taken_first}
 use Rattle.tag_core.proofs.Numbers.{numbers-records}
 use Rattle.tag_core.proofs.Settlings.{unchanged-more, unchanged-records}
 use Rattle.tag_core.proofs.settles.settle_all.Goals as goal
@@ -40,6 +40,10 @@ module _ {R : Type 0} (olds front news rest : List (Caller R)) (last back : Call
         → AreSettled k (map record_of news) totals
     all_settled k totals = subst (λ (z : List (Record R)). AreSettled k z totals)
         (sym (unchanged-records olds news all_same ∙ all_records))
+
+pub settle_rest-loans-requires-clause-own : goal.settle_rest-loans-requires-clause-own
+settle_rest-loans-requires-clause-own g c = let P : Caller g.row.R.Denot → Type 0 = IsCallerOf c.args.tags.now in
+    all_front P c.pop.new.self.items c.in-Some.last (subst (All P) c.in-Some.ensures.items c.requires.own)
 
 pub settle_rest-loans-requires-clause-first : goal.settle_rest-loans-requires-clause-first
 settle_rest-loans-requires-clause-first g c =
