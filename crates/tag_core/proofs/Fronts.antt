@@ -12,6 +12,7 @@ use Rattle.atomic_table.proofs.Lists.{set_here, set_else}
 use Rattle.step_ledger.proofs.Seats.{same_record}
 use Rattle.step_ledger.specs.Views.{own_view}
 use Rattle.tag_core.specs.Views.{View}
+use Rattle.tag_layout.specs.Layout.{Layout}
 use Rattle.tag_core.specs.declared.shape.Shape.{Shape}
 use Rattle.tag_core.specs.declared.record.Record.{Record}
 use Rattle.tag_core.specs.Spacing.{state_at}
@@ -158,22 +159,17 @@ module _ (R : Type 0) (k : Shape) (id : ℕ) (me : Me R (View R)) (r : Record R)
         go.act,
         go.valid,
         same_homes R k s (homes_after s.homes me.1 go.act) sh go.same id (state_at k.layout u) me.0 at,
-        λ u' r' eu er lu' has'. subst
-            (λ (x : ℕ × Record R). (value : R) × (slots : List (ℕ × R)) × (me.0 ≡ me.0) ×
-            (carried_after me.1 go.act ≡ (x.0, value) ∷ slots) × (value_of me.1 x.0 ≡ some value)
-            × (map (λ y. y.0) slots ≡ tags_from (but (tag_bit x.1.shape.layout x.1.held) x.0) 0 x.1.shape.layout.depth)
-            × ((t : ℕ) → t < x.1.shape.layout.depth → t ≢ x.0 → tag_bit x.1.shape.layout x.1.held t ≡ 1
-            → value_of slots t ≡ value_of me.1 t))
+        λ u' r' eu er lu' has'. let same : r ≡ r' = same_record r r' (sym mine ∙ er) in
+            subst (λ (x : ℕ × Layout × List ℕ). (value : R) × (slots : List (ℕ × R)) × (me.0 ≡ me.0)
+            × (carried_after me.1 go.act ≡ (x.0, value) ∷ slots) × (value_of me.1 x.0 ≡ some value)
+            × (map (λ y. y.0) slots ≡ tags_from (but (tag_bit x.1 x.2) x.0) 0 x.1.depth)
+            × ((t : ℕ) → t < x.1.depth → t ≢ x.0 → tag_bit x.1 x.2 t ≡ 1 → value_of slots t ≡ value_of me.1 t))
             (λ j. (
-              same_state k r r' u u' shape (same_record r r' (sym mine ∙ er)) eu j,
-              same_record r r' (sym mine ∙ er) j,
+              same_state k r r' u u' shape same eu j,
+              ap (λ (z : Shape). z.layout) (sym shape ∙ ap (λ (z : Record R). z.shape) same) j,
+              (same j).held,
             ))
-            (subst (λ (z : Shape). (value : R) × (slots : List (ℕ × R)) × (me.0 ≡ me.0) ×
-            (carried_after me.1 go.act ≡ (u, value) ∷ slots) × (value_of me.1 u ≡ some value)
-            × (map (λ y. y.0) slots ≡ tags_from (but (tag_bit z.layout r.held) u) 0 z.layout.depth)
-            × ((t : ℕ) → t < z.layout.depth → t ≢ u → tag_bit z.layout r.held t ≡ 1
-            → value_of slots t ≡ value_of me.1 t))
-            (sym shape) (go.value, go.slots, refl, go.list, go.was, go.tags, go.others)),
+            (go.value, go.slots, refl, go.list, go.was, go.tags, go.others),
       )
 
   -- the table allows a load that puts it back
@@ -193,22 +189,19 @@ module _ (R : Type 0) (k : Shape) (id : ℕ) (me : Me R (View R)) (r : Record R)
             let same_value : value ≡ v' = ap (λ (z : ℕ × R). z.1)
             (some-injective (u, value) (u', v') (ap (λ (z : List (ℕ × R)). get_elem? z 0) same_list)) in
             let same_slots : slots ≡ xs' = ap rest_of same_list in
-            subst (λ (x : ℕ × Record R × R × List (ℕ × R)). (me.0 ≡ me.0) × Carries x.1.shape.layout x.1.held
-            (carried_after me.1 go.act) × (value_of (carried_after me.1 go.act) x.0 ≡ some x.2)
-            × ((t : ℕ) → t < x.1.shape.layout.depth → t ≢ x.0 → tag_bit x.1.shape.layout x.1.held t ≡ 1
-            → value_of (carried_after me.1 go.act) t ≡ value_of x.3 t))
+            let same : r ≡ r' = same_record r r' (sym mine ∙ er) in
+            subst (λ (x : ℕ × Layout × List ℕ × R × List (ℕ × R)). (me.0 ≡ me.0)
+            × Carries x.1 x.2 (carried_after me.1 go.act) × (value_of (carried_after me.1 go.act) x.0 ≡ some x.3)
+            × ((t : ℕ) → t < x.1.depth → t ≢ x.0 → tag_bit x.1 x.2 t ≡ 1
+            → value_of (carried_after me.1 go.act) t ≡ value_of x.4 t))
             (λ j. (
-              same_state k r r' u u' shape (same_record r r' (sym mine ∙ er)) eu j,
-              same_record r r' (sym mine
-                  ∙ er) j,
+              same_state k r r' u u' shape same eu j,
+              ap (λ (z : Shape). z.layout) (sym shape ∙ ap (λ (z : Record R). z.shape) same) j,
+              (same j).held,
               same_value j,
               same_slots j,
             ))
-            (subst (λ (z : Shape). (me.0 ≡ me.0) × Carries z.layout r.held (carried_after me.1 go.act) ×
-            (value_of (carried_after me.1 go.act) u ≡ some value)
-            × ((t : ℕ) → t < z.layout.depth → t ≢ u → tag_bit z.layout r.held t ≡ 1
-            → value_of (carried_after me.1 go.act) t ≡ value_of slots t)) (sym shape)
-            (refl, go.tags, go.now, go.others)),
+            (refl, go.tags, go.now, go.others),
       )
     where
       rest_of : List (ℕ × R) → List (ℕ × R)

@@ -11,7 +11,7 @@ use Rattle.tag_core.specs.Callers.{record_of}
 use Rattle.tag_core.proofs.Masks.{ones_minus, minus_le}
 use Rattle.tag_core.proofs.Stand.{word_in}
 use Rattle.tag_core.proofs.Allowed.{claim_allowed}
-use Rattle.tag_core.proofs.Asking.{narrow, in_words, asked, left, after, recorded, slots, plus_none}
+use Rattle.tag_core.proofs.Asking.{found, narrow, in_words, asked, left, after, recorded, slots, plus_none}
 use Rattle.tag_core.proofs.Marking.{mask_read}
 use Rattle.tag_core.proofs.Holdings.{adds_acquires, not_found}
 use Rattle.tag_core.proofs.map.Map.claim.Goals as goal
@@ -51,11 +51,9 @@ returns-clause-step g c =
     (plus_none w.back) in record { known = recorded l; slots = slots l; same_map = c.fetch_or-found.ensures.0 }
 
 pub returns-clause-held : goal.returns-clause-held
-returns-clause-held g c =
-    let m = c.args.self.now in let w = c.args.caller.now in let own = c.requires.caller in let i : ℕ = c.args.word in
-    let did = c.fetch_or-found.ensures.2 i (record_of w) c.word_spot.ensures w.knows in λ t has e.
-    subst (λ (z : Shape). bit_at c.fetch_or-found.result (place_of z.layout t) ≡ 1) own.1
-    (did.1 t has.0 (ap (λ (z : Shape). word_of z.layout t) own.1 ∙ e) has.1)
+returns-clause-held g c = let w = c.args.caller.now in
+    found c.args.self.now w c.requires.caller c.args.word c.fetch_or-found.result 1
+    (c.fetch_or-found.ensures.2 c.args.word (record_of w) c.word_spot.ensures w.knows).1
 
 pub returns-clause-acquired : goal.returns-clause-acquired
 returns-clause-acquired g c =
