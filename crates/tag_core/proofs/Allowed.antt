@@ -1,5 +1,5 @@
 -- Each kind of step is allowed by the rule.
-use Rattle.std.proofs.Common.{◌≡◌, ◌≢◌, ℕ, ◌+◌, ◌-◌, ◌%◌, ◌^◌, ◌<◌, ◌≤◌, ◌⊎◌, List, ◌∷◌, length, get_or, set, ◌==◌, Bool, true, cond, eqb, count_ones, bit_or, arith, refl, sym, ap, ◌∙◌, subst, inl, inr, Some, None, eq-eqb, ne_eqb}
+use Rattle.std.proofs.Common.{◌≡◌, ◌≢◌, ℕ, ◌+◌, ◌-◌, ◌%◌, ◌^◌, ◌<◌, ◌≤◌, ◌⊎◌, List, ◌∷◌, length, get_or, set, ◌==◌, Bool, cond, eqb, count_ones, bit_or, arith, refl, sym, ap, ◌∙◌, subst, inl, inr, Some, None, eq-eqb, ne_eqb}
 use mathlib.Core.Option.{some, none, some-injective}
 use mathlib.Core.Logic.{dite}
 use native.Mathlib.Decide.{ℕ_discrete}
@@ -10,7 +10,6 @@ use Rattle.atomic_table.specs.Table.{State, Me, step, Allows, Act, Valid, carrie
 use Rattle.atomic_table.proofs.Lists.{exchanged}
 use Rattle.std.specs.Int.{bit_at}
 use Rattle.std.proofs.lemmas.Nat.{or_lt}
-use Rattle.sums.specs.Below.{one_if}
 use Rattle.step_ledger.proofs.Seats.{same_record}
 use Rattle.step_ledger.specs.Views.{own_view}
 use Rattle.tag_core.specs.Views.{View}
@@ -27,9 +26,9 @@ use Rattle.tag_core.specs.declared.word_step.WordStep.{WordStep}
 use Rattle.tag_core.specs.declared.word_step.WordStep.TheVariants.{Look, LookAside, Claimed, Give, Put, Swap, Spill}
 use Rattle.tag_core.specs.declared.record.Record.{Record}
 use Rattle.tag_core.specs.Spacing.{word_at, aside_at, state_at}
-use Rattle.tag_core.specs.Bits.{held_bit, posted_bit}
+use Rattle.tag_core.specs.Bits.{posted_bit}
 use Rattle.tag_core.specs.Histories.{event_of, event_of_word, world_of, last_post}
-use Rattle.tag_core.specs.Records.{record_after, held_after, tag_bit, value_of, Carries}
+use Rattle.tag_core.specs.Records.{record_after, tag_bit, value_of, Carries}
 use Rattle.tag_core.specs.Rule.{SlotIs, IsKnown, Shown}
 use Rattle.tag_core.specs.Plays.{Stepped, FindsHeld, looked, looked_aside, claimed, gave, put_aside, swapped, spilled, took}
 use Rattle.tag_core.specs.Plays as plays
@@ -42,7 +41,7 @@ use Rattle.tag_core.proofs.Masks.{add_bit, take_bits}
 use Rattle.tag_core.proofs.Stand.{bit_tag, word_at_one, aside_at_one, tag_mask_within}
 use Rattle.tag_core.proofs.Singles.{same_state}
 use Rattle.tag_core.proofs.Advance.{Owed}
-use Rattle.tag_core.proofs.Moving.{moved, kept, told}
+use Rattle.tag_core.proofs.Moving.{moved, kept, told, posted_unheld, held_one}
 
 -- a step on a word posts no tag
 none_posted : (l : Layout) (c : ℕ) (st : WordStep) (t : ℕ) (q : Place) → place_after l (event_of_word l c st) t q ≡ posted
@@ -292,14 +291,9 @@ module _ (R : Type 0) (k : Shape) (narrow : k.layout.shift ≤ 6) (id : ℕ) (me
       (λ t l e. inl (not_posted (t == u) r.number _ e, refl)) in
       let go = moved R k s sh r (Take u 1 (Some last.0)) (set s.words (state_at k.layout u) 0)
       owed o me.1 carries deep in
-      let one : (u == u) ≡ true = eq-eqb u u refl in
-      let not_mine : tag_bit k.layout r.held u ≢ 1 =
-      (λ (e : tag_bit k.layout r.held u ≡ 1). let b : held_bit r.number posted ≡ 1 = ap (held_bit r.number) (sym its)
-      ∙ o.held u lu ∙ e in absurd (omega arith)) in
-      let now_mine : tag_bit k.layout (held_after k.layout (Take u 1 (Some last.0)) r.held) u ≡ 1 =
-      sym (owed.tags u lu).held
-      ∙ ap (λ (x : Bool). held_bit r.number (cond x (held r.number) ((world_of k sh.history).place u))) one
-      ∙ ap one_if (eq-eqb r.number r.number refl) in
+      let not_mine = posted_unheld r.number ((world_of k sh.history).place u) _ (o.held u lu) its in
+      let now_mine = sym (owed.tags u lu).held ∙ held_one r.number _
+      (ap (λ (x : Bool). cond x (held r.number) ((world_of k sh.history).place u)) (eq-eqb u u refl)) in
       let came = go.taken u lu not_mine now_mine in
       let val : value_of (carried_after me.1 go.act) u ≡ some last.0 =
       ap (λ (l : List (ℕ × R)). value_of l u) go.list_is
@@ -309,16 +303,11 @@ module _ (R : Type 0) (k : Shape) (narrow : k.layout.shift ≤ 6) (id : ℕ) (me
         z.2,
         z.3,
         λ u' r' eu er. (
-          λ h. (
-            last.0,
-            subst (λ (x : ℕ). value_of (carried_after me.1 go.act) x ≡ some last.0)
-                (same_state k r r' u u' o.shape (same_record r r' (sym mine ∙ er)) eu) val,
-            renamed (λ x y. Stepped (Take x 1 (Some last.0)) y me (z.0, carried_after me.1 z.1))
-                (same_state k r r' u u' o.shape (same_record r r' (sym mine ∙ er)) eu) r' er z.4,
-            renamed (λ x y. tag_bit y.shape.layout y.held x ≢ 1)
-                (same_state k r r' u u' o.shape (same_record r r' (sym mine ∙ er)) eu) r' er
-                (subst (λ (z : Shape). tag_bit z.layout r.held u ≢ 1) (sym o.shape) not_mine),
-          ),
+          λ h. renamed (λ x y. (value : R) × (value_of (carried_after me.1 go.act) x ≡ some value)
+              × Stepped (Take x 1 (Some value)) y me (z.0, carried_after me.1 z.1)
+              × (tag_bit y.shape.layout y.held x ≢ 1))
+              (same_state k r r' u u' o.shape (same_record r r' (sym mine ∙ er)) eu) r' er
+              (last.0, val, z.4, subst (λ (z : Shape). tag_bit z.layout r.held u ≢ 1) (sym o.shape) not_mine),
           λ h. absurd (h hit),
         ),
       ))

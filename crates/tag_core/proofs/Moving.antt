@@ -44,7 +44,7 @@ holder (held c) = c
 holder _ = 0
 
 -- a posted tag is in no held set
-posted_unheld : (c : ℕ) (q : Place) (had : ℕ) → held_bit c q ≡ had → q ≡ posted → had ≢ 1
+pub posted_unheld : (c : ℕ) (q : Place) (had : ℕ) → held_bit c q ≡ had → q ≡ posted → had ≢ 1
 posted_unheld c q had was e = grind arith
 
 module _ (R : Type 0) (home : maybe.Option (maybe.Option R)) (c : ℕ) (q p : Place) (had has : ℕ)

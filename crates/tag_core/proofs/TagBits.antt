@@ -1,7 +1,5 @@
 -- A tag's bits in words and masks, and what they are once one word is changed.
-use Rattle.std.proofs.Common.{◌≡◌, ◌≢◌, ℕ, ◌-◌, ◌/◌, ◌%◌, ◌^◌, ◌<◌, ◌≤◌, List, length, get_or, set, bit_or, min, max, arith, sym, ap, ◌∙◌, get_or-set_other, get_or-set_same, eq-eqb, ne_eqb}
-use mathlib.Core.Logic.{dite}
-use native.Mathlib.Decide.{ℕ_discrete}
+use Rattle.std.proofs.Common.{◌≡◌, ◌≢◌, ℕ, ◌-◌, ◌/◌, ◌%◌, ◌^◌, ◌<◌, ◌≤◌, List, length, get_or, set, bit_or, min, max, arith, ap, ◌∙◌, get_or-set_other, get_or-set_same, eq-eqb, ne_eqb}
 use Rattle.std.specs.Int.{bit_at, trailing_zeros, w64}
 use Rattle.std.proofs.lemmas.Nat.{pow_pos, pow_below, mod_below}
 use Rattle.std.proofs.lemmas.Nat.Bits.{bit_at_or, bit_at-lt, bit_at-zero, bit_at-pow_same, bit_at-pow_other, bit_at-trailing_zeros}
@@ -80,9 +78,7 @@ module _ (k : Shape) (narrow : k.layout.shift ≤ 6) where
   pub tag_named : (u : ℕ) → tag_at k.layout (word_of k.layout u) (trailing_zeros w64 (2 ^ place_of k.layout u)) ≡ u
   tag_named u = let p : ℕ = place_of k.layout u in
       let low = bit_at-trailing_zeros w64 (2 ^ p) (pow_pos p) (tag_mask u) in
-      let is : trailing_zeros w64 (2 ^ p) ≡ p = dite (ℕ_discrete p (trailing_zeros w64 (2 ^ p))) (λ e. sym e)
-      (λ ne. let none_there = bit_at-pow_other p (trailing_zeros w64 (2 ^ p)) (λ e. ne (sym e)) in
-      let one = low.1 in absurd (omega arith)) in
+      let is : trailing_zeros w64 (2 ^ p) ≡ p = grind (arith, bit_at-pow_other p (trailing_zeros w64 (2 ^ p)), low.1) in
       ap (tag_at k.layout (word_of k.layout u)) is ∙ tag_at-back k.layout u
 
   -- the bits y of a mask for one word

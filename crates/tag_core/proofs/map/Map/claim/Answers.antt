@@ -1,8 +1,7 @@
 -- The step sets the mask's bits in the word and wins those that it found 0. There is room for all of them by the test
 -- before it, the caller's mask gains what was won, and its seat the slots of these tags.
-use Rattle.std.proofs.Common.{rules, arith, ◌≡◌, ℕ, ◌+◌, ◌≤◌, slice_set, length-set, bit_or, count_ones, refl, sym, ap, ◌∙◌, subst}
-use Rattle.std.specs.Int.{bit_at}
-use Rattle.tag_layout.specs.Layout.{IsWithin, word_of, place_of}
+use Rattle.std.proofs.Common.{rules, arith, ℕ, ◌+◌, ◌≤◌, slice_set, length-set, bit_or, count_ones, refl, sym, ap, ◌∙◌, subst}
+use Rattle.tag_layout.specs.Layout.{IsWithin}
 use Rattle.tag_core.specs.declared.shape.Shape.{Shape}
 use Rattle.tag_core.specs.Steps.{without}
 use Rattle.tag_core.specs.Spacing.{word_at}

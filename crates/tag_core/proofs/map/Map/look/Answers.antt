@@ -1,9 +1,6 @@
 -- A load changes no word. The record gains the step with the word that was found, in which the bit of each tag that the
 -- caller holds is 1.
-use Rattle.std.proofs.Common.{◌≡◌, ℕ, refl, ap, ◌∙◌, subst}
-use Rattle.std.specs.Int.{bit_at}
-use Rattle.tag_layout.specs.Layout.{word_of, place_of}
-use Rattle.tag_core.specs.declared.shape.Shape.{Shape}
+use Rattle.std.proofs.Common.{ℕ, refl}
 use Rattle.tag_core.specs.Spacing.{word_at}
 use Rattle.tag_core.specs.Plays.{looked}
 use Rattle.tag_core.specs.Callers.{record_of}

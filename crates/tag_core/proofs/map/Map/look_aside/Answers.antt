@@ -1,8 +1,5 @@
 -- A load changes no word; the record gains the step with what it found, and all else of the caller stays.
-use Rattle.std.proofs.Common.{◌≡◌, ℕ, refl, ap, ◌∙◌, subst}
-use Rattle.std.specs.Int.{bit_at}
-use Rattle.tag_layout.specs.Layout.{word_of, place_of}
-use Rattle.tag_core.specs.declared.shape.Shape.{Shape}
+use Rattle.std.proofs.Common.{ℕ, refl}
 use Rattle.tag_core.specs.Spacing.{aside_at}
 use Rattle.tag_core.specs.Plays.{looked_aside}
 use Rattle.tag_core.specs.Callers.{record_of}
