@@ -93,12 +93,8 @@ module _ (R : Type 0) (n : ℕ) (f : ℕ → ℕ) (u : ℕ) (lu : u < n) (has : 
         was = back.1;
         tags = go.tags;
         others = λ t l ne is. let w = go.kept t l is (but_else f u t ne ∙ is) in w.2 ∙ sym w.1;
-        same = λ t l. dite (ℕ_discrete t u)
-            (λ (e : t ≡ u). ap (get_elem? (set hs1 u none)) e ∙ set_here hs1 u none (omega arith) ∙ sym (out u lu has)
-            ∙ ap (get_elem? hs) (sym e))
-            (λ (ne : t ≢ u). set_else hs1 u t none ne ∙ dite (ℕ_discrete (f t) 1)
-            (λ (is : f t ≡ 1). go.out t l (but_else f u t ne ∙ is) ∙ sym (out t l is))
-            (λ (no : f t ≢ 1). go.same t l no (λ e. no (but_one f u t e).1)));
+        same = λ t l. grind (arith, but_here, but_else, set_here hs1 u none, set_else hs1 u t none, go.out t l,
+            go.same t l, out t l, out u lu);
       }
 
   -- an act that leaves each home as it was and puts the front slot back into its order
@@ -129,10 +125,7 @@ module _ (R : Type 0) (n : ℕ) (f : ℕ → ℕ) (u : ℕ) (lu : u < n) (has : 
             ∙ some-injective (some came.0) (some value) (sym came.1 ∙ home);
         others = λ t l ne is. let w = go.kept t l (but_else f u t ne ∙ is) is in
             ap (λ (z : List (ℕ × R)). value_of z t) go.list_is ∙ w.2 ∙ sym w.1;
-        same = λ t l. dite (ℕ_discrete (f t) 1)
-            (λ (is : f t ≡ 1). go.out t l is ∙ sym (out t l is))
-            (λ (no : f t ≢ 1). go.same t l (λ e. no (but_one f u t e).1) no
-            ∙ set_else hs u t (some value) (λ (e : t ≡ u). no (ap f e ∙ has)));
+        same = λ t l. grind (arith, but_else, set_else hs u t (some value), go.out t l, go.same t l, out t l);
       }
 
 module _ (R : Type 0) (k : Shape) (id : ℕ) (me : Me R (View R)) (r : Record R) (mine : me.0 ≡ own_view r) (u : ℕ)
