@@ -1,10 +1,9 @@
 -- What the last state tells where one seat has the records of all callers.
-use Rattle.std.proofs.Common.{◌≡◌, ◌≢◌, ℕ, zero, suc, ◌/◌, ◌%◌, ◌^◌, ◌<◌, ◌≤◌, ◌⊎◌, List, [], ◌∷◌, length, get_or, nat_eq, count_ones, arith, refl, sym, ap, ◌∙◌, ⊎_elim, eq-eqb, ne_eqb}
+use Rattle.std.proofs.Common.{◌≡◌, ◌≢◌, ℕ, zero, suc, ◌<◌, ◌≤◌, ◌⊎◌, List, [], ◌∷◌, length, get_or, nat_eq, count_ones, arith, refl, sym, ap, ◌∙◌, ⊎_elim, eq-eqb, ne_eqb}
 use mathlib.Core.Option.{some}
 use mathlib.Core.Logic.{dite}
 use native.Mathlib.Decide.{dec_lt}
 use lib.ListN.{get_elem?}
-use Rattle.std.specs.Int.{bit_at}
 use Rattle.atomic_table.specs.Table.{State}
 use Rattle.sums.specs.Below.{sum_below, one_if}
 use Rattle.sums.proofs.Laws.{sum_below-none, sum_below-same, sum_below-only, sum_below-first, sum_below-swap, sum_below-le, one_if-le}
@@ -86,12 +85,6 @@ module _ (k : Shape) where
   holders aside h = sum_below-none (λ c. 0) k.callers (λ c l. refl)
   holders (sweep c) h = sum_below-none (λ c. 0) k.callers (λ c l. refl)
 
-  here_among : (i m t : ℕ) → t / 2 ^ k.layout.shift ≡ i → among k.layout.shift i m t ≡ bit_at m (t % 2 ^ k.layout.shift)
-  here_among i m t e = grind (arith, eq-eqb)
-
-  else_among : (i m t : ℕ) → t / 2 ^ k.layout.shift ≢ i → among k.layout.shift i m t ≡ 0
-  else_among i m t e = grind (arith, ne_eqb)
-
   -- the bits of one mask for each word, counted by tags
   pub by_tags : (ms : List ℕ) → length ms ≡ words k.layout
       → ((i : ℕ) → i < words k.layout → IsWithin k.layout i (get_or ms i 0))
@@ -107,8 +100,7 @@ module _ (k : Shape) where
       ∙ sum_below-same (λ t. sum_below (λ i. among k.layout.shift i (get_or ms i 0) t) (words k.layout))
       (tag_bit k.layout ms) k.layout.depth (λ t l.
       sum_below-only (λ i. among k.layout.shift i (get_or ms i 0) t) (words k.layout) (word_of k.layout t)
-      (word_of-below k.layout t l) (λ i li ne. else_among i (get_or ms i 0) t (λ z. ne (sym z)))
-      ∙ here_among (word_of k.layout t) (get_or ms (word_of k.layout t) 0) t refl)
+      (word_of-below k.layout t l) (λ i li ne. grind (arith, ne_eqb)) ∙ grind (arith, eq-eqb))
 
   module _ {R : Type 0} (s : State R (View R)) (sh : Shown k s) (id : ℕ) (v : View R)
       (at : get_elem? s.views id ≡ some v) where

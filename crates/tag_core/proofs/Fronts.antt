@@ -93,8 +93,17 @@ module _ (R : Type 0) (n : ℕ) (f : ℕ → ℕ) (u : ℕ) (lu : u < n) (has : 
         was = back.1;
         tags = go.tags;
         others = λ t l ne is. let w = go.kept t l is (but_else f u t ne ∙ is) in w.2 ∙ sym w.1;
-        same = λ t l. grind (arith, but_here, but_else, set_here hs1 u none, set_else hs1 u t none, go.out t l,
-            go.same t l, out t l, out u lu);
+        same = λ t l. grind (
+          arith,
+          but_here,
+          but_else,
+          set_here hs1 u none,
+          set_else hs1 u t none,
+          go.out t l,
+          go.same t l,
+          out t l,
+          out u lu,
+        );
       }
 
   -- an act that leaves each home as it was and puts the front slot back into its order

@@ -1,5 +1,5 @@
 -- Two entries for each tag: which of them counts, and what a write and a turn change.
-use Rattle.std.proofs.Common.{◌≡◌, ◌≢◌, ℕ, ◌+◌, ◌%◌, ◌<◌, ◌==◌, List, map, length, get_or, set, replicate, Bool, true, false, cond, bit_xor, arith, sym, ap, ◌∙◌, subst, get_or-set_same, get_or-set_other}
+use Rattle.std.proofs.Common.{◌≡◌, ◌≢◌, ℕ, ◌+◌, ◌%◌, ◌<◌, ◌==◌, List, map, length, get_or, set, replicate, true, false, cond, bit_xor, arith, sym, ap, ◌∙◌, get_or-set_same, get_or-set_other}
 use Rattle.std.proofs.Math.Path.{fun_ext}
 use Rattle.std.specs.List.{range_with_len}
 use Rattle.std.proofs.lemmas.List.{ext_get_or, length-replicate, get_or-replicate}
@@ -77,17 +77,7 @@ module _ (l : Layout) (turned : List ℕ) where
       → chosen l turned first second ≡ replicate l.depth Free
   chosen-free first second one two = ext_get_or Free (chosen l turned first second) (replicate l.depth Free)
       (length-chosen first second ∙ sym (length-replicate l.depth Free))
-      (λ tag h. let low : tag < l.depth = subst (λ (n : ℕ). tag < n) (length-chosen first second) h in
-      let all : get_or (replicate l.depth Free) tag Free ≡ Free = get_or-replicate l.depth tag Free Free low in
-      chosen-at first second tag low
-      ∙ either (is_turned l turned tag) (get_or first tag Free) (get_or second tag Free)
-      (ap (λ (xs : List Place). get_or xs tag Free) one ∙ all) (ap (λ (xs : List Place). get_or xs tag Free) two
-      ∙ all)
-      ∙ sym all)
-    where
-      either : (b : Bool) (x y : Place) → x ≡ Free → y ≡ Free → cond b y x ≡ Free
-      either true x y e g = g
-      either false x y e g = e
+      (λ tag h. grind (arith, chosen-at first second tag, length-chosen, get_or-replicate l.depth tag Free Free))
 
 -- a bit that is flipped where the mask's is 1
 flipped : (a m : ℕ) → a < 2 → m < 2 → ((a + m) % 2 == 1) ≡ cond (m == 1) (cond (a == 1) false true) (a == 1)

@@ -1,5 +1,5 @@
 -- The callers are reseated in the order of their numbers, each in its own place.
-use Rattle.std.proofs.Common.{rules, arith, ◌≡◌, ◌≢◌, ℕ, ◌+◌, ◌-◌, ◌<◌, ◌≤◌, List, [], ◌∷◌, All, Vec, Global, length, length-set, length-append, get_or, set, replicate, sym, ap, ◌∙◌, subst, ⊎_elim}
+use Rattle.std.proofs.Common.{rules, arith, ◌≡◌, ℕ, ◌+◌, ◌-◌, ◌<◌, ◌≤◌, List, [], ◌∷◌, All, Vec, Global, length, length-set, length-append, get_or, set, replicate, sym, ap, ◌∙◌, subst}
 use mathlib.Core.Option.{some, some-injective}
 use mathlib.Core.Logic.{dite}
 use native.Mathlib.Decide.{dec_lt}
