@@ -82,6 +82,7 @@ module _ (S : Type 0) where
   put_here f n a t hs hs' x cs one is low more =
       grind (arith, eq-eqb, ne_eqb, set_here hs x.0 (some x.1), set_else hs x.0 t (some x.1), more.inside, more.outside)
 
+  -- a tag that the list has not changes nothing
   put_else : (f : ℕ → ℕ) (n a t : ℕ) (hs hs' : Homes) (cs : Held) → f a ≢ 1
       → Put hs hs' cs f (suc a) n t → Put hs hs' cs f a (suc n) t
   put_else f n a t hs hs' cs other more = grind (arith, more.inside, more.outside)

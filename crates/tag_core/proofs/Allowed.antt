@@ -44,8 +44,8 @@ use Rattle.tag_core.proofs.Advance.{Owed}
 use Rattle.tag_core.proofs.Moving.{moved, kept, told, posted_unheld, held_one}
 
 -- a step on a word posts no tag
-none_posted : (l : Layout) (c : ℕ) (st : WordStep) (t : ℕ) (q : Place) → place_after l (event_of_word l c st) t q ≡ posted
-    → q ≡ posted
+none_posted : (l : Layout) (c : ℕ) (st : WordStep) (t : ℕ) (q : Place)
+    → place_after l (event_of_word l c st) t q ≡ posted → q ≡ posted
 none_posted l c st t q e = grind arith
 
 -- nor does a take
@@ -209,7 +209,8 @@ module _ (R : Type 0) (k : Shape) (narrow : k.layout.shift ≤ 6) (id : ℕ) (me
       (spilled (step k.layout.depth (word_at i) (get_or r.swept i 0) 0 none) me)
   spill_allowed i inside fits = let m : ℕ = get_or r.swept i 0 in
       allowed word_at word_at_one i (λ n. (n + (2 ^ 64 - m)) % 2 ^ 64) (λ i r n. Spill i (get_or r.swept i 0) n)
-      (λ i r n me'. Stepped (Word (Spill i (get_or r.swept i 0) n)) r me me') (λ s sh o. let n : ℕ = get_or s.words (word_at i) 0 in (
+      (λ i r n me'. Stepped (Word (Spill i (get_or r.swept i 0) n)) r me me')
+      (λ s sh o. let n : ℕ = get_or s.words (word_at i) 0 in (
         subst (λ (x : ℕ). Owed R k s sh r (Word (Spill i m n)) (set s.words (word_at i) x))
             (sym (take_bits n m (word_fits s sh i inside) fits (swept_taken R k narrow s sh r o i inside)))
             (spill_owed R k narrow s sh r o i inside fits),
@@ -313,7 +314,8 @@ module _ (R : Type 0) (k : Shape) (narrow : k.layout.shift ≤ 6) (id : ℕ) (me
       ))
       (λ (miss : n ≢ 1). let zero_there : n ≡ 0 = omega arith in
       let z = answer s sh deep at (Take u 0 None) (set s.words (state_at k.layout u) n)
-      (unchanged s sh (state_at k.layout u) (miss_owed R k narrow s sh r o u lu zero_there)) (λ t l e. inl (e, refl)) in (
+      (unchanged s sh (state_at k.layout u) (miss_owed R k narrow s sh r o u lu zero_there))
+      (λ t l e. inl (e, refl)) in (
         z.0,
         z.1,
         z.2,

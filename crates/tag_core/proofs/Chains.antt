@@ -24,9 +24,11 @@ record Counting (R : Type 0) (count : World → ℕ → ℕ) (added : Event → 
   goes_on : (last : Epoch R) (next : Shape) → GoesOn last next → (c : ℕ) → c < last.shape.callers
       → count (opening_world next) c ≡ count (world_of last.shape last.history) c
 
+-- tags won are such a count
 won_counting : {R : Type 0} → Counting R (λ w. w.won) won_by
 won_counting = record { grows = λ l e w. refl; starts = λ k is. is.0; goes_on = λ last next on. on.won }
 
+-- and so are tags given back
 back_counting : {R : Type 0} → Counting R (λ w. w.back) back_by
 back_counting = record { grows = λ l e w. refl; starts = λ k is. is.1; goes_on = λ last next on. on.back }
 

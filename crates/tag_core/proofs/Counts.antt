@@ -11,7 +11,8 @@ use Rattle.tag_core.specs.Records.{held_after, swept_after}
 module _ {R : Type 0} (l : Layout) (c : ℕ) where
   -- what a step adds to its caller's counts
   pub own_counts : (st : Step R) (g : ℕ → ℕ) → let e = event_of l c st in
-      (plus_at (caller_of e) (won_by e) g c ≡ g c + won_by e) × (plus_at (caller_of e) (back_by e) g c ≡ g c + back_by e)
+      (plus_at (caller_of e) (won_by e) g c ≡ g c + won_by e)
+      × (plus_at (caller_of e) (back_by e) g c ≡ g c + back_by e)
   own_counts st g = grind (arith, plus_at-here, plus_at-none)
 
   -- a step adds nothing to another caller's counts

@@ -31,7 +31,8 @@ named_in k narrow i m t within named = grind (arith, among_one, among_here, amon
 pub not_found : (k : Shape) → k.layout.shift ≤ 6 → (i m found t : ℕ) → found < 2 ^ 64
     → IsInMask k.layout i (without m found) t
     → (word_of k.layout t ≡ i → bit_at found (place_of k.layout t) ≡ 1) → ⊥
-not_found k narrow i m found t fits named taken = grind (arith, among_one, among_here, among_else, bit_minus, place_small)
+not_found k narrow i m found t fits named taken =
+    grind (arith, among_one, among_here, among_else, bit_minus, place_small)
 
 -- a mask of one tag names that tag alone
 module _ (k : Shape) (narrow : k.layout.shift ≤ 6) (u : ℕ) where

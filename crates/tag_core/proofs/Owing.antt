@@ -39,12 +39,15 @@ module _ (k : Shape) (ws : List ℕ) (c : Cells) (has : HasCells k ws c) where
   -- the table after a change of one word
   pub word_cells : (i x x' : ℕ) → i < words k.layout → x ≡ x' → IsWithin k.layout i x'
       → HasCells k (set ws (word_at i) x) (record c { words = record c.words { word = changed_at c.words.word i x' } })
-  word_cells i x x' h same fits = grind (arith, change, has.word, has.aside, has.state, has.word_within, has.aside_within)
+  word_cells i x x' h same fits =
+      grind (arith, change, has.word, has.aside, has.state, has.word_within, has.aside_within)
 
   -- after a change of one cleared set
   pub aside_cells : (i x x' : ℕ) → i < words k.layout → x ≡ x' → IsWithin k.layout i x'
-      → HasCells k (set ws (aside_at i) x) (record c { words = record c.words { aside = changed_at c.words.aside i x' } })
-  aside_cells i x x' h same fits = grind (arith, change, has.word, has.aside, has.state, has.word_within, has.aside_within)
+      → HasCells k (set ws (aside_at i) x)
+      (record c { words = record c.words { aside = changed_at c.words.aside i x' } })
+  aside_cells i x x' h same fits =
+      grind (arith, change, has.word, has.aside, has.state, has.word_within, has.aside_within)
 
   -- after a change of one tag's state
   pub state_cells : (u x : ℕ) → u < k.layout.depth

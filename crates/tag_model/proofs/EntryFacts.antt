@@ -43,12 +43,14 @@ module _ (l : Layout) (turned : List ℕ) where
   pub same-first : (first second : List Place) (tag : ℕ) (place : Place) → is_turned l turned tag ≡ true
       → chosen l turned (set first tag place) second ≡ chosen l turned first second
   same-first first second tag place is = ap (λ (f : ℕ → Place). map f (range_with_len 0 l.depth))
-      (fun_ext {f = entry (set first tag place) second} {g = entry first second} (λ (k : ℕ). grind (arith, entry-first)))
+      (fun_ext {f = entry (set first tag place) second} {g = entry first second}
+      (λ (k : ℕ). grind (arith, entry-first)))
 
   pub same-second : (first second : List Place) (tag : ℕ) (place : Place) → is_turned l turned tag ≡ false
       → chosen l turned first (set second tag place) ≡ chosen l turned first second
   same-second first second tag place is = ap (λ (f : ℕ → Place). map f (range_with_len 0 l.depth))
-      (fun_ext {f = entry first (set second tag place)} {g = entry first second} (λ (k : ℕ). grind (arith, entry-second)))
+      (fun_ext {f = entry first (set second tag place)} {g = entry first second}
+      (λ (k : ℕ). grind (arith, entry-second)))
 
   -- the entry that was written
   pub here-first : (first second : List Place) (tag : ℕ) (place : Place) → is_turned l turned tag ≡ false

@@ -35,4 +35,5 @@ module _ (l : Layout) (callers : ℕ) where
   back-history h w is small balance c low =
       let even = balances-history l callers h w is balance in
       let one = le-sum_below (after_history l h w).back callers c low in
-      let all = sum_below-bound (after_history l h w).won callers MOST_WON (λ c _. won-history h w is small c) in omega arith
+      let all = sum_below-bound (after_history l h w).won callers MOST_WON (λ c _. won-history h w is small c) in
+      omega arith
