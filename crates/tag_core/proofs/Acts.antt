@@ -69,59 +69,41 @@ module _ (S : Type 0) where
     inside : In f a n t → (v : S) × (value_of cs t ≡ some v) × (get_elem? hs' t ≡ some (some v))
     outside : ¬ In f a n t → get_elem? hs' t ≡ get_elem? hs t
 
+  -- the tags from one on, where it is among them and where it is not
+  tags_here : (f : ℕ → ℕ) (a n : ℕ) → f a ≡ 1 → tags_from f a (suc n) ≡ a ∷ tags_from f (suc a) n
+  tags_here f a n one = grind (arith, eq-eqb)
+
+  tags_else : (f : ℕ → ℕ) (a n : ℕ) → f a ≢ 1 → tags_from f a (suc n) ≡ tags_from f (suc a) n
+  tags_else f a n other = grind (arith, ne_eqb)
+
+  -- a slot that goes back is at home
+  put_here : (f : ℕ → ℕ) (n a t : ℕ) (hs hs' : Homes) (x : ℕ × S) (cs : Held) → f a ≡ 1 → x.0 ≡ a → a < length hs
+      → Put (set hs x.0 (some x.1)) hs' cs f (suc a) n t → Put hs hs' (x ∷ cs) f a (suc n) t
+  put_here f n a t hs hs' x cs one is low more =
+      grind (arith, eq-eqb, ne_eqb, set_here hs x.0 (some x.1), set_else hs x.0 t (some x.1), more.inside, more.outside)
+
+  -- a tag that the list has not changes nothing
+  put_else : (f : ℕ → ℕ) (n a t : ℕ) (hs hs' : Homes) (cs : Held) → f a ≢ 1
+      → Put hs hs' cs f (suc a) n t → Put hs hs' cs f a (suc n) t
+  put_else f n a t hs hs' cs other more = grind (arith, more.inside, more.outside)
+
   puts : (f : ℕ → ℕ) (n a : ℕ) (hs : Homes) (cs : Held) → a + n ≤ length hs → map (λ x. x.0) cs ≡ tags_from f a n
       → (t : ℕ) → Put hs (put_all hs cs) cs f a n t
   unfolding put_all
   puts f zero a hs [] near e t = record { inside = λ i. absurd (omega (arith, i.0, i.1)); outside = λ _. refl }
-  puts f zero a hs (x ∷ cs) near e t = absurd (some-ne-none x.0 (ap (λ (l : List ℕ). get_elem? l 0) e))
+  puts f zero a hs (x ∷ cs) near e t = absurd cc
   puts f (suc n) a hs cs near e t =
-      dite (ℕ_discrete (f a) 1)
-      (λ one. here (puts f n (suc a)) cs one
-      (e ∙ ap (λ (b : Bool). cond b (a ∷ tags_from f (suc a) n) (tags_from f (suc a) n)) (eq-eqb (f a) 1 one)))
-      (λ no. let ih = puts f n (suc a) hs cs (omega arith)
-      (e ∙ ap (λ (b : Bool). cond b (a ∷ tags_from f (suc a) n) (tags_from f (suc a) n)) (ne_eqb (f a) 1 no)) t in
-      record {
-        inside = λ i. ih.inside
-            (dite (ℕ_discrete t a) (λ (same : t ≡ a). absurd (no (ap f (sym same) ∙ i.2)))
-            (λ (ne : t ≢ a). let g = i.0 in let g2 = i.1 in (omega arith, omega arith, i.2)));
-        outside = λ o. ih.outside (λ i. let g = i.0 in let g2 = i.1 in o (omega arith, omega arith, i.2));
-      })
+      dite (ℕ_discrete (f a) 1) (λ one. here (puts f n (suc a)) cs one (e ∙ tags_here f a n one))
+      (λ other. put_else f n a t hs (put_all hs cs) cs other
+      (puts f n (suc a) hs cs (omega arith) (e ∙ tags_else f a n other) t))
     where
       here : ((hs : Homes) (cs : Held) → suc a + n ≤ length hs → map (λ x. x.0) cs ≡ tags_from f (suc a) n → (t : ℕ)
           → Put hs (put_all hs cs) cs f (suc a) n t) → (cs : Held) → f a ≡ 1
           → map (λ x. x.0) cs ≡ a ∷ tags_from f (suc a) n → Put hs (put_all hs cs) cs f a (suc n) t
-      here more [] one e = absurd (some-ne-none a (ap (λ (l : List ℕ). get_elem? l 0) (sym e)))
-      here more (x ∷ cs) one e =
-          let hd : x.0 ≡ a = some-injective x.0 a (ap (λ (l : List ℕ). get_elem? l 0) e) in
-          let hs1 : Homes = set hs x.0 (some x.1) in
-          let ih = more hs1 cs (subst (λ (z : ℕ). suc a + n ≤ z) (sym (length-set hs x.0 (some x.1))) (omega arith))
-          (ap rest_of e) t in
-          dite (ℕ_discrete t a)
-          (λ (same : t ≡ a). let back : get_elem? (put_all hs1 cs) t ≡ some (some x.1) = ih.outside
-          (λ i. let g = i.0 in absurd (omega arith)) ∙ ap (get_elem? hs1) (same ∙ sym hd)
-          ∙ set_here hs x.0 (some x.1) (omega arith) in record {
-            inside = λ i. (
-              x.1,
-              ap (λ (b : Bool). cond b (some x.1) (value_of cs t))
-                  (eq-eqb x.0 t (hd ∙ sym same)),
-              back,
-            );
-            outside = λ o. absurd (o (omega arith, omega arith, ap f same ∙ one));
-          })
-          (λ (ne : t ≢ a). let off : get_elem? hs1 t ≡ get_elem? hs t = set_else hs x.0 t (some x.1)
-          (λ (z : t ≡ x.0). ne (z ∙ hd)) in record {
-            inside = λ i. let g = i.0 in let g2 = i.1 in let w = ih.inside (omega arith, omega arith, i.2) in (
-              w.0,
-              ap (λ (b : Bool). cond b (some x.1) (value_of cs t))
-                  (ne_eqb x.0 t (λ (z : x.0 ≡ t). ne (sym z ∙ hd))) ∙ w.1,
-              w.2,
-            );
-            outside = λ o. ih.outside (λ i. let g = i.0 in let g2 = i.1 in o (omega arith, omega arith, i.2)) ∙ off;
-          })
-        where
-          rest_of : List ℕ → List ℕ
-          rest_of [] = []
-          rest_of (y ∷ ys) = ys
+      here more [] one e = absurd cc
+      here more (x ∷ cs) one e = let long = length-set hs x.0 (some x.1) in
+          put_here f n a t hs (put_all (set hs x.0 (some x.1)) cs) x cs one (cc) (omega arith)
+          (more (set hs x.0 (some x.1)) cs (omega arith) (cc) t)
 
   -- ---- taking
 
@@ -135,6 +117,13 @@ module _ (S : Type 0) where
     away : (t : ℕ) → ¬ In f a n t → get_elem? (homes_after hs [] (take_all list)) t ≡ get_elem? hs t
     long : length (homes_after hs [] (take_all list)) ≡ length hs
 
+  -- a tag from here on is this one, or one behind it
+  in_more : (f : ℕ → ℕ) (a n t : ℕ) → In f (suc a) n t → In f a (suc n) t
+  in_more f a n t i = grind arith
+
+  in_less : (f : ℕ → ℕ) (a n t : ℕ) → (t ≡ a → f a ≢ 1) → In f a (suc n) t → In f (suc a) n t
+  in_less f a n t other i = grind arith
+
   takings : (f : ℕ → ℕ) (n a : ℕ) (hs : Homes) → a + n ≤ length hs
       → ((t : ℕ) → In f a n t → (y : S) × (get_elem? hs t ≡ some (some y))) → Taken f a n hs
   takings f zero a hs near home =
@@ -147,44 +136,36 @@ module _ (S : Type 0) where
         away = λ t o. refl;
         long = refl;
       }
-  takings f (suc n) a hs near home = dite (ℕ_discrete (f a) 1) (one_more (takings f n (suc a) hs))
-      (λ no. let ih = takings f n (suc a) hs (omega arith)
-      (λ t i. let g = i.0 in let g2 = i.1 in home t (omega arith, omega arith, i.2)) in record {
+  takings f (suc n) a hs near home =
+      let ih = takings f n (suc a) hs (omega arith) (λ t i. home t (in_more f a n t i)) in
+      dite (ℕ_discrete (f a) 1) (one_more ih)
+      (λ other. record {
         list = ih.list;
-        tags = ih.tags ∙ ap (λ (b : Bool). cond b (a ∷ tags_from f (suc a) n) (tags_from f (suc a) n))
-            (sym (ne_eqb (f a) 1 no));
+        tags = ih.tags ∙ sym (tags_else f a n other);
         valid = ih.valid;
-        here = λ t i. ih.here t
-            (dite (ℕ_discrete t a) (λ (same : t ≡ a). absurd (no (ap f (sym same) ∙ i.2)))
-            (λ (ne : t ≢ a). let g = i.0 in let g2 = i.1 in (omega arith, omega arith, i.2)));
-        away = λ t o. ih.away t (λ i. let g = i.0 in let g2 = i.1 in o (omega arith, omega arith, i.2));
+        here = λ t i. ih.here t (in_less f a n t (λ _. other) i);
+        away = λ t o. ih.away t (λ i. o (in_more f a n t i));
         long = ih.long;
       })
     where
-      one_more : (suc a + n ≤ length hs → ((t : ℕ) → In f (suc a) n t → (y : S) × (get_elem? hs t ≡ some (some y)))
-          → Taken f (suc a) n hs) → f a ≡ 1 → Taken f a (suc n) hs
-      one_more more one =
-          let ih = more (omega arith) (λ t i. let g = i.0 in let g2 = i.1 in home t (omega arith, omega arith, i.2)) in
+      one_more : Taken f (suc a) n hs → f a ≡ 1 → Taken f a (suc n) hs
+      one_more ih one =
           let mine = home a (omega arith, omega arith, one) in
           let hs1 : Homes = homes_after hs [] (take_all ih.list) in
           let wide : length hs1 ≡ length hs = ih.long in
           let still : get_elem? hs1 a ≡ some (some mine.0) = ih.away a (λ i. let g = i.0 in absurd (omega arith))
           ∙ mine.1 in record {
             list = (a, mine.0) ∷ ih.list;
-            tags = ap (λ (l : List ℕ). a ∷ l) ih.tags
-                ∙ ap (λ (b : Bool). cond b (a ∷ tags_from f (suc a) n) (tags_from f (suc a) n))
-                (sym (eq-eqb (f a) 1 one));
+            tags = ap (λ (l : List ℕ). a ∷ l) ih.tags ∙ sym (tags_here f a n one);
             valid = (ih.valid, still);
             here = λ t i. dite (ℕ_discrete t a)
                 (λ (same : t ≡ a). (
                   mine.0,
-                  ap (get_elem? hs) same
-                      ∙ mine.1,
+                  ap (get_elem? hs) same ∙ mine.1,
                   ap (λ (b : Bool). cond b (some mine.0) (value_of ih.list t)) (eq-eqb a t (sym same)),
-                  ap
-                      (get_elem? (set hs1 a none)) same ∙ set_here hs1 a none (omega arith),
+                  ap (get_elem? (set hs1 a none)) same ∙ set_here hs1 a none (omega arith),
                 ))
-                (λ (ne : t ≢ a). let g = i.0 in let g2 = i.1 in let w = ih.here t (omega arith, omega arith, i.2) in (
+                (λ (ne : t ≢ a). let w = ih.here t (in_less f a n t (λ e. absurd (ne e)) i) in (
                   w.0,
                   w.1,
                   ap (λ (b : Bool). cond b (some mine.0) (value_of ih.list t))
@@ -192,8 +173,7 @@ module _ (S : Type 0) where
                   set_else hs1 a t none ne ∙ w.3,
                 ));
             away = λ t o. let ne : t ≢ a = (λ (z : t ≡ a). o (omega arith, omega arith, ap f z ∙ one)) in
-                set_else hs1 a t none ne ∙ ih.away t (λ i. let g = i.0 in let g2 = i.1 in
-                o (omega arith, omega arith, i.2));
+                set_else hs1 a t none ne ∙ ih.away t (λ i. o (in_more f a n t i));
             long = length-set hs1 a none ∙ ih.long;
           }
 

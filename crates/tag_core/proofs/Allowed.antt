@@ -1,5 +1,5 @@
 -- Each kind of step is allowed by the rule.
-use Rattle.std.proofs.Common.{◌≡◌, ◌≢◌, ℕ, ◌+◌, ◌-◌, ◌%◌, ◌^◌, ◌<◌, ◌≤◌, ◌⊎◌, List, ◌∷◌, length, get_or, set, ◌==◌, Bool, true, false, cond, eqb, count_ones, bit_or, arith, refl, sym, ap, ◌∙◌, subst, inl, inr, Some, None, eq-eqb, ne_eqb}
+use Rattle.std.proofs.Common.{◌≡◌, ◌≢◌, ℕ, ◌+◌, ◌-◌, ◌%◌, ◌^◌, ◌<◌, ◌≤◌, ◌⊎◌, List, ◌∷◌, length, get_or, set, ◌==◌, Bool, cond, eqb, count_ones, bit_or, arith, refl, sym, ap, ◌∙◌, subst, inl, inr, Some, None, eq-eqb, ne_eqb}
 use mathlib.Core.Option.{some, none, some-injective}
 use mathlib.Core.Logic.{dite}
 use native.Mathlib.Decide.{ℕ_discrete}
@@ -10,60 +10,47 @@ use Rattle.atomic_table.specs.Table.{State, Me, step, Allows, Act, Valid, carrie
 use Rattle.atomic_table.proofs.Lists.{exchanged}
 use Rattle.std.specs.Int.{bit_at}
 use Rattle.std.proofs.lemmas.Nat.{or_lt}
-use Rattle.sums.specs.Below.{one_if}
 use Rattle.step_ledger.proofs.Seats.{same_record}
 use Rattle.step_ledger.specs.Views.{own_view}
 use Rattle.tag_core.specs.Views.{View}
 use Rattle.tag_layout.specs.Layout.{Layout, words, word_depth, word_of, place_of, IsWithin}
 use Rattle.tag_layout.proofs.PlaceFacts.{word_of-below}
 use Rattle.tag_model.specs.declared.place.Place.{Place}
-use Rattle.tag_model.specs.declared.place.Place.TheVariants.{Free as free, Held as held, Posted as posted, Aside as aside, Sweep as sweep}
+use Rattle.tag_model.specs.declared.place.Place.TheVariants.{Held as held, Posted as posted}
 use Rattle.tag_model.specs.declared.world.TheConstants.{MOST_WON}
-use Rattle.tag_model.specs.Event.{swept_by, spilled_by}
+use Rattle.tag_model.specs.World.{place_after}
 use Rattle.tag_core.specs.declared.shape.Shape.{Shape}
 use Rattle.tag_core.specs.declared.step.Step.{Step}
 use Rattle.tag_core.specs.declared.step.Step.TheVariants.{Word, Post, Take}
+use Rattle.tag_core.specs.declared.word_step.WordStep.{WordStep}
 use Rattle.tag_core.specs.declared.word_step.WordStep.TheVariants.{Look, LookAside, Claimed, Give, Put, Swap, Spill}
 use Rattle.tag_core.specs.declared.record.Record.{Record}
 use Rattle.tag_core.specs.Spacing.{word_at, aside_at, state_at}
-use Rattle.tag_core.specs.Bits.{held_bit, posted_bit}
-use Rattle.tag_core.specs.Histories.{event_of, world_of, last_post}
-use Rattle.tag_core.specs.Records.{record_after, held_after, tag_bit, value_of, Carries}
+use Rattle.tag_core.specs.Bits.{posted_bit}
+use Rattle.tag_core.specs.Histories.{event_of, event_of_word, world_of, last_post}
+use Rattle.tag_core.specs.Records.{record_after, tag_bit, value_of, Carries}
 use Rattle.tag_core.specs.Rule.{SlotIs, IsKnown, Shown}
 use Rattle.tag_core.specs.Plays.{Stepped, FindsHeld, looked, looked_aside, claimed, gave, put_aside, swapped, spilled, took}
 use Rattle.tag_core.specs.Plays as plays
 use Rattle.tag_core.proofs.Picks.{among, placed}
-use Rattle.tag_core.proofs.TagBits.{small_word, bit_tag, among_here}
+use Rattle.tag_core.proofs.TagBits.{small_word, among_here}
 use Rattle.tag_core.proofs.Turns.{held_from, posted_from, posted_small}
 use Rattle.tag_core.proofs.Owing.{claim_owed, give_owed, look_owed, look_aside_owed, miss_owed, held_shown}
 use Rattle.tag_core.proofs.OwingTags.{put_owed, post_owed, take_owed, swap_owed, swept_taken, spill_owed}
 use Rattle.tag_core.proofs.Masks.{add_bit, take_bits}
-use Rattle.tag_core.proofs.Stand.{word_at_one, aside_at_one, tag_mask_within}
+use Rattle.tag_core.proofs.Stand.{bit_tag, word_at_one, aside_at_one, tag_mask_within}
 use Rattle.tag_core.proofs.Singles.{same_state}
 use Rattle.tag_core.proofs.Advance.{Owed}
-use Rattle.tag_core.proofs.Moving.{moved, kept, told}
+use Rattle.tag_core.proofs.Moving.{moved, kept, told, posted_unheld, held_one}
 
--- a tag that is posted after an event that brings none there was posted before
-unposted : (b : Bool) (p q : Place) → (p ≡ posted → q ≡ posted) → cond b p q ≡ posted → q ≡ posted
-unposted true p q n e = n e
-unposted false p q n e = e
+-- a step on a word posts no tag
+none_posted : (l : Layout) (c : ℕ) (st : WordStep) (t : ℕ) (q : Place)
+    → place_after l (event_of_word l c st) t q ≡ posted → q ≡ posted
+none_posted l c st t q e = grind arith
 
-held_no_post : (c : ℕ) (q : Place) → held c ≡ posted → q ≡ posted
-held_no_post c q e = cc
-
-swept_no_post : (c : ℕ) (q : Place) → swept_by c q ≡ posted → q ≡ posted
-swept_no_post c free e = cc
-swept_no_post c (held d) e = cc
-swept_no_post c posted e = refl
-swept_no_post c aside e = cc
-swept_no_post c (sweep d) e = cc
-
-spilled_no_post : (c : ℕ) (q : Place) → spilled_by c q ≡ posted → q ≡ posted
-spilled_no_post c free e = e
-spilled_no_post c (held d) e = e
-spilled_no_post c posted e = refl
-spilled_no_post c aside e = e
-spilled_no_post c (sweep d) e = unposted (d == c) free (sweep d) (λ z. cc) e
+-- nor does a take
+not_posted : (b : Bool) (c : ℕ) (q : Place) → cond b (held c) q ≡ posted → q ≡ posted
+not_posted b c q e = grind arith
 
 module _ (R : Type 0) (k : Shape) (narrow : k.layout.shift ≤ 6) (id : ℕ) (me : Me R (View R)) (r : Record R)
     (mine : me.0 ≡ own_view r) (carries : Carries k.layout r.held me.1) where
@@ -98,12 +85,10 @@ module _ (R : Type 0) (k : Shape) (narrow : k.layout.shift ≤ 6) (id : ℕ) (me
       told R k s sh r st words' owed ok me.1 carries deep posts id here me refl,
     )
 
-    -- the same where the words stay
-    still : (st : Step R) (i : ℕ) → Owed R k s sh r st s.words → Posts s sh st
-        → Answer s st (set s.words i (get_or s.words i 0))
-    still st i owed posts =
-        answer st (set s.words i (get_or s.words i 0))
-        (subst (λ (ws : List ℕ). Owed R k s sh r st ws) (sym (set-get_or s.words i 0)) owed) posts
+  -- a step that leaves the words owes the same where one of them is set to what it is
+  unchanged : (s : State R (View R)) (sh : Shown k s) (i : ℕ) {st : Step R} → Owed R k s sh r st s.words
+      → Owed R k s sh r st (set s.words i (get_or s.words i 0))
+  unchanged s sh i {st} = subst (λ (ws : List ℕ). Owed R k s sh r st ws) (sym (set-get_or s.words i 0))
 
   -- what holds of this place and this record holds of the same under other names
   renamed : (fact : ℕ → Record R → Type 0) {i i' : ℕ} → i ≡ i' → (r' : Record R) → me.0 ≡ own_view r' → fact i r → fact i' r'
@@ -128,54 +113,57 @@ module _ (R : Type 0) (k : Shape) (narrow : k.layout.shift ≤ 6) (id : ℕ) (me
             ∙ (held_shown R k narrow s sh r o t l has).1),
       )
 
-  -- the table allows a load of a word
-  pub look_allowed : (i : ℕ) → i < words k.layout
-      → Allows (Shown k) k.layout.depth id me (word_at i) (λ n. n)
-      (looked (step k.layout.depth (word_at i) 0 0 none) me)
-  look_allowed i inside s sh deep at _ = let n : ℕ = get_or s.words (word_at i) 0 in let o = ok s sh deep at in
-      let z = still s sh deep at (Word (Look i n)) (word_at i) (look_owed R k narrow s sh r o i inside)
-      (λ t l e. inl (e, refl)) in (
+  -- a step on the word that `at` gives for i is allowed where this is owed, and tells what follows from it
+  allowed : (at : ℕ → ℕ) → ((i j : ℕ) → at i ≡ at j → i ≡ j) → (i : ℕ) (f : ℕ → ℕ) (st : ℕ → Record R → ℕ → WordStep)
+      (tells : ℕ → Record R → ℕ → Me R (View R) → Type 0)
+      → ((s : State R (View R)) (sh : Shown k s) → IsKnown k sh.history r
+      → Owed R k s sh r (Word (st i r (get_or s.words (at i) 0))) (set s.words (at i) (f (get_or s.words (at i) 0)))
+      × ((me' : Me R (View R)) → Stepped (Word (st i r (get_or s.words (at i) 0))) r me me'
+      → tells i r (get_or s.words (at i) 0) me'))
+      → Allows (Shown k) k.layout.depth id me (at i) f
+      (λ n me'. (i' : ℕ) (r' : Record R) → at i ≡ at i' → me.0 ≡ own_view r' → tells i' r' n me')
+  allowed at one i f st tells owes s sh deep there _ =
+      let n : ℕ = get_or s.words (at i) 0 in let owed = owes s sh (ok s sh deep there) in
+      let z = answer s sh deep there (Word (st i r n)) (set s.words (at i) (f n)) owed.0
+      (λ t l e. inl (none_posted k.layout r.number (st i r n) t _ e, refl)) in (
         z.0,
         z.1,
         z.2,
         z.3,
-        λ i' r' ei er. renamed
-            (λ x y. Stepped (Word (Look x n)) y me (z.0, carried_after me.1 z.1) × FindsHeld y x n 1)
-            (word_at_one i i' ei) r' er (z.4, (found_held s sh o i).0),
+        λ i' r' ei er. renamed (λ x y. tells x y n (z.0, carried_after me.1 z.1)) (one i i' ei) r' er
+            (owed.1 (z.0, carried_after me.1 z.1) z.4),
       )
+
+  -- the table allows a load of a word
+  pub look_allowed : (i : ℕ) → i < words k.layout
+      → Allows (Shown k) k.layout.depth id me (word_at i) (λ n. n)
+      (looked (step k.layout.depth (word_at i) 0 0 none) me)
+  look_allowed i inside = allowed word_at word_at_one i (λ n. n) (λ i r n. Look i n)
+      (λ i r n me'. Stepped (Word (Look i n)) r me me' × FindsHeld r i n 1) (λ s sh o. (
+        unchanged s sh (word_at i) (look_owed R k narrow s sh r o i inside),
+        λ me' did. (did, (found_held s sh o i).0),
+      ))
 
   -- a load of a cleared set
   pub look_aside_allowed : (i : ℕ) → i < words k.layout
       → Allows (Shown k) k.layout.depth id me (aside_at i) (λ n. n)
       (looked_aside (step k.layout.depth (aside_at i) 0 0 none) me)
-  look_aside_allowed i inside s sh deep at _ = let n : ℕ = get_or s.words (aside_at i) 0 in let o = ok s sh deep at in
-      let z = still s sh deep at (Word (LookAside i n)) (aside_at i) (look_aside_owed R k narrow s sh r o i inside)
-      (λ t l e. inl (e, refl)) in (
-        z.0,
-        z.1,
-        z.2,
-        z.3,
-        λ i' r' ei er. renamed
-            (λ x y. Stepped (Word (LookAside x n)) y me (z.0, carried_after me.1 z.1) × FindsHeld y x n 0)
-            (aside_at_one i i' ei) r' er (z.4, (found_held s sh o i).1),
-      )
+  look_aside_allowed i inside = allowed aside_at aside_at_one i (λ n. n) (λ i r n. LookAside i n)
+      (λ i r n me'. Stepped (Word (LookAside i n)) r me me' × FindsHeld r i n 0) (λ s sh o. (
+        unchanged s sh (aside_at i) (look_aside_owed R k narrow s sh r o i inside),
+        λ me' did. (did, (found_held s sh o i).1),
+      ))
 
   -- an or of a word
   pub claim_allowed : (i m : ℕ) → i < words k.layout → IsWithin k.layout i m → r.won + count_ones m ≤ MOST_WON
       → Allows (Shown k) k.layout.depth id me (word_at i) (λ n. bit_or n m)
       (claimed (step k.layout.depth (word_at i) m 0 none) me)
-  claim_allowed i m inside fits room s sh deep at _ = let n : ℕ = get_or s.words (word_at i) 0 in
-      let z = answer s sh deep at (Word (Claimed i m n)) (set s.words (word_at i) (bit_or n m))
-      (claim_owed R k narrow s sh r (ok s sh deep at) i m inside fits room)
-      (λ t l e. inl (unposted _ (held r.number) (G s sh t) (held_no_post r.number (G s sh t)) e, refl)) in (
-        z.0,
-        z.1,
-        z.2,
-        z.3,
-        λ i' r' ei er. renamed
-            (λ x y. Stepped (Word (Claimed x m n)) y me (z.0, carried_after me.1 z.1) × FindsHeld y x n 1)
-            (word_at_one i i' ei) r' er (z.4, (found_held s sh (ok s sh deep at) i).0),
-      )
+  claim_allowed i m inside fits room =
+      allowed word_at word_at_one i (λ n. bit_or n m) (λ i r n. Claimed i m n)
+      (λ i r n me'. Stepped (Word (Claimed i m n)) r me me' × FindsHeld r i n 1) (λ s sh o. (
+        claim_owed R k narrow s sh r o i m inside fits room,
+        λ me' did. (did, (found_held s sh o i).0),
+      ))
 
   -- what a word is, is below 2^64
   word_fits : (s : State R (View R)) (sh : Shown k s) (i : ℕ) → i < words k.layout → get_or s.words (word_at i) 0 < 2 ^ 64
@@ -187,24 +175,19 @@ module _ (R : Type 0) (k : Shape) (narrow : k.layout.shift ≤ 6) (id : ℕ) (me
       → ((t : ℕ) → t < k.layout.depth → among k.layout.shift i m t ≡ 1 → tag_bit k.layout r.held t ≡ 1)
       → Allows (Shown k) k.layout.depth id me (word_at i) (λ n. (n + (2 ^ 64 - m)) % 2 ^ 64)
       (gave (step k.layout.depth (word_at i) m 0 none) me)
-  give_allowed i m inside low fits has s sh deep at _ = let n : ℕ = get_or s.words (word_at i) 0 in
-      let o = ok s sh deep at in
-      let less = take_bits n m (word_fits s sh i inside) fits (taken s sh o) in
-      let z = answer s sh deep at (Word (Give i m n)) (set s.words (word_at i) ((n + (2 ^ 64 - m)) % 2 ^ 64))
-      (subst (λ (x : ℕ). Owed R k s sh r (Word (Give i m n)) (set s.words (word_at i) x)) (sym less)
-      (give_owed R k narrow s sh r o i m inside low fits has))
-      (λ t l e. inl (unposted _ free (G s sh t) (λ x. cc) e, refl)) in (
-        z.0,
-        z.1,
-        z.2,
-        z.3,
-        λ i' r' ei er. renamed (λ x y. Stepped (Word (Give x m n)) y me (z.0, carried_after me.1 z.1))
-            (word_at_one i i' ei) r' er z.4,
-      )
+  give_allowed i m inside low fits has =
+      allowed word_at word_at_one i (λ n. (n + (2 ^ 64 - m)) % 2 ^ 64) (λ i r n. Give i m n)
+      (λ i r n me'. Stepped (Word (Give i m n)) r me me') (λ s sh o.
+      let n : ℕ = get_or s.words (word_at i) 0 in (
+        subst (λ (x : ℕ). Owed R k s sh r (Word (Give i m n)) (set s.words (word_at i) x))
+            (sym (take_bits n m (word_fits s sh i inside) fits (taken s sh o)))
+            (give_owed R k narrow s sh r o i m inside low fits has),
+        λ me' did. did,
+      ))
     where
       taken : (s : State R (View R)) (sh : Shown k s) → IsKnown k sh.history r → (b : ℕ) → bit_at m b ≡ 1
           → bit_at (get_or s.words (word_at i) 0) b ≡ 1
-      taken s sh o b one = let tag = bit_tag k narrow i m b low one in let t : ℕ = tag.0 in
+      taken s sh o b one = let tag = bit_tag k.layout i m b low one in let t : ℕ = tag.0 in
           let named : among k.layout.shift i m t ≡ 1 =
           sym (among_here k narrow i m t tag.2) ∙ ap (bit_at m) tag.3 ∙ one in
           sym (λ j. bit_at (get_or s.words (word_at (tag.2 j)) 0) (tag.3 j))
@@ -214,44 +197,25 @@ module _ (R : Type 0) (k : Shape) (narrow : k.layout.shift ≤ 6) (id : ℕ) (me
   pub swap_allowed : (i : ℕ) → i < words k.layout
       → Allows (Shown k) k.layout.depth id me (aside_at i) (λ _. 0)
       (swapped (step k.layout.depth (aside_at i) 0 0 none) me)
-  swap_allowed i inside s sh deep at _ = let n : ℕ = get_or s.words (aside_at i) 0 in
-      let z = answer s sh deep at (Word (Swap i n)) (set s.words (aside_at i) 0)
-      (swap_owed R k narrow s sh r (ok s sh deep at) i inside)
-      (λ t l e. inl (
-        unposted _ (swept_by r.number (G s sh t)) (G s sh t)
-            (swept_no_post r.number (G s sh t)) e,
-        refl,
-      )) in (
-        z.0,
-        z.1,
-        z.2,
-        z.3,
-        λ i' r' ei er. renamed (λ x y. Stepped (Word (Swap x n)) y me (z.0, carried_after me.1 z.1))
-            (aside_at_one i i' ei) r' er z.4,
-      )
+  swap_allowed i inside = allowed aside_at aside_at_one i (λ _. 0) (λ i r n. Swap i n)
+      (λ i r n me'. Stepped (Word (Swap i n)) r me me') (λ s sh o. (
+        swap_owed R k narrow s sh r o i inside,
+        λ me' did. did,
+      ))
 
   -- a word less what was swept, all of which is taken
   pub spill_allowed : (i : ℕ) → i < words k.layout → get_or r.swept i 0 < 2 ^ 64
       → Allows (Shown k) k.layout.depth id me (word_at i) (λ n. (n + (2 ^ 64 - get_or r.swept i 0)) % 2 ^ 64)
       (spilled (step k.layout.depth (word_at i) (get_or r.swept i 0) 0 none) me)
-  spill_allowed i inside fits s sh deep at _ = let n : ℕ = get_or s.words (word_at i) 0 in
-      let m : ℕ = get_or r.swept i 0 in let o = ok s sh deep at in
-      let less = take_bits n m (word_fits s sh i inside) fits (swept_taken R k narrow s sh r o i inside) in
-      let z = answer s sh deep at (Word (Spill i m n)) (set s.words (word_at i) ((n + (2 ^ 64 - m)) % 2 ^ 64))
-      (subst (λ (x : ℕ). Owed R k s sh r (Word (Spill i m n)) (set s.words (word_at i) x)) (sym less)
-      (spill_owed R k narrow s sh r o i inside fits))
-      (λ t l e. inl (
-        unposted _ (spilled_by r.number (G s sh t)) (G s sh t) (spilled_no_post r.number (G s sh t)) e,
-        refl,
-      )) in (
-        z.0,
-        z.1,
-        z.2,
-        z.3,
-        λ i' r' ei er. renamed
-            (λ x y. Stepped (Word (Spill x (get_or y.swept x 0) n)) y me (z.0, carried_after me.1 z.1))
-            (word_at_one i i' ei) r' er z.4,
-      )
+  spill_allowed i inside fits = let m : ℕ = get_or r.swept i 0 in
+      allowed word_at word_at_one i (λ n. (n + (2 ^ 64 - m)) % 2 ^ 64) (λ i r n. Spill i (get_or r.swept i 0) n)
+      (λ i r n me'. Stepped (Word (Spill i (get_or r.swept i 0) n)) r me me')
+      (λ s sh o. let n : ℕ = get_or s.words (word_at i) 0 in (
+        subst (λ (x : ℕ). Owed R k s sh r (Word (Spill i m n)) (set s.words (word_at i) x))
+            (sym (take_bits n m (word_fits s sh i inside) fits (swept_taken R k narrow s sh r o i inside)))
+            (spill_owed R k narrow s sh r o i inside fits),
+        λ me' did. did,
+      ))
 
   -- a store of 1 in a held tag's state
   pub post_allowed : (u : ℕ) (y : R) → u < k.layout.depth → tag_bit k.layout r.held u ≡ 1 → value_of me.1 u ≡ some y
@@ -291,21 +255,15 @@ module _ (R : Type 0) (k : Shape) (narrow : k.layout.shift ≤ 6) (id : ℕ) (me
   pub put_allowed : (u : ℕ) → u < k.layout.depth → tag_bit k.layout r.held u ≡ 1
       → Allows (Shown k) k.layout.depth id me (aside_at (word_of k.layout u)) (λ n. (n + 2 ^ place_of k.layout u) % 2 ^ 64)
       (put_aside (step k.layout.depth (aside_at (word_of k.layout u)) (2 ^ place_of k.layout u) 0 none) me)
-  put_allowed u lu has s sh deep at _ =
-      let i : ℕ = word_of k.layout u in let m : ℕ = 2 ^ place_of k.layout u in
-      let n : ℕ = get_or s.words (aside_at i) 0 in let o = ok s sh deep at in
-      let sum = add_bit n (place_of k.layout u) (held_shown R k narrow s sh r o u lu has).1 (fits s sh u lu) in
-      let z = answer s sh deep at (Word (Put i m n)) (set s.words (aside_at i) ((n + m) % 2 ^ 64))
-      (subst (λ (x : ℕ). Owed R k s sh r (Word (Put i m n)) (set s.words (aside_at i) x)) (sym sum)
-      (put_owed R k narrow s sh r o u lu has))
-      (λ t l e. inl (unposted _ aside (G s sh t) (λ x. cc) e, refl)) in (
-        z.0,
-        z.1,
-        z.2,
-        z.3,
-        λ i' r' ei er. renamed (λ x y. Stepped (Word (Put x m n)) y me (z.0, carried_after me.1 z.1))
-            (aside_at_one i i' ei) r' er z.4,
-      )
+  put_allowed u lu has = let i : ℕ = word_of k.layout u in let m : ℕ = 2 ^ place_of k.layout u in
+      allowed aside_at aside_at_one i (λ n. (n + m) % 2 ^ 64) (λ i r n. Put i m n)
+      (λ i r n me'. Stepped (Word (Put i m n)) r me me') (λ s sh o.
+      let n : ℕ = get_or s.words (aside_at i) 0 in (
+        subst (λ (x : ℕ). Owed R k s sh r (Word (Put i m n)) (set s.words (aside_at i) x))
+            (sym (add_bit n (place_of k.layout u) (held_shown R k narrow s sh r o u lu has).1 (fits s sh u lu)))
+            (put_owed R k narrow s sh r o u lu has),
+        λ me' did. did,
+      ))
     where
       fits : (s : State R (View R)) (sh : Shown k s) (u : ℕ) → u < k.layout.depth
           → bit_or (get_or s.words (aside_at (word_of k.layout u)) 0) (2 ^ place_of k.layout u) < 2 ^ 64
@@ -331,17 +289,12 @@ module _ (R : Type 0) (k : Shape) (narrow : k.layout.shift ≤ 6) (id : ℕ) (me
       let last = post_there s sh u lu its in
       let owed = take_owed R k narrow s sh r o u 0 last.0 lu hit refl last.1 in
       let z = answer s sh deep at (Take u 1 (Some last.0)) (set s.words (state_at k.layout u) 0) owed
-      (λ t l e. inl (unposted _ (held r.number) (G s sh t) (held_no_post r.number (G s sh t)) e, refl)) in
+      (λ t l e. inl (not_posted (t == u) r.number _ e, refl)) in
       let go = moved R k s sh r (Take u 1 (Some last.0)) (set s.words (state_at k.layout u) 0)
       owed o me.1 carries deep in
-      let one : (u == u) ≡ true = eq-eqb u u refl in
-      let not_mine : tag_bit k.layout r.held u ≢ 1 =
-      (λ (e : tag_bit k.layout r.held u ≡ 1). let b : held_bit r.number posted ≡ 1 = ap (held_bit r.number) (sym its)
-      ∙ o.held u lu ∙ e in absurd (omega arith)) in
-      let now_mine : tag_bit k.layout (held_after k.layout (Take u 1 (Some last.0)) r.held) u ≡ 1 =
-      sym (owed.tags u lu).held
-      ∙ ap (λ (x : Bool). held_bit r.number (cond x (held r.number) ((world_of k sh.history).place u))) one
-      ∙ ap one_if (eq-eqb r.number r.number refl) in
+      let not_mine = posted_unheld r.number ((world_of k sh.history).place u) _ (o.held u lu) its in
+      let now_mine = sym (owed.tags u lu).held ∙ held_one r.number _
+      (ap (λ (x : Bool). cond x (held r.number) ((world_of k sh.history).place u)) (eq-eqb u u refl)) in
       let came = go.taken u lu not_mine now_mine in
       let val : value_of (carried_after me.1 go.act) u ≡ some last.0 =
       ap (λ (l : List (ℕ × R)). value_of l u) go.list_is
@@ -351,21 +304,17 @@ module _ (R : Type 0) (k : Shape) (narrow : k.layout.shift ≤ 6) (id : ℕ) (me
         z.2,
         z.3,
         λ u' r' eu er. (
-          λ h. (
-            last.0,
-            subst (λ (x : ℕ). value_of (carried_after me.1 go.act) x ≡ some last.0)
-                (same_state k r r' u u' o.shape (same_record r r' (sym mine ∙ er)) eu) val,
-            renamed (λ x y. Stepped (Take x 1 (Some last.0)) y me (z.0, carried_after me.1 z.1))
-                (same_state k r r' u u' o.shape (same_record r r' (sym mine ∙ er)) eu) r' er z.4,
-            renamed (λ x y. tag_bit y.shape.layout y.held x ≢ 1)
-                (same_state k r r' u u' o.shape (same_record r r' (sym mine ∙ er)) eu) r' er
-                (subst (λ (z : Shape). tag_bit z.layout r.held u ≢ 1) (sym o.shape) not_mine),
-          ),
+          λ h. renamed (λ x y. (value : R) × (value_of (carried_after me.1 go.act) x ≡ some value)
+              × Stepped (Take x 1 (Some value)) y me (z.0, carried_after me.1 z.1)
+              × (tag_bit y.shape.layout y.held x ≢ 1))
+              (same_state k r r' u u' o.shape (same_record r r' (sym mine ∙ er)) eu) r' er
+              (last.0, val, z.4, subst (λ (z : Shape). tag_bit z.layout r.held u ≢ 1) (sym o.shape) not_mine),
           λ h. absurd (h hit),
         ),
       ))
       (λ (miss : n ≢ 1). let zero_there : n ≡ 0 = omega arith in
-      let z = still s sh deep at (Take u 0 None) (state_at k.layout u) (miss_owed R k narrow s sh r o u lu zero_there)
+      let z = answer s sh deep at (Take u 0 None) (set s.words (state_at k.layout u) n)
+      (unchanged s sh (state_at k.layout u) (miss_owed R k narrow s sh r o u lu zero_there))
       (λ t l e. inl (e, refl)) in (
         z.0,
         z.1,

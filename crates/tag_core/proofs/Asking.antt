@@ -6,7 +6,8 @@ use Rattle.atomic_table.specs.Table.{Me, step, Allows}
 use Rattle.atomic_table.specs.Table as table
 use Rattle.step_ledger.proofs.Seats.{same_record}
 use Rattle.step_ledger.specs.Views.{own_view}
-use Rattle.tag_layout.specs.Layout.{words}
+use Rattle.std.specs.Int.{bit_at}
+use Rattle.tag_layout.specs.Layout.{words, word_of, place_of}
 use Rattle.tag_model.specs.declared.world.TheConstants.{MAX_CALLERS, MOST_WON}
 use Rattle.tag_model.specs.Event.{won_by, back_by}
 use Rattle.tag_core.specs.declared.shape.Shape.{Shape}
@@ -19,9 +20,9 @@ use Rattle.tag_core.specs.Histories.{event_of}
 use Rattle.tag_core.specs.Records.{record_after, held_after, swept_after, tag_bit, value_of, Carries}
 use Rattle.tag_core.specs.Views.{steps_of, View}
 use Rattle.tag_core.specs.Rule.{Shown}
-use Rattle.tag_core.specs.Plays.{Stepped}
+use Rattle.tag_core.specs.Plays.{Stepped, FindsHeld}
 use Rattle.tag_core.specs.Meeting.{HasHistory}
-use Rattle.tag_core.specs.Callers.{IsCallerOf, record_of, Holds}
+use Rattle.tag_core.specs.Callers.{layout_of, IsCallerOf, record_of, Holds}
 
 -- what the table asks of a step at this index
 abbrev pub Asks : {R : Type 0} → Map R → ℕ → Me R (View R) → ℕ → (ℕ → ℕ) → ℕ → ℕ
@@ -41,6 +42,12 @@ module _ {R : Type 0} (m : Map R) (w : Caller R) (own : IsCallerOf m w) where
   -- a word of the map is one of the caller's layout
   pub in_words : (i : ℕ) → i < words m.shape.layout → i < words w.shape.value.layout
   in_words i = subst (λ (z : Shape). i < words z.layout) (sym own.1)
+
+  -- what a step finds of the tags that the caller holds, in the map's layout
+  pub found : (i n bit : ℕ) → FindsHeld (record_of w) i n bit → (tag : ℕ) → Holds w tag
+      → word_of (layout_of m) tag ≡ i → bit_at n (place_of (layout_of m) tag) ≡ bit
+  found i n bit finds tag has here = subst (λ (z : Shape). bit_at n (place_of z.layout tag) ≡ bit) own.1
+      (finds tag has.0 (ap (λ (z : Shape). word_of z.layout tag) own.1 ∙ here) has.1)
 
   -- the table accepts a step at an index that it has, if the rule allows the step for the caller's record
   pub asked : (id : ℕ) (me : Me R (View R)) (at place : ℕ) (f : ℕ → ℕ) (a b : ℕ)

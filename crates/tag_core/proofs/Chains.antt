@@ -1,69 +1,76 @@
 -- What was won along a chain of maps.
-use Rattle.std.proofs.Common.{◌≡◌, ℕ, ◌+◌, List, [], ◌∷◌, arith, ap, ◌∙◌}
+use Rattle.std.proofs.Common.{◌≡◌, ℕ, ◌+◌, List, [], ◌∷◌, ◌<◌, arith, refl, ap, ◌∙◌}
+use Rattle.sums.specs.Below.{sum_below}
 use Rattle.sums.proofs.Laws.{sum_below-none, sum_below-same}
 use Rattle.tag_layout.specs.Layout.{Layout}
 use Rattle.tag_model.specs.declared.event.Event.{Event}
 use Rattle.tag_model.specs.declared.totals.Totals.{Totals}
 use Rattle.tag_model.specs.Event.{caller_of, won_by, back_by}
-use Rattle.tag_model.specs.World.{World}
+use Rattle.tag_model.specs.World.{World, after, plus_at}
 use Rattle.tag_model.specs.Runs.{after_history, IsHistory}
-use Rattle.tag_model.specs.Totals.{got_in, back_in, AreTotals}
+use Rattle.tag_model.specs.Totals.{AreTotals}
 use Rattle.tag_model.proofs.BalanceFacts.{sum_below-plus_at}
 use Rattle.tag_core.specs.declared.shape.Shape.{Shape}
 use Rattle.tag_core.specs.Histories.{History, IsLawful, events_of, opening_world, world_of}
 use Rattle.tag_core.specs.Sizes.{total_of}
-use Rattle.tag_core.specs.Chain.{Epoch, IsChain, HasChain, won_along, back_along, CountsChain}
+use Rattle.tag_core.specs.Records.{StartsAtZero}
+use Rattle.tag_core.specs.Chain.{Epoch, GoesOn, IsChain, HasChain, CountsChain}
 
--- a history adds what its events win
-won_grows : (l : Layout) (callers : ℕ) (h : List Event) (w : World) → IsHistory l callers w h
-    → got_in callers (after_history l h w) ≡ got_in callers w + total_of won_by h
-won_grows l callers [] w is = omega arith
-won_grows l callers (e ∷ h) w is =
-    let older = won_grows l callers h w is.1 in
-    let more = sum_below-plus_at (after_history l h w).won callers (caller_of e) (won_by e) is.0.caller in omega arith
+-- what is counted of callers, either tags won or tags given back: it grows by what each event adds, from nothing before
+-- the first map, and a next map begins with what the one before it left
+record Counting (R : Type 0) (count : World → ℕ → ℕ) (added : Event → ℕ) : Type 0 where
+  grows : (l : Layout) (e : Event) (w : World) → count (after l e w) ≡ plus_at (caller_of e) (added e) (count w)
+  starts : (k : Shape) → StartsAtZero k → (c : ℕ) → count (opening_world k) c ≡ 0
+  goes_on : (last : Epoch R) (next : Shape) → GoesOn last next → (c : ℕ) → c < last.shape.callers
+      → count (opening_world next) c ≡ count (world_of last.shape last.history) c
 
--- and what they give back
-back_grows : (l : Layout) (callers : ℕ) (h : List Event) (w : World) → IsHistory l callers w h
-    → back_in callers (after_history l h w) ≡ back_in callers w + total_of back_by h
-back_grows l callers [] w is = omega arith
-back_grows l callers (e ∷ h) w is =
-    let older = back_grows l callers h w is.1 in
-    let more = sum_below-plus_at (after_history l h w).back callers (caller_of e) (back_by e) is.0.caller in omega arith
+-- tags won are such a count
+won_counting : {R : Type 0} → Counting R (λ w. w.won) won_by
+won_counting = record { grows = λ l e w. refl; starts = λ k is. is.0; goes_on = λ last next on. on.won }
 
-module _ {R : Type 0} where
-  -- a map opens with what was won in the maps before it
-  won_before : (k : Shape) (older : List (Epoch R)) → IsChain k older
-      → got_in k.callers (opening_world k) ≡ won_along older
-  won_before k [] is = sum_below-none (opening_world k).won k.callers (λ c l. is.0 c)
-  won_before k (last ∷ older) is =
-      let on = is.0 in let before = won_before last.shape older is.1 in
-      let grown = won_grows last.shape.layout last.shape.callers (events_of last.shape.layout last.history)
-      (opening_world last.shape) on.lawful.happens in
-      let same = sum_below-same (opening_world k).won (world_of last.shape last.history).won
-      last.shape.callers on.won in
-      ap (λ (z : ℕ). got_in z (opening_world k)) on.callers
-      ∙ (let e : got_in last.shape.callers (opening_world k) ≡ won_along (last ∷ older) = omega arith in e)
+-- and so are tags given back
+back_counting : {R : Type 0} → Counting R (λ w. w.back) back_by
+back_counting = record { grows = λ l e w. refl; starts = λ k is. is.1; goes_on = λ last next on. on.back }
 
-  -- and with what was given back in them
-  back_before : (k : Shape) (older : List (Epoch R)) → IsChain k older
-      → back_in k.callers (opening_world k) ≡ back_along older
-  back_before k [] is = sum_below-none (opening_world k).back k.callers (λ c l. is.1 c)
-  back_before k (last ∷ older) is =
-      let on = is.0 in let before = back_before last.shape older is.1 in
-      let grown = back_grows last.shape.layout last.shape.callers (events_of last.shape.layout last.history)
-      (opening_world last.shape) on.lawful.happens in
-      let same = sum_below-same (opening_world k).back (world_of last.shape last.history).back
-      last.shape.callers on.back in
-      ap (λ (z : ℕ). back_in z (opening_world k)) on.callers
-      ∙ (let e : back_in last.shape.callers (opening_world k) ≡ back_along (last ∷ older) = omega arith in e)
+module _ {R : Type 0} {count : World → ℕ → ℕ} {added : Event → ℕ} (counting : Counting R count added) where
+  -- a history adds what its events do
+  adds : (l : Layout) (callers : ℕ) (h : List Event) (w : World) → IsHistory l callers w h
+      → sum_below (count (after_history l h w)) callers ≡ sum_below (count w) callers + total_of added h
+  adds l callers [] w is = omega arith
+  adds l callers (e ∷ h) w is =
+      let older = adds l callers h w is.1 in
+      let more = sum_below-plus_at (count (after_history l h w)) callers (caller_of e) (added e) is.0.caller in
+      ap (λ (f : ℕ → ℕ). sum_below f callers) (counting.grows l e (after_history l h w)) ∙ omega arith
 
-  -- the totals of a map's world count the whole chain
-  pub count_chain : (k : Shape) (h : History R) (totals : Totals) → HasChain R k → IsLawful k h
-      → AreTotals k.layout k.callers (world_of k h) totals → CountsChain k h totals
-  count_chain k h totals leads lawful are = record {
-    leads = leads;
-    got = λ older is. let before = won_before k older is in let got = are.got in
-        let more = won_grows k.layout k.callers (events_of k.layout h) (opening_world k) lawful.happens in omega arith;
-    back = λ older is. let before = back_before k older is in let back = are.back in
-        let more = back_grows k.layout k.callers (events_of k.layout h) (opening_world k) lawful.happens in omega arith;
-  }
+  -- what the steps of these maps added
+  abbrev along : List (Epoch R) → ℕ
+  along epochs = total_of (λ (e : Epoch R). total_of added (events_of e.shape.layout e.history)) epochs
+
+  -- a map opens with what was added in the maps before it
+  before : (k : Shape) (older : List (Epoch R)) → IsChain k older
+      → sum_below (count (opening_world k)) k.callers ≡ along older
+  before k [] is = sum_below-none (count (opening_world k)) k.callers (λ c l. counting.starts k is c)
+  before k (last ∷ older) is =
+      let shape = last.shape in let rest = before shape older is.1 in
+      let grown = adds shape.layout shape.callers (events_of shape.layout last.history) (opening_world shape)
+      is.0.lawful.happens in
+      ap (sum_below (count (opening_world k))) is.0.callers
+      ∙ sum_below-same (count (opening_world k)) (count (world_of shape last.history)) shape.callers
+      (counting.goes_on last k is.0) ∙ omega arith
+
+  -- and ends with that and what its own steps added
+  in_all : (k : Shape) (h : History R) → IsLawful k h → (total : ℕ)
+      → total ≡ sum_below (count (world_of k h)) k.callers → (older : List (Epoch R)) → IsChain k older
+      → total ≡ along (record { shape = k; history = h } ∷ older)
+  in_all k h lawful total same older is =
+      let rest = before k older is in
+      let more = adds k.layout k.callers (events_of k.layout h) (opening_world k) lawful.happens in omega arith
+
+-- the totals of a map's world count the whole chain
+pub count_chain : {R : Type 0} (k : Shape) (h : History R) (totals : Totals) → HasChain R k → IsLawful k h
+    → AreTotals k.layout k.callers (world_of k h) totals → CountsChain k h totals
+count_chain k h totals leads lawful are = record {
+  leads = leads;
+  got = in_all won_counting k h lawful totals.got are.got;
+  back = in_all back_counting k h lawful totals.back are.back;
+}

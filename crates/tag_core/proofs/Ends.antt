@@ -1,10 +1,9 @@
 -- What the last state tells where one seat has the records of all callers.
-use Rattle.std.proofs.Common.{◌≡◌, ◌≢◌, ℕ, zero, suc, ◌/◌, ◌%◌, ◌^◌, ◌<◌, ◌≤◌, ◌⊎◌, List, [], ◌∷◌, length, get_or, nat_eq, ◌==◌, Bool, true, false, cond, count_ones, arith, refl, sym, ap, ◌∙◌, ⊎_elim, inl, inr, eq-eqb, ne_eqb}
+use Rattle.std.proofs.Common.{◌≡◌, ◌≢◌, ℕ, zero, suc, ◌<◌, ◌≤◌, ◌⊎◌, List, [], ◌∷◌, length, get_or, nat_eq, count_ones, arith, refl, sym, ap, ◌∙◌, ⊎_elim, eq-eqb, ne_eqb}
 use mathlib.Core.Option.{some}
 use mathlib.Core.Logic.{dite}
 use native.Mathlib.Decide.{dec_lt}
 use lib.ListN.{get_elem?}
-use Rattle.std.specs.Int.{bit_at}
 use Rattle.atomic_table.specs.Table.{State}
 use Rattle.sums.specs.Below.{sum_below, one_if}
 use Rattle.sums.proofs.Laws.{sum_below-none, sum_below-same, sum_below-only, sum_below-first, sum_below-swap, sum_below-le, one_if-le}
@@ -15,8 +14,7 @@ use Rattle.tag_layout.proofs.PlaceFacts.{word_of-below}
 use Rattle.tag_model.specs.declared.place.Place.{Place}
 use Rattle.tag_model.specs.declared.place.Place.TheVariants.{Free as free, Held as held, Posted as posted, Aside as aside, Sweep as sweep}
 use Rattle.tag_model.specs.declared.event.Event.{Event}
-use Rattle.tag_model.specs.declared.event.Event.TheVariants as event
-use Rattle.tag_model.specs.Event.{caller_of, is_in_mask, swept_by, spilled_by}
+use Rattle.tag_model.specs.Event.{caller_of, is_in_mask}
 use Rattle.tag_model.specs.World.{World, place_after}
 use Rattle.tag_model.specs.Runs.{after_history, IsHistory}
 use Rattle.tag_model.specs.Totals.{is_held, is_posted, got_in, back_in, held_in, posted_in, Balances}
@@ -36,29 +34,28 @@ use Rattle.tag_core.proofs.Picks.{among, among_named}
 -- numbers that are all different are no more than there are
 few_numbers : (num pos : ℕ → ℕ) (len m : ℕ) → ((n : ℕ) → n < len → (num n < m) × (pos (num n) ≡ n)) → len ≤ m
 few_numbers num pos len m one =
-    let F : ℕ → ℕ → ℕ = λ c n. cond (nat_eq (num n) c) 1 0 in
-    let hit : (c n : ℕ) → num n ≡ c → F c n ≡ 1 = (λ c n e. ap (λ (b : Bool). cond b 1 0) (eq-eqb (num n) c e)) in
-    let miss : (c n : ℕ) → num n ≢ c → F c n ≡ 0 = (λ c n e. ap (λ (b : Bool). cond b 1 0) (ne_eqb (num n) c e)) in
-    let whole = sum_below-same (λ n. 1) (λ n. sum_below (λ c. F c n) m) len
-    (λ n l. sym (sum_below-only (λ c. F c n) m (num n) (one n l).0 (λ c lc ne. miss c n (λ z. ne (sym z)))
-    ∙ hit (num n) n refl)) in
-    let turned = sum_below-swap F len m in
-    let less = sum_below-le (λ c. sum_below (F c) len) (λ c. 1) m (λ c lc. at_most c) in
+    let hits : ℕ → ℕ → ℕ = λ c n. one_if (nat_eq (num n) c) in
+    let whole = sum_below-same (λ n. 1) (λ n. sum_below (λ c. hits c n) m) len
+    (λ n l. sym (sum_below-only (λ c. hits c n) m (num n) (one n l).0
+    (λ c lc ne. ap one_if (ne_eqb (num n) c (λ z. ne (sym z)))) ∙ ap one_if (eq-eqb (num n) (num n) refl))) in
+    let turned = sum_below-swap hits len m in
+    let less = sum_below-le (λ c. sum_below (hits c) len) (λ c. 1) m (λ c lc. at_most c) in
     let left = ones len in let right = ones m in omega arith
   where
     ones : (n : ℕ) → sum_below (λ i. 1) n ≡ n
     ones zero = refl
     ones (suc n) = let before = ones n in omega arith
 
-    at_most : (c : ℕ) → sum_below (λ n. cond (nat_eq (num n) c) 1 0) len ≤ 1
+    -- what has the number c is at its place alone
+    elsewhere : (c n : ℕ) → n < len → n ≢ pos c → one_if (nat_eq (num n) c) ≡ 0
+    elsewhere c n l ne = grind (arith, ne_eqb, one n l)
+
+    at_most : (c : ℕ) → sum_below (λ n. one_if (nat_eq (num n) c)) len ≤ 1
     at_most c = let p : ℕ = pos c in dite (dec_lt p len)
-        (λ (low : p < len). let only = sum_below-only (λ n. cond (nat_eq (num n) c) 1 0) len p low
-        (λ n l ne. ap (λ (b : Bool). cond b 1 0) (ne_eqb (num n) c (λ z. ne (sym (one n l).1 ∙ ap pos z)))) in
+        (λ (low : p < len). let only = sum_below-only (λ n. one_if (nat_eq (num n) c)) len p low (elsewhere c) in
         let small = one_if-le (nat_eq (num p) c) in omega arith)
-        (λ (high : ¬ (p < len)). let none_there = sum_below-none (λ n. cond (nat_eq (num n) c) 1 0) len
-        (λ n l. ap (λ (b : Bool). cond b 1 0)
-        (ne_eqb (num n) c (λ z. let q : pos (num n) ≡ n = (one n l).1 in
-        let r : pos (num n) ≡ pos c = ap pos z in absurd (omega arith)))) in omega arith)
+        (λ (high : ¬ (p < len)). let none_there = sum_below-none (λ n. one_if (nat_eq (num n) c)) len
+        (λ n l. elsewhere c n l (omega arith)) in omega arith)
 
 by_index : (g : ℕ → ℕ) (ms : List ℕ) → total_of g ms ≡ sum_below (λ i. g (get_or ms i 0)) (length ms)
 by_index g [] = refl
@@ -66,45 +63,10 @@ by_index g (m ∷ ms) =
     let rest = by_index g ms in
     let s = sum_below-first (λ i. g (get_or (m ∷ ms) i 0)) (length ms) in omega arith
 
--- who may hold a tag after a change
-came : (b : Bool) (p q : Place) (d : ℕ) → cond b p q ≡ held d → (q ≡ held d) ⊎ (p ≡ held d)
-came true p q d e = inr e
-came false p q d e = inl e
-
-swept_held : (c d : ℕ) (q : Place) → swept_by c q ≡ held d → q ≡ held d
-swept_held c d free e = absurd cc
-swept_held c d (held a) e = e
-swept_held c d posted e = absurd cc
-swept_held c d aside e = absurd cc
-swept_held c d (sweep a) e = absurd cc
-
-spilled_held : (c d : ℕ) (q : Place) → spilled_by c q ≡ held d → q ≡ held d
-spilled_held c d free e = absurd cc
-spilled_held c d (held a) e = e
-spilled_held c d posted e = absurd cc
-spilled_held c d aside e = absurd cc
-spilled_held c d (sweep a) e = ⊎_elim (λ z. z) (λ (z : free ≡ held d). absurd cc) (came (a == c) free (sweep a) d e)
-
-same_holder : (c d n : ℕ) → c < n → held c ≡ held d → d < n
-same_holder c d n h e = let z : c ≡ d = cc in omega arith
-
 module _ (k : Shape) where
   known_after : (e : Event) (q : Place) (t d : ℕ) → caller_of e < k.callers → place_after k.layout e t q ≡ held d
       → (q ≡ held d) ⊎ (d < k.callers)
-  known_after event.Look q t d h e = inl e
-  known_after (event.Win c i m) q t d h e =
-      ⊎_elim inl (λ (z : held c ≡ held d). inr (same_holder c d k.callers h z))
-      (came (is_in_mask k.layout i m t) (held c) q d e)
-  known_after (event.Put c u) q t d h e = ⊎_elim inl (λ (z : aside ≡ held d). absurd cc) (came (t == u) aside q d e)
-  known_after (event.Give c i m) q t d h e =
-      ⊎_elim inl (λ (z : free ≡ held d). absurd cc) (came (is_in_mask k.layout i m t) free q d e)
-  known_after (event.Sweep c i) q t d h e =
-      ⊎_elim inl (λ z. inl (swept_held c d q z)) (came (word_of k.layout t == i) (swept_by c q) q d e)
-  known_after (event.Spill c i) q t d h e =
-      ⊎_elim inl (λ z. inl (spilled_held c d q z)) (came (word_of k.layout t == i) (spilled_by c q) q d e)
-  known_after (event.Post c u) q t d h e = ⊎_elim inl (λ (z : posted ≡ held d). absurd cc) (came (t == u) posted q d e)
-  known_after (event.Take c u) q t d h e =
-      ⊎_elim inl (λ (z : held c ≡ held d). inr (same_holder c d k.callers h z)) (came (t == u) (held c) q d e)
+  known_after e q t d h is = grind arith
 
   known : (h : List Event) (w : World) → ((t d : ℕ) → w.place t ≡ held d → d < k.callers)
       → IsHistory k.layout k.callers w h → (t d : ℕ) → (after_history k.layout h w).place t ≡ held d → d < k.callers
@@ -123,14 +85,6 @@ module _ (k : Shape) where
   holders aside h = sum_below-none (λ c. 0) k.callers (λ c l. refl)
   holders (sweep c) h = sum_below-none (λ c. 0) k.callers (λ c l. refl)
 
-  here_among : (i m t : ℕ) → t / 2 ^ k.layout.shift ≡ i → among k.layout.shift i m t ≡ bit_at m (t % 2 ^ k.layout.shift)
-  here_among i m t e = ap (λ (b : Bool). cond b (bit_at m (t % 2 ^ k.layout.shift)) 0)
-      (eq-eqb (t / 2 ^ k.layout.shift) i e)
-
-  else_among : (i m t : ℕ) → t / 2 ^ k.layout.shift ≢ i → among k.layout.shift i m t ≡ 0
-  else_among i m t e = ap (λ (b : Bool). cond b (bit_at m (t % 2 ^ k.layout.shift)) 0)
-      (ne_eqb (t / 2 ^ k.layout.shift) i e)
-
   -- the bits of one mask for each word, counted by tags
   pub by_tags : (ms : List ℕ) → length ms ≡ words k.layout
       → ((i : ℕ) → i < words k.layout → IsWithin k.layout i (get_or ms i 0))
@@ -146,8 +100,7 @@ module _ (k : Shape) where
       ∙ sum_below-same (λ t. sum_below (λ i. among k.layout.shift i (get_or ms i 0) t) (words k.layout))
       (tag_bit k.layout ms) k.layout.depth (λ t l.
       sum_below-only (λ i. among k.layout.shift i (get_or ms i 0) t) (words k.layout) (word_of k.layout t)
-      (word_of-below k.layout t l) (λ i li ne. else_among i (get_or ms i 0) t (λ z. ne (sym z)))
-      ∙ here_among (word_of k.layout t) (get_or ms (word_of k.layout t) 0) t refl)
+      (word_of-below k.layout t l) (λ i li ne. grind (arith, ne_eqb)) ∙ grind (arith, eq-eqb))
 
   module _ {R : Type 0} (s : State R (View R)) (sh : Shown k s) (id : ℕ) (v : View R)
       (at : get_elem? s.views id ≡ some v) where
@@ -194,11 +147,7 @@ module _ (k : Shape) where
           sh.lawful.happens t d e))
 
     zero_or_one : (q : Place) → one_if (nat_eq (posted_bit q) 1) ≡ one_if (is_posted q)
-    zero_or_one free = refl
-    zero_or_one (held c) = refl
-    zero_or_one posted = refl
-    zero_or_one aside = refl
-    zero_or_one (sweep c) = refl
+    zero_or_one q = grind arith
 
     -- the states that are 1
     pub posted_all : sum_below

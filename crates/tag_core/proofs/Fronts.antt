@@ -1,6 +1,6 @@
 -- A held tag's slot comes to the front of its seat, and goes back to its place in the order: two loads that change
 -- nothing else.
-use Rattle.std.proofs.Common.{◌≡◌, ◌≢◌, ℕ, zero, suc, ◌<◌, List, [], ◌∷◌, map, length, get_or, set, Bool, cond, arith, refl, sym, ap, ◌∙◌, subst, length-set, eq-eqb, ne_eqb}
+use Rattle.std.proofs.Common.{◌≡◌, ◌≢◌, ℕ, zero, suc, ◌<◌, List, [], ◌∷◌, map, length, get_or, set, arith, refl, sym, ap, ◌∙◌, subst, length-set, eq-eqb, ne_eqb}
 use mathlib.Core.Option.{some, none, some-injective, some-ne-none}
 use mathlib.Core.Option as maybe
 use mathlib.Core.Logic.{dite}
@@ -12,6 +12,7 @@ use Rattle.atomic_table.proofs.Lists.{set_here, set_else}
 use Rattle.step_ledger.proofs.Seats.{same_record}
 use Rattle.step_ledger.specs.Views.{own_view}
 use Rattle.tag_core.specs.Views.{View}
+use Rattle.tag_layout.specs.Layout.{Layout}
 use Rattle.tag_core.specs.declared.shape.Shape.{Shape}
 use Rattle.tag_core.specs.declared.record.Record.{Record}
 use Rattle.tag_core.specs.Spacing.{state_at}
@@ -54,16 +55,14 @@ same_homes R k s homes' sh same id i v at =
 module _ (f : ℕ → ℕ) (u : ℕ) where
   -- the bit left out
   pub but_here : but f u u ≡ 0
-  but_here = ap (λ (b : Bool). cond b 0 (f u)) (eq-eqb u u refl)
+  but_here = grind (arith, eq-eqb)
 
   -- every other bit
   pub but_else : (t : ℕ) → t ≢ u → but f u t ≡ f t
-  but_else t n = ap (λ (b : Bool). cond b 0 (f t)) (ne_eqb t u n)
+  but_else t n = grind (arith, ne_eqb)
 
   but_one : (t : ℕ) → but f u t ≡ 1 → (t ≢ u) × (f t ≡ 1)
-  but_one t e = dite (ℕ_discrete t u)
-      (λ (same : t ≡ u). let none_there : but f u t ≡ 0 = ap (but f u) same ∙ but_here in absurd (omega arith))
-      (λ (ne : t ≢ u). (ne, sym (but_else t ne) ∙ e))
+  but_one t e = grind arith
 
 module _ (R : Type 0) (n : ℕ) (f : ℕ → ℕ) (u : ℕ) (lu : u < n) (has : f u ≡ 1) (hs : List (maybe.Option R))
     (deep : length hs ≡ n) (out : (t : ℕ) → t < n → f t ≡ 1 → get_elem? hs t ≡ some none) where
@@ -94,12 +93,17 @@ module _ (R : Type 0) (n : ℕ) (f : ℕ → ℕ) (u : ℕ) (lu : u < n) (has : 
         was = back.1;
         tags = go.tags;
         others = λ t l ne is. let w = go.kept t l is (but_else f u t ne ∙ is) in w.2 ∙ sym w.1;
-        same = λ t l. dite (ℕ_discrete t u)
-            (λ (e : t ≡ u). ap (get_elem? (set hs1 u none)) e ∙ set_here hs1 u none (omega arith) ∙ sym (out u lu has)
-            ∙ ap (get_elem? hs) (sym e))
-            (λ (ne : t ≢ u). set_else hs1 u t none ne ∙ dite (ℕ_discrete (f t) 1)
-            (λ (is : f t ≡ 1). go.out t l (but_else f u t ne ∙ is) ∙ sym (out t l is))
-            (λ (no : f t ≢ 1). go.same t l no (λ e. no (but_one f u t e).1)));
+        same = λ t l. grind (
+          arith,
+          but_here,
+          but_else,
+          set_here hs1 u none,
+          set_else hs1 u t none,
+          go.out t l,
+          go.same t l,
+          out t l,
+          out u lu,
+        );
       }
 
   -- an act that leaves each home as it was and puts the front slot back into its order
@@ -130,10 +134,7 @@ module _ (R : Type 0) (n : ℕ) (f : ℕ → ℕ) (u : ℕ) (lu : u < n) (has : 
             ∙ some-injective (some came.0) (some value) (sym came.1 ∙ home);
         others = λ t l ne is. let w = go.kept t l (but_else f u t ne ∙ is) is in
             ap (λ (z : List (ℕ × R)). value_of z t) go.list_is ∙ w.2 ∙ sym w.1;
-        same = λ t l. dite (ℕ_discrete (f t) 1)
-            (λ (is : f t ≡ 1). go.out t l is ∙ sym (out t l is))
-            (λ (no : f t ≢ 1). go.same t l (λ e. no (but_one f u t e).1) no
-            ∙ set_else hs u t (some value) (λ (e : t ≡ u). no (ap f e ∙ has)));
+        same = λ t l. grind (arith, but_else, set_else hs u t (some value), go.out t l, go.same t l, out t l);
       }
 
 module _ (R : Type 0) (k : Shape) (id : ℕ) (me : Me R (View R)) (r : Record R) (mine : me.0 ≡ own_view r) (u : ℕ)
@@ -160,22 +161,17 @@ module _ (R : Type 0) (k : Shape) (id : ℕ) (me : Me R (View R)) (r : Record R)
         go.act,
         go.valid,
         same_homes R k s (homes_after s.homes me.1 go.act) sh go.same id (state_at k.layout u) me.0 at,
-        λ u' r' eu er lu' has'. subst
-            (λ (x : ℕ × Record R). (value : R) × (slots : List (ℕ × R)) × (me.0 ≡ me.0) ×
-            (carried_after me.1 go.act ≡ (x.0, value) ∷ slots) × (value_of me.1 x.0 ≡ some value)
-            × (map (λ y. y.0) slots ≡ tags_from (but (tag_bit x.1.shape.layout x.1.held) x.0) 0 x.1.shape.layout.depth)
-            × ((t : ℕ) → t < x.1.shape.layout.depth → t ≢ x.0 → tag_bit x.1.shape.layout x.1.held t ≡ 1
-            → value_of slots t ≡ value_of me.1 t))
+        λ u' r' eu er lu' has'. let same : r ≡ r' = same_record r r' (sym mine ∙ er) in
+            subst (λ (x : ℕ × Layout × List ℕ). (value : R) × (slots : List (ℕ × R)) × (me.0 ≡ me.0)
+            × (carried_after me.1 go.act ≡ (x.0, value) ∷ slots) × (value_of me.1 x.0 ≡ some value)
+            × (map (λ y. y.0) slots ≡ tags_from (but (tag_bit x.1 x.2) x.0) 0 x.1.depth)
+            × ((t : ℕ) → t < x.1.depth → t ≢ x.0 → tag_bit x.1 x.2 t ≡ 1 → value_of slots t ≡ value_of me.1 t))
             (λ j. (
-              same_state k r r' u u' shape (same_record r r' (sym mine ∙ er)) eu j,
-              same_record r r' (sym mine ∙ er) j,
+              same_state k r r' u u' shape same eu j,
+              ap (λ (z : Shape). z.layout) (sym shape ∙ ap (λ (z : Record R). z.shape) same) j,
+              (same j).held,
             ))
-            (subst (λ (z : Shape). (value : R) × (slots : List (ℕ × R)) × (me.0 ≡ me.0) ×
-            (carried_after me.1 go.act ≡ (u, value) ∷ slots) × (value_of me.1 u ≡ some value)
-            × (map (λ y. y.0) slots ≡ tags_from (but (tag_bit z.layout r.held) u) 0 z.layout.depth)
-            × ((t : ℕ) → t < z.layout.depth → t ≢ u → tag_bit z.layout r.held t ≡ 1
-            → value_of slots t ≡ value_of me.1 t))
-            (sym shape) (go.value, go.slots, refl, go.list, go.was, go.tags, go.others)),
+            (go.value, go.slots, refl, go.list, go.was, go.tags, go.others),
       )
 
   -- the table allows a load that puts it back
@@ -195,22 +191,19 @@ module _ (R : Type 0) (k : Shape) (id : ℕ) (me : Me R (View R)) (r : Record R)
             let same_value : value ≡ v' = ap (λ (z : ℕ × R). z.1)
             (some-injective (u, value) (u', v') (ap (λ (z : List (ℕ × R)). get_elem? z 0) same_list)) in
             let same_slots : slots ≡ xs' = ap rest_of same_list in
-            subst (λ (x : ℕ × Record R × R × List (ℕ × R)). (me.0 ≡ me.0) × Carries x.1.shape.layout x.1.held
-            (carried_after me.1 go.act) × (value_of (carried_after me.1 go.act) x.0 ≡ some x.2)
-            × ((t : ℕ) → t < x.1.shape.layout.depth → t ≢ x.0 → tag_bit x.1.shape.layout x.1.held t ≡ 1
-            → value_of (carried_after me.1 go.act) t ≡ value_of x.3 t))
+            let same : r ≡ r' = same_record r r' (sym mine ∙ er) in
+            subst (λ (x : ℕ × Layout × List ℕ × R × List (ℕ × R)). (me.0 ≡ me.0)
+            × Carries x.1 x.2 (carried_after me.1 go.act) × (value_of (carried_after me.1 go.act) x.0 ≡ some x.3)
+            × ((t : ℕ) → t < x.1.depth → t ≢ x.0 → tag_bit x.1 x.2 t ≡ 1
+            → value_of (carried_after me.1 go.act) t ≡ value_of x.4 t))
             (λ j. (
-              same_state k r r' u u' shape (same_record r r' (sym mine ∙ er)) eu j,
-              same_record r r' (sym mine
-                  ∙ er) j,
+              same_state k r r' u u' shape same eu j,
+              ap (λ (z : Shape). z.layout) (sym shape ∙ ap (λ (z : Record R). z.shape) same) j,
+              (same j).held,
               same_value j,
               same_slots j,
             ))
-            (subst (λ (z : Shape). (me.0 ≡ me.0) × Carries z.layout r.held (carried_after me.1 go.act) ×
-            (value_of (carried_after me.1 go.act) u ≡ some value)
-            × ((t : ℕ) → t < z.layout.depth → t ≢ u → tag_bit z.layout r.held t ≡ 1
-            → value_of (carried_after me.1 go.act) t ≡ value_of slots t)) (sym shape)
-            (refl, go.tags, go.now, go.others)),
+            (refl, go.tags, go.now, go.others),
       )
     where
       rest_of : List (ℕ × R) → List (ℕ × R)

@@ -1,12 +1,8 @@
 -- What the steps that join a caller's list do to the tags that it holds.
-use Rattle.std.proofs.Common.{◌≡◌, ◌≢◌, ℕ, ◌-◌, ◌/◌, ◌%◌, ◌^◌, ◌<◌, ◌≤◌, List, length, get_or, min, max, arith, sym, ap, ◌∙◌, subst, inl, inr, eq-eqb, ⊎_elim}
-use mathlib.Core.Logic.{dite}
-use native.Mathlib.Decide.{ℕ_discrete}
+use Rattle.std.proofs.Common.{◌≡◌, ℕ, ◌-◌, ◌^◌, ◌<◌, ◌≤◌, List, length, get_or, min, max, arith, sym, ap, ◌∙◌, subst, eq-eqb}
 use Rattle.std.specs.Int.{bit_at}
 use Rattle.std.proofs.lemmas.Nat.Bits.{bit_at-lt, bit_at_above}
-use Rattle.std.proofs.lemmas.Bool.{cases_lt}
-use Rattle.sums.specs.Below.{one_if}
-use Rattle.tag_layout.specs.Layout.{Layout, words, word_depth, word_of, place_of, IsWithin}
+use Rattle.tag_layout.specs.Layout.{Layout, words, word_of, place_of, IsWithin}
 use Rattle.tag_layout.proofs.PlaceFacts.{word_of-below, tag_at-back, tag_at-below}
 use Rattle.tag_core.specs.declared.shape.Shape.{Shape}
 use Rattle.tag_core.specs.declared.step.Step.{Step}
@@ -24,32 +20,19 @@ use Rattle.tag_core.proofs.TagBits.{place_small, among_here, among_else, among_s
 -- the bit of a mask within its word names a tag of the map
 pub named_below : (l : Layout) (i m t : ℕ) → IsWithin l i m → word_of l t ≡ i → bit_at m (place_of l t) ≡ 1
     → t < l.depth
-named_below l i m t within e one = let b : ℕ = place_of l t in
-    subst (λ (z : ℕ). z < l.depth) (tag_at-back l t) (tag_at-below l (word_of l t) b (⊎_elim
-    (λ (h : b < word_depth l (word_of l t)). h)
-    (λ (past : word_depth l (word_of l t) ≤ b).
-    let none = bit_at_above m (word_depth l i) b within (subst (λ (z : ℕ). word_depth l z ≤ b) e past) in
-    absurd (omega arith))
-    (cases_lt b (word_depth l (word_of l t)))))
+named_below l i m t within e one = grind (arith, tag_at-back, tag_at-below, bit_at_above)
 
 -- a tag that such a mask names is one of the map's
 pub named_in : (k : Shape) → k.layout.shift ≤ 6 → (i m t : ℕ) → IsWithin k.layout i m → IsInMask k.layout i m t
     → t < k.layout.depth
-named_in k narrow i m t within named = let one = among_one k.layout i m t named in
-    dite (ℕ_discrete (t / 2 ^ k.layout.shift) i)
-    (λ (e : t / 2 ^ k.layout.shift ≡ i). named_below k.layout i m t within e (among_here k narrow i m t e ∙ one))
-    (λ (n : t / 2 ^ k.layout.shift ≢ i). let none = among_else k narrow i m t n in absurd (omega arith))
+named_in k narrow i m t within named = grind (arith, among_one, among_here, among_else, named_below)
 
 -- what a claim wins it did not find taken
 pub not_found : (k : Shape) → k.layout.shift ≤ 6 → (i m found t : ℕ) → found < 2 ^ 64
     → IsInMask k.layout i (without m found) t
     → (word_of k.layout t ≡ i → bit_at found (place_of k.layout t) ≡ 1) → ⊥
-not_found k narrow i m found t fits named taken = let one = among_one k.layout i (without m found) t named in
-    dite (ℕ_discrete (t / 2 ^ k.layout.shift) i)
-    (λ (e : t / 2 ^ k.layout.shift ≡ i). let b =
-    bit_minus m found (t % 2 ^ k.layout.shift) fits (place_small k narrow t) in
-    let a = among_here k narrow i (without m found) t e in let f = taken e in omega arith)
-    (λ (n : t / 2 ^ k.layout.shift ≢ i). let none = among_else k narrow i (without m found) t n in omega arith)
+not_found k narrow i m found t fits named taken =
+    grind (arith, among_one, among_here, among_else, bit_minus, place_small)
 
 -- a mask of one tag names that tag alone
 module _ (k : Shape) (narrow : k.layout.shift ≤ 6) (u : ℕ) where
@@ -57,7 +40,7 @@ module _ (k : Shape) (narrow : k.layout.shift ≤ 6) (u : ℕ) where
   alone_named t h = only_is k narrow t u (only_among k narrow u t ∙ among_one k.layout _ _ t h)
 
   pub named_alone : (t : ℕ) → t ≡ u → IsInMask k.layout (word_of k.layout u) (2 ^ place_of k.layout u) t
-  named_alone t e = one_among k.layout _ _ t (sym (only_among k narrow u t) ∙ ap one_if (eq-eqb t u e))
+  named_alone t e = grind (arith, one_among, only_among, eq-eqb)
 
 module _ {R : Type 0} (old new : Caller R) (narrow : old.shape.value.layout.shift ≤ 6)
     (same : new.shape.value ≡ old.shape.value)
@@ -72,18 +55,14 @@ module _ {R : Type 0} (old new : Caller R) (narrow : old.shape.value.layout.shif
   has_small masks t = bit_at-lt (get_or masks (word_of k.layout t) 0) (place_of k.layout t)
 
   now_holds : (t : ℕ) → t < k.layout.depth → has new.held.items t ≡ 1 → Holds new t
-  now_holds t l e = subst (λ (z : Shape). (t < z.layout.depth) × (tag_bit z.layout new.held.items t ≡ 1)) (sym same)
-      (l, e)
+  now_holds t l e = grind arith
 
   holds_now : (t : ℕ) → Holds new t → (t < k.layout.depth) × (has new.held.items t ≡ 1)
-  holds_now t h = subst (λ (z : Shape). (t < z.layout.depth) × (tag_bit z.layout new.held.items t ≡ 1)) same h
+  holds_now t h = grind arith
 
   -- the held set stays
   pub keeps_all : new.held.items ≡ old.held.items → KeepsAll old new
-  keeps_all is = record {
-    kept = λ t h. let now = now_holds t h.0 (ap (λ (l : List ℕ). has l t) is ∙ h.1) in (now, slots t h now);
-    none_else = λ t h. let was = holds_now t h in (was.0, sym (ap (λ (l : List ℕ). has l t) is) ∙ was.1);
-  }
+  keeps_all is = grind (arith, now_holds, holds_now, slots)
 
   module _ (i m : ℕ) (inside : i < words k.layout) where
     long : i < length old.held.items
@@ -93,9 +72,7 @@ module _ {R : Type 0} (old new : Caller R) (narrow : old.shape.value.layout.shif
     in_mask t h = among_one k.layout i m t h
 
     not_in_mask : (t : ℕ) → ¬ (IsInMask k.layout i m t) → among k.layout.shift i m t ≡ 0
-    not_in_mask t n = let small = among_small k narrow i m t in dite (ℕ_discrete (among k.layout.shift i m t) 1)
-        (λ (e : among k.layout.shift i m t ≡ 1). absurd (n (one_among k.layout i m t e)))
-        (λ (e : among k.layout.shift i m t ≢ 1). omega arith)
+    not_in_mask t n = grind (arith, among_small, one_among)
 
     -- the tags of a mask leave the held set
     module _ (fits : m < 2 ^ 64) (is : new.held.items ≡ parted old.held.items i m) where
@@ -104,13 +81,7 @@ module _ {R : Type 0} (old new : Caller R) (narrow : old.shape.value.layout.shif
           ∙ list_bit k narrow old.held.items i _ t long)
 
       pub releases : Releases (IsInMask k.layout i m) old new
-      releases = record {
-        gone = λ t named h. let one = (holds_now t h).1 in let e = less t in let a = in_mask t named in omega arith;
-        kept = λ t out h. let e = less t in let a = not_in_mask t out in let one = h.1 in
-            let now = now_holds t h.0 (omega arith) in (now, slots t h now);
-        none_else = λ t h. let one = holds_now t h in let e = less t in let b = one.1 in
-            let small = has_small old.held.items t in (one.0, omega arith);
-      }
+      releases = grind (arith, less, in_mask, not_in_mask, now_holds, holds_now, has_small, slots)
 
     -- the tags of a mask join the held set
     module _ (fresh : (t : ℕ) → IsInMask k.layout i m t → ¬ (Holds old t))
@@ -121,35 +92,16 @@ module _ {R : Type 0} (old new : Caller R) (narrow : old.shape.value.layout.shif
           ∙ list_bit k narrow old.held.items i _ t long)
 
       pub acquires : Acquires (IsInMask k.layout i m) old new
-      acquires = record {
-        fresh = fresh;
-        joined = λ t named. let e = more t in let a = in_mask t named in let small = has_small old.held.items t in
-            now_holds t (below t named) (omega arith);
-        kept = λ t h. let e = more t in let one = h.1 in let small = has_small new.held.items t in
-            let now = now_holds t h.0 (omega arith) in (now, slots t h now);
-        none_else = λ t h. let one = holds_now t h in dite (ℕ_discrete (among k.layout.shift i m t) 1)
-            (λ (e : among k.layout.shift i m t ≡ 1). inr (one_among k.layout i m t e))
-            (λ (n : among k.layout.shift i m t ≢ 1). let e = more t in let small = among_small k narrow i m t in
-            let b = one.1 in let small' = has_small old.held.items t in inl (one.0, omega arith));
-      }
+      acquires = grind (arith, more, in_mask, one_among, among_small, now_holds, holds_now, has_small, slots, below)
 
 -- the same tags, told in another way
 pub released_as : {R : Type 0} (old new : Caller R) (P Q : ℕ → Type 0) → ((t : ℕ) → P t → Q t) → ((t : ℕ) → Q t → P t)
     → Releases P old new → Releases Q old new
-released_as old new P Q to back h = record {
-  gone = λ t q. h.gone t (back t q);
-  kept = λ t out. h.kept t (λ p. out (to t p));
-  none_else = h.none_else;
-}
+released_as old new P Q to back h = grind (arith, h.gone, h.kept, h.none_else, to, back)
 
 pub acquired_as : {R : Type 0} (old new : Caller R) (P Q : ℕ → Type 0) → ((t : ℕ) → P t → Q t) → ((t : ℕ) → Q t → P t)
     → Acquires P old new → Acquires Q old new
-acquired_as old new P Q to back h = record {
-  fresh = λ t q. h.fresh t (back t q);
-  joined = λ t q. h.joined t (back t q);
-  kept = h.kept;
-  none_else = λ t now. ⊎_elim (λ (was : Holds old t). inl was) (λ (p : P t). inr (to t p)) (h.none_else t now);
-}
+acquired_as old new P Q to back h = grind (arith, h.fresh, h.joined, h.kept, h.none_else, to, back)
 
 module _ {R : Type 0} (m : Map R) (old new : Caller R) (own : IsCallerOf m old) where
   abbrev l : Layout

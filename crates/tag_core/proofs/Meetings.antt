@@ -1,9 +1,8 @@
 -- Two callers whose records stand in one view hold no tag in common.
-use Rattle.std.proofs.Common.{◌≡◌, ◌≢◌, ℕ, [], ◌∷◌, nat_eq, arith, refl, sym, ap, ◌∙◌, subst, ne_eqb}
+use Rattle.std.proofs.Common.{◌≡◌, ◌≢◌, ℕ, [], ◌∷◌, arith, refl, sym, ap, ◌∙◌, subst, ne_eqb}
 use mathlib.Core.Option.{some, none}
 use lib.ListN.{get_elem?}
 use Rattle.atomic_table.specs.Table.{State, Me, step, Allows}
-use Rattle.sums.specs.Below.{one_if}
 use Rattle.step_ledger.specs.Views.{viewing}
 use Rattle.tag_core.specs.Views.{View}
 use Rattle.tag_model.specs.declared.place.Place.{Place}
@@ -15,13 +14,10 @@ use Rattle.tag_core.specs.Rule.{IsKnown, Shown}
 use Rattle.tag_core.specs.Meeting.{ShareHistory, AreApart}
 use Rattle.tag_core.specs.Plays.{met}
 use Rattle.tag_core.proofs.Fronts.{idle_allowed}
-use Rattle.tag_core.proofs.Turns.{held_from}
 
 -- one place has one holder
 one_holder : (place : Place) (a b : ℕ) → a ≢ b → held_bit a place ≡ 1 → held_bit b place ≢ 1
-one_holder place a b differ held_by_a held_by_b =
-    let at_b : one_if (nat_eq b a) ≡ 1 = ap (held_bit a) (sym (held_from b place held_by_b)) ∙ held_by_a in
-    let at_none : one_if (nat_eq b a) ≡ 0 = ap one_if (ne_eqb b a (λ same. differ (sym same))) in absurd (omega arith)
+one_holder place a b differ held_by_a held_by_b = grind (arith, ne_eqb)
 
 module _ {R : Type 0} (k : Shape) (s : State R (View R)) (sh : Shown k s) (id : ℕ) (first second : Record R)
     (at : get_elem? s.views id ≡ some (viewing (first ∷ second ∷ []))) where

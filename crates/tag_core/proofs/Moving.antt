@@ -1,5 +1,5 @@
 -- One step of one caller, with its slots.
-use Rattle.std.proofs.Common.{◌≡◌, ◌≢◌, ℕ, ◌+◌, ◌*◌, ◌<◌, ◌≤◌, ◌⊎◌, List, ◌∷◌, map, length, set, arith, refl, sym, ap, ◌∙◌, subst, ⊎_elim, inl, inr, eq-eqb}
+use Rattle.std.proofs.Common.{◌≡◌, ◌≢◌, ℕ, ◌+◌, ◌*◌, ◌<◌, ◌≤◌, ◌⊎◌, List, ◌∷◌, map, length, set, arith, refl, sym, ap, ◌∙◌, subst, ⊎_elim, eq-eqb, ne_eqb}
 use mathlib.Core.Option.{some, none, some-injective, some-ne-none}
 use mathlib.Core.Option as maybe
 use mathlib.Core.Logic.{dite}
@@ -11,7 +11,7 @@ use Rattle.sums.specs.Below.{one_if}
 use Rattle.step_ledger.specs.Views.{own_view}
 use Rattle.tag_core.specs.Views.{View}
 use Rattle.tag_model.specs.declared.place.Place.{Place}
-use Rattle.tag_model.specs.declared.place.Place.TheVariants.{Free as free, Held as held, Posted as posted, Aside as aside, Sweep as sweep}
+use Rattle.tag_model.specs.declared.place.Place.TheVariants.{Held as held, Posted as posted}
 use Rattle.tag_model.specs.declared.world.TheConstants.{MOST_WON}
 use Rattle.tag_model.specs.Event.{back_by}
 use Rattle.tag_model.specs.Totals.{got_in, back_in, held_in, posted_in}
@@ -38,30 +38,29 @@ use Rattle.tag_core.proofs.Acts.{Moved, moves}
 pub held_one : (c : ℕ) (q : Place) → q ≡ held c → held_bit c q ≡ 1
 held_one c q e = ap (held_bit c) e ∙ ap one_if (eq-eqb c c refl)
 
--- a tag has a holder, or none
-pub holder : (q : Place) → ((d : ℕ) × (q ≡ held d)) ⊎ ((d : ℕ) → q ≢ held d)
-holder free = inr (λ d e. cc)
-holder (held d) = inl (d, refl)
-holder posted = inr (λ d e. cc)
-holder aside = inr (λ d e. cc)
-holder (sweep c) = inr (λ d e. cc)
+-- who holds a tag, if anyone does
+abbrev holder : Place → ℕ
+holder (held c) = c
+holder _ = 0
 
-module _ (R : Type 0) (home : maybe.Option (maybe.Option R)) where
-  -- the slot of a tag that nobody holds is at home
-  pub home_of : (q : Place) → SlotIs home q → ((d : ℕ) → q ≢ held d) → (y : R) × (home ≡ some (some y))
-  home_of free o n = o
-  home_of (held d) o n = absurd (n d refl)
-  home_of posted o n = o
-  home_of aside o n = o
-  home_of (sweep c) o n = o
+-- a posted tag is in no held set
+pub posted_unheld : (c : ℕ) (q : Place) (had : ℕ) → held_bit c q ≡ had → q ≡ posted → had ≢ 1
+posted_unheld c q had was e = grind arith
 
-  -- a slot at home is where it belongs when nobody holds the tag
-  pub slot_some : (q : Place) → ((d : ℕ) → q ≢ held d) → (y : R) × (home ≡ some (some y)) → SlotIs home q
-  slot_some free n o = o
-  slot_some (held d) n o = absurd (n d refl)
-  slot_some posted n o = o
-  slot_some aside n o = o
-  slot_some (sweep c) n o = o
+module _ (R : Type 0) (home : maybe.Option (maybe.Option R)) (c : ℕ) (q p : Place) (had has : ℕ)
+    (was : held_bit c q ≡ had) (now : held_bit c p ≡ has)
+    (others : (d : ℕ) → d ≢ c → held_bit d p ≡ held_bit d q) where
+  -- the slot of a tag that a caller gets is at home
+  taken_from_home : SlotIs home q → had ≢ 1 → has ≡ 1 → (y : R) × (home ≡ some (some y))
+  taken_from_home slot before after = grind (arith, eq-eqb, ne_eqb, others (holder q), others (holder p))
+
+  -- the slot of a tag that it gives away belongs there
+  given_home : (y : R) × (home ≡ some (some y)) → had ≡ 1 → has ≢ 1 → SlotIs home p
+  given_home slot before after = grind (arith, eq-eqb, ne_eqb, others (holder q), others (holder p))
+
+  -- any other slot stays where it belongs
+  left_there : SlotIs home q → had ≢ 1 → has ≢ 1 → SlotIs home p
+  left_there slot before after = grind (arith, eq-eqb, ne_eqb, others (holder q), others (holder p))
 
 -- a map that opens is in balance
 pub opening_even : (k : Shape) → IsOpening k
@@ -86,57 +85,21 @@ module _ (R : Type 0) (k : Shape) (s : State R (View R)) (sh : Shown k s) (r : R
   abbrev f' : ℕ → ℕ
   f' = tag_bit k.layout (held_after k.layout st r.held)
 
-  -- the others' tags stay
-  others : (t : ℕ) → t < k.layout.depth → (d : ℕ) → d ≢ r.number → p t ≡ held d → q t ≡ held d
-  others t l d n e = held_from d (q t) (sym ((owed.tags t l).others_hold d n) ∙ held_one d (p t) e)
-
-  others_back : (t : ℕ) → t < k.layout.depth → (d : ℕ) → d ≢ r.number → q t ≡ held d → p t ≡ held d
-  others_back t l d n e = held_from d (p t) ((owed.tags t l).others_hold d n ∙ held_one d (q t) e)
-
-  was_mine : (t : ℕ) → t < k.layout.depth → f t ≡ 1 → q t ≡ held r.number
-  was_mine t l e = held_from r.number (q t) (ok.held t l ∙ e)
-
-  is_mine : (t : ℕ) → t < k.layout.depth → f' t ≡ 1 → p t ≡ held r.number
-  is_mine t l e = held_from r.number (p t) ((owed.tags t l).held ∙ e)
-
-  not_was : (t : ℕ) → t < k.layout.depth → f t ≢ 1 → q t ≢ held r.number
-  not_was t l n e = n (sym (ok.held t l) ∙ held_one r.number (q t) e)
-
-  not_is : (t : ℕ) → t < k.layout.depth → f' t ≢ 1 → p t ≢ held r.number
-  not_is t l n e = n (sym (owed.tags t l).held ∙ held_one r.number (p t) e)
-
-  two_holders : (c d : ℕ) (a : Place) → a ≡ held c → a ≡ held d → c ≡ d
-  two_holders c d a e e' = let z : held c ≡ held d = sym e ∙ e' in cc
-
-  -- non one held a tag that is mine now and was not
-  was_home : (t : ℕ) → t < k.layout.depth → f t ≢ 1 → f' t ≡ 1 → (y : R) × (get_elem? s.homes t ≡ some (some y))
-  was_home t l non aye = home_of R (get_elem? s.homes t) (q t) (sh.slots t l) (λ d e. dite (ℕ_discrete d r.number)
-      (λ (same : d ≡ r.number). not_was t l non (e ∙ ap held same))
-      (λ (n : d ≢ r.number). n (two_holders d r.number (p t) (others_back t l d n e) (is_mine t l aye))))
-
   -- the slots move with the step's tags
   pub moved : Moved R f f' k.layout.depth s.homes cs
-  moved = moves R f f' k.layout.depth s.homes cs (let e : length s.homes ≡ k.layout.depth = deep in
-      omega arith) carries was_home
+  moved = moves R f f' k.layout.depth s.homes cs (let e : length s.homes ≡ k.layout.depth = deep in omega arith) carries
+      (λ t l. let tag = owed.tags t l in
+      taken_from_home R _ r.number (q t) (p t) _ _ (ok.held t l) tag.held tag.others_hold (sh.slots t l))
 
   slots_after : (t : ℕ) → t < k.layout.depth → SlotIs (get_elem? (homes_after s.homes cs moved.act) t) (p t)
-  slots_after t l = dite (ℕ_discrete (f' t) 1)
-      (λ (aye : f' t ≡ 1). subst (SlotIs (get_elem? (homes_after s.homes cs moved.act) t)) (sym (is_mine t l aye))
-      (moved.out t l aye))
+  slots_after t l = let tag = owed.tags t l in let c : ℕ = r.number in dite (ℕ_discrete (f' t) 1)
+      (λ (aye : f' t ≡ 1). subst (SlotIs (get_elem? (homes_after s.homes cs moved.act) t))
+      (sym (held_from c (p t) (tag.held ∙ aye))) (moved.out t l aye))
       (λ (non' : f' t ≢ 1). dite (ℕ_discrete (f t) 1)
       (λ (aye : f t ≡ 1). let w = moved.returned t l aye non' in
-      slot_some R _ (p t) (λ d e. dite (ℕ_discrete d r.number)
-      (λ (same : d ≡ r.number). not_is t l non' (e ∙ ap held same))
-      (λ (n : d ≢ r.number). n (two_holders d r.number (q t) (others t l d n e) (was_mine t l aye)))) (w.0, w.2))
-      (λ (non : f t ≢ 1). subst (λ z. SlotIs z (p t)) (sym (moved.same t l non non')) (⊎_elim
-      (λ (w : (d : ℕ) × (p t ≡ held d)). let n : w.0 ≢ r.number =
-      (λ (z : w.0 ≡ r.number). not_is t l non' (w.1 ∙ ap held z)) in
-      subst (SlotIs (get_elem? s.homes t)) (others t l w.0 n w.1 ∙ sym w.1) (sh.slots t l))
-      (λ (o : (d : ℕ) → p t ≢ held d). slot_some R _ (p t) o
-      (home_of R _ (q t) (sh.slots t l) (λ d e. dite (ℕ_discrete d r.number)
-      (λ (same : d ≡ r.number). not_was t l non (e ∙ ap held same))
-      (λ (n : d ≢ r.number). o d (others_back t l d n e)))))
-      (holder (p t)))))
+      given_home R _ c (q t) (p t) _ _ (ok.held t l) tag.held tag.others_hold (w.0, w.2) aye non')
+      (λ (non : f t ≢ 1). subst (λ z. SlotIs z (p t)) (sym (moved.same t l non non'))
+      (left_there R _ c (q t) (p t) _ _ (ok.held t l) tag.held tag.others_hold (sh.slots t l) non non')))
 
   module _ (posting : (t : ℕ) → t < k.layout.depth → p t ≡ posted
       → ((q t ≡ posted) × (last_post t ((r.number, st) ∷ sh.history) ≡ last_post t sh.history)) ⊎
@@ -144,10 +107,10 @@ module _ (R : Type 0) (k : Shape) (s : State R (View R)) (sh : Shown k s) (r : R
     posts_after : (t : ℕ) → t < k.layout.depth → p t ≡ posted
         → get_elem? (homes_after s.homes cs moved.act) t ≡ some (last_post t ((r.number, st) ∷ sh.history))
     posts_after t l e =
-        let non' : f' t ≢ 1 = (λ (z : f' t ≡ 1). let two : posted ≡ held r.number = sym e ∙ is_mine t l z in cc) in
+        let non' = posted_unheld r.number (p t) (f' t) (owed.tags t l).held e in
         ⊎_elim
         (λ (w : (q t ≡ posted) × (last_post t ((r.number, st) ∷ sh.history) ≡ last_post t sh.history)).
-        let non : f t ≢ 1 = (λ (z : f t ≡ 1). let two : posted ≡ held r.number = sym w.0 ∙ was_mine t l z in cc) in
+        let non = posted_unheld r.number (q t) (f t) (ok.held t l) w.0 in
         moved.same t l non non' ∙ sh.posts t l w.0 ∙ ap some (sym w.1))
         (λ (w : (q t ≡ held r.number) × (last_post t ((r.number, st) ∷ sh.history) ≡ value_of cs t)).
         let aye : f t ≡ 1 = sym (ok.held t l) ∙ held_one r.number (q t) w.0 in

@@ -1,10 +1,9 @@
 -- What a claim, a give and a look owe.
-use Rattle.std.proofs.Common.{◌≡◌, None, ℕ, ◌+◌, ◌-◌, ◌/◌, ◌%◌, ◌^◌, ◌<◌, ◌≤◌, length, get_or, set, cond, bit_or, count_ones, min, max, arith, sym, ap, ◌∙◌, subst, length-set, get_or-set_other}
+use Rattle.std.proofs.Common.{List, get_or-set_same, ◌≡◌, None, ℕ, ◌+◌, ◌-◌, ◌/◌, ◌%◌, ◌^◌, ◌<◌, ◌≤◌, get_or, set, bit_or, count_ones, min, max, arith, sym, ap, ◌∙◌, subst, length-set, get_or-set_other}
 use mathlib.Core.Logic.{dite}
 use native.Mathlib.Decide.{ℕ_discrete}
 use Rattle.std.specs.Int.{bit_at}
 use Rattle.std.proofs.lemmas.Nat.{or_lt}
-use Rattle.std.proofs.lemmas.Nat.Bits.{bit_at_or, bit_at-lt}
 use Rattle.atomic_table.specs.Table.{State}
 use Rattle.tag_core.specs.Views.{View}
 use Rattle.tag_layout.specs.Layout.{words, word_depth, word_of, place_of, IsWithin}
@@ -12,7 +11,6 @@ use Rattle.tag_layout.proofs.PlaceFacts.{word_of-below}
 use Rattle.tag_model.specs.declared.place.Place.{Place}
 use Rattle.tag_model.specs.declared.place.Place.TheVariants.{Free as free, Held as held}
 use Rattle.tag_model.specs.declared.world.TheConstants.{MOST_WON}
-use Rattle.tag_model.specs.Event.{is_in_mask}
 use Rattle.tag_model.specs.declared.event.Event.TheVariants as event
 use Rattle.tag_model.specs.World.{World, MayHappen}
 use Rattle.tag_model.proofs.HistoryFacts.{won-history}
@@ -28,11 +26,33 @@ use Rattle.tag_core.specs.Histories.{Cells, cells_of, events_of, opening_world, 
 use Rattle.tag_core.specs.Records.{tag_bit}
 use Rattle.tag_core.specs.Rule.{HasCells, IsKnown, Shown}
 use Rattle.tag_core.proofs.Picks.{pick, among, among_one, pick_among}
-use Rattle.tag_core.proofs.Turns.{Shows, stays, claims, gives, unchanged, reshow, free_from, held_from}
+use Rattle.tag_core.proofs.Turns.{Shows, claims, gives, unchanged, reshow, free_from, held_from}
 use Rattle.tag_core.proofs.Masks.{bit_minus, minus_le, ones_minus}
-use Rattle.tag_core.proofs.Stand.{word_at_one, aside_at_one, state_at_one, word_no_aside, word_no_state, aside_no_state, word_in, aside_in, state_in, set_spread}
+use Rattle.tag_core.proofs.Stand.{spread}
 use Rattle.tag_core.proofs.Advance.{Owed}
-use Rattle.tag_core.proofs.TagBits.{place_small, small_word, among_here, among_else, changed_here, changed_else, mask_here, mask_else, changed_within, among_small, or_bit, minus_bit, list_bit}
+use Rattle.tag_core.proofs.TagBits.{place_small, small_word, among_here, among_else, among_small, or_bit, minus_bit, list_bit}
+
+-- what a change of one of the table's words is
+ruleset change = (length-set, get_or-set_same, get_or-set_other, spread)
+
+module _ (k : Shape) (ws : List ℕ) (c : Cells) (has : HasCells k ws c) where
+  -- the table after a change of one word
+  pub word_cells : (i x x' : ℕ) → i < words k.layout → x ≡ x' → IsWithin k.layout i x'
+      → HasCells k (set ws (word_at i) x) (record c { words = record c.words { word = changed_at c.words.word i x' } })
+  word_cells i x x' h same fits =
+      grind (arith, change, has.word, has.aside, has.state, has.word_within, has.aside_within)
+
+  -- after a change of one cleared set
+  pub aside_cells : (i x x' : ℕ) → i < words k.layout → x ≡ x' → IsWithin k.layout i x'
+      → HasCells k (set ws (aside_at i) x)
+      (record c { words = record c.words { aside = changed_at c.words.aside i x' } })
+  aside_cells i x x' h same fits =
+      grind (arith, change, has.word, has.aside, has.state, has.word_within, has.aside_within)
+
+  -- after a change of one tag's state
+  pub state_cells : (u x : ℕ) → u < k.layout.depth
+      → HasCells k (set ws (state_at k.layout u) x) (record c { state = changed_at c.state u x })
+  state_cells u x h = grind (arith, change, has.word, has.aside, has.state, has.word_within, has.aside_within)
 
 module _ (R : Type 0) (k : Shape) (narrow : k.layout.shift ≤ 6) (s : State R (View R)) (sh : Shown k s) (r : Record R)
     (ok : IsKnown k sh.history r) where
@@ -41,62 +61,6 @@ module _ (R : Type 0) (k : Shape) (narrow : k.layout.shift ≤ 6) (s : State R (
 
   abbrev now_world : World
   now_world = world_of k sh.history
-
-  -- the table after a change of one word
-  pub word_cells : (i x x' : ℕ) → i < words k.layout → x ≡ x' → IsWithin k.layout i x'
-      → HasCells k (set s.words (word_at i) x)
-      (record now_cells { words = record now_cells.words { word = changed_at now_cells.words.word i x' } })
-  word_cells i x x' h same fits =
-      let inside : word_at i < length s.words = subst (λ (z : ℕ). word_at i < z) (sym sh.cells.wide)
-      (word_in k.layout i h) in record {
-        wide = length-set s.words (word_at i) x ∙ sh.cells.wide;
-        word = λ j l. set_spread s.words word_at now_cells.words.word (words k.layout) i x word_at_one
-            inside sh.cells.word j l
-            ∙ ap (λ (z : ℕ). changed_at now_cells.words.word i z j) same;
-        aside = λ j l. get_or-set_other s.words (word_at i) (aside_at j) x 0 (λ e. word_no_aside i j (sym e))
-            ∙ sh.cells.aside j l;
-        state = λ t l. get_or-set_other s.words (word_at i) (state_at k.layout t) x 0
-            (λ e. word_no_state k.layout i t h (sym e))
-            ∙ sh.cells.state t l;
-        word_within = changed_within k narrow now_cells.words.word i x' fits sh.cells.word_within;
-        aside_within = sh.cells.aside_within;
-      }
-
-  -- after a change of one cleared set
-  pub aside_cells : (i x x' : ℕ) → i < words k.layout → x ≡ x' → IsWithin k.layout i x'
-      → HasCells k (set s.words (aside_at i) x)
-      (record now_cells { words = record now_cells.words { aside = changed_at now_cells.words.aside i x' } })
-  aside_cells i x x' h same fits =
-      let inside : aside_at i < length s.words = subst (λ (z : ℕ). aside_at i < z) (sym sh.cells.wide)
-      (aside_in k.layout i h) in record {
-        wide = length-set s.words (aside_at i) x ∙ sh.cells.wide;
-        word = λ j l. get_or-set_other s.words (aside_at i) (word_at j) x 0 (word_no_aside j i) ∙ sh.cells.word j l;
-        aside = λ j l. set_spread s.words aside_at now_cells.words.aside
-            (words k.layout) i x aside_at_one inside sh.cells.aside j l
-            ∙ ap (λ (z : ℕ). changed_at now_cells.words.aside i z j) same;
-        state = λ t l. get_or-set_other s.words (aside_at i) (state_at k.layout t) x 0
-            (λ e. aside_no_state k.layout i t h (sym e))
-            ∙ sh.cells.state t l;
-        word_within = sh.cells.word_within;
-        aside_within = changed_within k narrow now_cells.words.aside i x' fits sh.cells.aside_within;
-      }
-
-  -- after a change of one tag's state
-  pub state_cells : (u x : ℕ) → u < k.layout.depth
-      → HasCells k (set s.words (state_at k.layout u) x) (record now_cells { state = changed_at now_cells.state u x })
-  state_cells u x h =
-      let inside : state_at k.layout u < length s.words = subst (λ (z : ℕ). state_at k.layout u < z) (sym sh.cells.wide)
-      (state_in k.layout u h) in record {
-        wide = length-set s.words (state_at k.layout u) x ∙ sh.cells.wide;
-        word = λ j l. get_or-set_other s.words (state_at k.layout u) (word_at j) x 0 (word_no_state k.layout j u l)
-            ∙ sh.cells.word j l;
-        aside = λ j l. get_or-set_other s.words (state_at k.layout u) (aside_at j) x 0 (aside_no_state k.layout j u l)
-            ∙ sh.cells.aside j l;
-        state = set_spread s.words (state_at k.layout) now_cells.state k.layout.depth u x
-            (state_at_one k.layout) inside sh.cells.state;
-        word_within = sh.cells.word_within;
-        aside_within = sh.cells.aside_within;
-      }
 
   -- nobody has won too much yet
   unspent : (c : ℕ) → now_world.won c ≤ MOST_WON
@@ -111,6 +75,14 @@ module _ (R : Type 0) (k : Shape) (narrow : k.layout.shift ≤ 6) (s : State R (
   pub some_caller : 0 < k.callers
   some_caller = let low = ok.number in omega arith
 
+  -- the held set with more bits of one word
+  pub held_or : (i m t : ℕ) → i < words k.layout → t < k.layout.depth
+      → max (held_bit r.number (now_world.place t)) (among k.layout.shift i m t) ≡ tag_bit k.layout
+      (set r.held i (bit_or (get_or r.held i 0) m)) t
+  held_or i m t h l = ap (λ (z : ℕ). max z (among k.layout.shift i m t)) (ok.held t l)
+      ∙ or_bit k narrow (λ j. get_or r.held j 0) i m t
+      ∙ list_bit k narrow r.held i _ t (subst (λ (z : ℕ). i < z) (sym ok.held_wide) h)
+
   module _ (i m : ℕ) (inside : i < words k.layout) (fits : m < 2 ^ word_depth k.layout i)
       (room : r.won + count_ones m ≤ MOST_WON) where
     abbrev n : ℕ
@@ -119,44 +91,18 @@ module _ (R : Type 0) (k : Shape) (narrow : k.layout.shift ≤ 6) (s : State R (
     found : n ≡ now_cells.words.word i
     found = sh.cells.word i inside
 
-    new_bit : (t : ℕ) → t < k.layout.depth → t / 2 ^ k.layout.shift ≡ i
-        → min (bit_at m (t % 2 ^ k.layout.shift)) (1 - word_bit (now_world.place t)) ≡ bit_at (without m n)
-        (t % 2 ^ k.layout.shift)
-    new_bit t l e = ap (λ (z : ℕ). min (bit_at m (t % 2 ^ k.layout.shift)) (1 - z))
-        ((sh.tags t l).word ∙ ap (λ (j : ℕ). bit_at (now_cells.words.word j) (t % 2 ^ k.layout.shift)) e
-        ∙ ap (λ (z : ℕ). bit_at z (t % 2 ^ k.layout.shift)) (sym found))
-        ∙ sym (bit_minus m n (t % 2 ^ k.layout.shift)
-        (subst (λ (z : ℕ). z < 2 ^ 64) (sym found)
-        (small_word k narrow i (now_cells.words.word i) (sh.cells.word_within i inside))) (place_small k narrow t))
-
-    claim_tags : (t : ℕ) → t < k.layout.depth
-        → Shows r.number (now_world.place t) (cond (is_in_mask k.layout i (without m n) t)
-        (held r.number) (now_world.place t))
-        (bit_at (changed_at now_cells.words.word i (bit_or (now_cells.words.word i) m) (t / 2 ^ k.layout.shift))
-        (t % 2 ^ k.layout.shift))
-        (bit_at (now_cells.words.aside (t / 2 ^ k.layout.shift)) (t % 2 ^ k.layout.shift)) (now_cells.state t)
-        (tag_bit k.layout (set r.held i (bit_or (get_or r.held i 0) (without m n))) t) (tag_bit k.layout r.swept t)
-    claim_tags t l =
-        let q : Place = now_world.place t in let b : ℕ = t % 2 ^ k.layout.shift in let c : ℕ = r.number in
-        let tag = sh.tags t l in dite (ℕ_discrete (t / 2 ^ k.layout.shift) i)
-        (λ e. let x : ℕ = bit_at m b in reshow c q _ _ _ _ _ _ _ _ _ _ _ _ (claims c q x (bit_at-lt m b))
-        (ap (λ (z : ℕ). pick z (held c) q) (new_bit t l e ∙ among_here k narrow i (without m n) t e)
-        ∙ pick_among k.layout i (without m n) t (held c) q)
-        (ap (λ (z : ℕ). max z x) (tag.word ∙ ap (λ (j : ℕ). bit_at (now_cells.words.word j) b) e)
-        ∙ sym (bit_at_or (now_cells.words.word i) m b)
-        ∙ changed_here k narrow now_cells.words.word i (bit_or (now_cells.words.word i) m) t e)
-        tag.aside tag.posted
-        ((λ z. max ((ok.held t l ∙ ap (λ (j : ℕ). bit_at (get_or r.held j 0) b) e) z) (new_bit t l e z))
-        ∙ sym (bit_at_or (get_or r.held i 0) (without m n) b)
-        ∙ mask_here k narrow r.held i (bit_or (get_or r.held i 0) (without m n)) t
-        (subst (λ (z : ℕ). i < z) (sym ok.held_wide) inside) e)
-        (ok.swept t l))
-        (λ ne. reshow c q _ _ _ _ _ _ _ _ _ _ _ _ (stays c q)
-        (ap (λ (z : ℕ). pick z (held c) q) (among_else k narrow i (without m n) t ne)
-        ∙ pick_among k.layout i (without m n) t (held c) q)
-        (tag.word ∙ changed_else k narrow now_cells.words.word i (bit_or (now_cells.words.word i) m) t ne) tag.aside
-        tag.posted
-        (ok.held t l ∙ mask_else k narrow r.held i (bit_or (get_or r.held i 0) (without m n)) t ne) (ok.swept t l))
+    -- the claim wins those bits of the mask that are 0 in the word
+    new_bit : (t : ℕ) → t < k.layout.depth
+        → min (among k.layout.shift i m t) (1 - word_bit (now_world.place t)) ≡ among k.layout.shift i (without m n) t
+    new_bit t l = let b : ℕ = t % 2 ^ k.layout.shift in
+        let n_fits : n < 2 ^ 64 = subst (λ (z : ℕ). z < 2 ^ 64) (sym found)
+        (small_word k narrow i (now_cells.words.word i) (sh.cells.word_within i inside)) in
+        dite (ℕ_discrete (t / 2 ^ k.layout.shift) i)
+        (λ e. let word : word_bit (now_world.place t) ≡ bit_at n b = (sh.tags t l).word
+        ∙ ap (λ (j : ℕ). bit_at (now_cells.words.word j) b) e ∙ ap (λ (z : ℕ). bit_at z b) (sym found) in
+        let was = among_here k narrow i m t e in let won = among_here k narrow i (without m n) t e in
+        let both = bit_minus m n b n_fits (place_small k narrow t) in omega arith)
+        (λ e. let was = among_else k narrow i m t e in let won = among_else k narrow i (without m n) t e in omega arith)
 
     -- a claim
     pub claim_owed : Owed R k s sh r (Word (Claimed i m n)) (set s.words (word_at i) (bit_or n m))
@@ -170,26 +116,19 @@ module _ (R : Type 0) (k : Shape) (narrow : k.layout.shift ≤ 6) (s : State R (
             caller = ok.number;
             unspent = (let w : r.won ≡ now_world.won r.number = ok.won in
                 let few : count_ones (without m n) ≤ count_ones m = ones_minus m n in omega arith);
-            places = λ t l named. let a = among_one k.layout i (without m n) t named in
-                free_from (now_world.place t) (dite (ℕ_discrete (t / 2 ^ k.layout.shift) i)
-                (λ e. let one : min (bit_at m (t % 2 ^ k.layout.shift)) (1 - word_bit (now_world.place t)) ≡ 1 =
-                new_bit t l e
-                ∙ among_here k narrow i (without m n) t e ∙ a in omega arith)
-                (λ ne. let none_there : 0 ≡ among k.layout.shift i (without m n) t = among_else k narrow i
-                (without m n) t ne in absurd (omega arith)));
+            places = λ t l named. free_from (now_world.place t)
+                (let one = among_one k.layout i (without m n) t named in let new = new_bit t l in omega arith);
           };
-          cells = word_cells i (bit_or n m) x inside same
+          cells = word_cells k s.words now_cells sh.cells i (bit_or n m) x inside same
               (or_lt (word_depth k.layout i) (now_cells.words.word i) m (sh.cells.word_within i inside) fits);
-          tags = claim_tags;
+          tags = λ t l. let tag = sh.tags t l in let q : Place = now_world.place t in
+              reshow (claims r.number q (among k.layout.shift i m t) (among_small k narrow i m t))
+              (ap (λ (z : ℕ). pick z (held r.number) q) (new_bit t l)
+              ∙ pick_among k.layout i (without m n) t (held r.number) q)
+              (ap (λ (z : ℕ). max z (among k.layout.shift i m t)) tag.word
+              ∙ or_bit k narrow now_cells.words.word i m t) tag.aside tag.posted
+              (ap (max (held_bit r.number q)) (new_bit t l) ∙ held_or i (without m n) t inside l) (ok.swept t l);
         }
-
-  -- the held set with more bits of one word
-  pub held_or : (i m t : ℕ) → i < words k.layout → t < k.layout.depth
-      → max (held_bit r.number (now_world.place t)) (among k.layout.shift i m t) ≡ tag_bit k.layout
-      (set r.held i (bit_or (get_or r.held i 0) m)) t
-  held_or i m t h l = ap (λ (z : ℕ). max z (among k.layout.shift i m t)) (ok.held t l)
-      ∙ or_bit k narrow (λ j. get_or r.held j 0) i m t
-      ∙ list_bit k narrow r.held i _ t (subst (λ (z : ℕ). i < z) (sym ok.held_wide) h)
 
   -- the held set with fewer bits of one word
   pub held_minus : (i m t : ℕ) → i < words k.layout → t < k.layout.depth → m < 2 ^ 64
@@ -225,11 +164,11 @@ module _ (R : Type 0) (k : Shape) (narrow : k.layout.shift ≤ 6) (s : State R (
             places =
                 λ t l named. is_held i m t has l (among_one k.layout i m t named);
           };
-          cells = word_cells i (without n m) x inside same
+          cells = word_cells k s.words now_cells sh.cells i (without n m) x inside same
               (let a = minus_le (now_cells.words.word i) m in let b = sh.cells.word_within i inside in omega arith);
           tags = λ t l. let tag = sh.tags t l in
               let q : Place = now_world.place t in
-              reshow r.number q _ _ _ _ _ _ _ _ _ _ _ _
+              reshow
               (gives r.number q (among k.layout.shift i m t) (among_small k narrow i m t) (is_held i m t has l))
               (pick_among k.layout i m t free q)
               (ap (λ (z : ℕ). min z (1 - among k.layout.shift i m t)) tag.word

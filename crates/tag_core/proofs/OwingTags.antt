@@ -1,24 +1,21 @@
 -- What steps on one tag and sweeps owe.
-use Rattle.std.proofs.Common.{◌≡◌, Some, ℕ, suc, ◌-◌, ◌/◌, ◌%◌, ◌+◌, ◌^◌, ◌<◌, ◌≤◌, length, get_or, set, Bool, cond, nat_eq, bit_or, min, max, arith, refl, sym, ap, ◌∙◌, subst, eq-eqb, ne_eqb}
+use Rattle.std.proofs.Common.{◌≡◌, Some, ℕ, suc, ◌-◌, ◌/◌, ◌%◌, ◌+◌, ◌^◌, ◌<◌, ◌≤◌, length, get_or, set, cond, nat_eq, bit_or, min, max, arith, refl, sym, ap, ◌∙◌, subst}
 use mathlib.Core.Option.{some}
-use mathlib.Core.Logic.{dite}
-use native.Mathlib.Decide.{ℕ_discrete}
 use Rattle.std.specs.Int.{bit_at}
 use Rattle.std.proofs.lemmas.Nat.{pow_pos, or_lt}
 use Rattle.atomic_table.specs.Table.{State}
-use Rattle.sums.specs.Below.{one_if}
 use Rattle.tag_core.specs.Views.{View}
 use Rattle.tag_layout.specs.Layout.{words, word_depth, word_of, place_of}
 use Rattle.tag_layout.proofs.PlaceFacts.{word_of-below}
 use Rattle.tag_model.specs.declared.place.Place.{Place}
-use Rattle.tag_model.specs.declared.place.Place.TheVariants.{Free as free, Held as held, Posted as posted, Aside as aside, Sweep as sweep}
+use Rattle.tag_model.specs.declared.place.Place.TheVariants.{Held as held, Posted as posted, Aside as aside}
 use Rattle.tag_model.specs.declared.world.TheConstants.{MOST_WON}
 use Rattle.tag_model.specs.World.{World}
 use Rattle.tag_core.specs.declared.shape.Shape.{Shape}
 use Rattle.tag_core.specs.declared.step.Step.TheVariants.{Word, Post, Take}
 use Rattle.tag_core.specs.declared.word_step.WordStep.TheVariants.{Put, Swap, Spill}
 use Rattle.tag_core.specs.declared.record.Record.{Record}
-use Rattle.tag_core.specs.Steps.{without}
+use Rattle.tag_core.specs.Steps.{changed_at, without}
 use Rattle.tag_core.specs.Spacing.{word_at, aside_at, state_at}
 use Rattle.tag_core.specs.Bits.{word_bit, aside_bit, posted_bit, held_bit, sweep_bit}
 use Rattle.tag_core.specs.Histories.{Cells, cells_of, world_of, last_post}
@@ -27,10 +24,20 @@ use Rattle.tag_core.specs.Rule.{IsKnown, Shown}
 use Rattle.tag_core.proofs.Picks.{only, only_one, pick_only, pick_swept, pick_spilled}
 use Rattle.tag_core.proofs.Turns.{puts, posts, takes, gathers, spills, posted_small, posted_from, aside_small, sweep_small, reshow, held_from}
 use Rattle.tag_core.proofs.Masks.{minus_le}
-use Rattle.tag_core.proofs.Stand.{tag_mask_within}
+use Rattle.tag_core.proofs.Stand.{bit_tag, tag_mask_within}
 use Rattle.tag_core.proofs.Advance.{Owed}
-use Rattle.tag_core.proofs.TagBits.{bit_tag, or_bit, minus_bit, list_bit, only_among, tag_mask, only_small, only_is, in_small, among_as, none_left, tag_named}
+use Rattle.tag_core.proofs.TagBits.{or_bit, minus_bit, list_bit, only_among, tag_mask, only_small, only_is, among_as, none_left, tag_named}
 use Rattle.tag_core.proofs.Owing.{word_cells, aside_cells, state_cells, none_more, held_or, held_minus}
+
+-- a tag's state once one tag is posted
+posted_at : (state : ℕ → ℕ) (q : Place) (u t : ℕ) → posted_bit q ≡ state t
+    → max (posted_bit q) (only t u) ≡ changed_at state u 1 t
+posted_at state q u t is = grind (arith, posted_small)
+
+-- and once one is taken
+taken_at : (state : ℕ → ℕ) (q : Place) (u t : ℕ) → posted_bit q ≡ state t
+    → min (posted_bit q) (1 - only t u) ≡ changed_at state u 0 t
+taken_at state q u t is = grind (arith, posted_small)
 
 module _ (R : Type 0) (k : Shape) (narrow : k.layout.shift ≤ 6) (s : State R (View R)) (sh : Shown k s) (r : Record R)
     (ok : IsKnown k sh.history r) where
@@ -89,12 +96,12 @@ module _ (R : Type 0) (k : Shape) (narrow : k.layout.shift ≤ 6) (s : State R (
           places = λ t l is. held_tag u t has lu (only_one t u (sym (ap (λ (z : ℕ). nat_eq t z) (tag_named k narrow u))
               ∙ is));
         };
-        cells = aside_cells R k narrow s sh r ok i (bit_or n m) x inside same
+        cells = aside_cells k s.words now_cells sh.cells i (bit_or n m) x inside same
             (or_lt (word_depth k.layout i) (now_cells.words.aside i) m (sh.cells.aside_within i inside)
             (tag_mask_within k.layout u lu));
         tags = λ t l. let tag = sh.tags t l in
             let q : Place = now_world.place t in
-            reshow r.number q _ _ _ _ _ _ _ _ _ _ _ _
+            reshow
             (puts r.number q (only t u) (only_small k narrow t u) (held_tag u t has lu))
             (pick_only t u aside q ∙ ap (λ (z : ℕ). cond (nat_eq t z) aside q) (sym (tag_named k narrow u))) tag.word
             ((λ z. max (tag.aside z) (only_among k narrow u t z))
@@ -115,18 +122,13 @@ module _ (R : Type 0) (k : Shape) (narrow : k.layout.shift ≤ 6) (s : State R (
       places =
           λ t l is. held_tag u t has lu (only_one t u is);
     };
-    cells = state_cells R k narrow s sh r ok u 1 lu;
+    cells = state_cells k s.words now_cells sh.cells u 1 lu;
     tags = λ t l. let tag = sh.tags t l in
         let q : Place = now_world.place t in
-        reshow r.number q _ _ _ _ _ _ _ _ _ _ _ _
+        reshow
         (posts r.number q (only t u) (only_small k narrow t u) (held_tag u t has lu))
         (pick_only t u posted q) tag.word tag.aside
-        (dite (ℕ_discrete t u) (λ e. let one : only t u ≡ 1 = ap one_if (eq-eqb t u e) in let small = posted_small q in
-        (let z : max (posted_bit q) (only t u) ≡ 1 = omega arith in z
-        ∙ ap (λ (b : Bool). cond b 1 (now_cells.state t)) (sym (eq-eqb t u e))))
-        (λ n. let none_here : only t u ≡ 0 = ap one_if (ne_eqb t u n) in
-        (let z : max (posted_bit q) (only t u) ≡ posted_bit q = omega arith in z ∙ tag.posted
-        ∙ ap (λ (b : Bool). cond b 1 (now_cells.state t)) (sym (ne_eqb t u n)))))
+        (posted_at now_cells.state q u t tag.posted)
         (held_without u t lu l) (ok.swept t l);
   }
 
@@ -147,20 +149,13 @@ module _ (R : Type 0) (k : Shape) (narrow : k.layout.shift ≤ 6) (s : State R (
               λ t l is. subst (λ (z : ℕ). now_world.place z ≡ posted)
               (sym (only_is k narrow t u (only_one t u is))) its;
         };
-        cells = state_cells R k narrow s sh r ok u 0 lu;
+        cells = state_cells k s.words now_cells sh.cells u 0 lu;
         tags = λ t l. let tag = sh.tags t l in let q : Place = now_world.place t in
-            reshow r.number q _ _ _ _ _ _ _ _ _ _ _ _
+            reshow
             (takes r.number q (only t u) (only_small k narrow t u)
             (λ a. subst (λ (z : ℕ). now_world.place z ≡ posted) (sym (only_is k narrow t u a)) its))
             (pick_only t u (held r.number) q) tag.word tag.aside
-            (dite (ℕ_discrete t u) (λ e. let one' : only t u ≡ 1 = ap one_if (eq-eqb t u e) in
-            let small = posted_small q in
-            (let z : min (posted_bit q) (1 - only t u) ≡ 0 = omega arith in z
-            ∙ ap (λ (b : Bool). cond b 0 (now_cells.state t)) (sym (eq-eqb t u e))))
-            (λ n. let none_here : only t u ≡ 0 = ap one_if (ne_eqb t u n) in
-            let small = posted_small q in
-            (let z : min (posted_bit q) (1 - only t u) ≡ posted_bit q = omega arith in z ∙ tag.posted
-            ∙ ap (λ (b : Bool). cond b 0 (now_cells.state t)) (sym (ne_eqb t u n)))))
+            (taken_at now_cells.state q u t tag.posted)
             (held_with u t lu l) (ok.swept t l);
       }
 
@@ -178,11 +173,11 @@ module _ (R : Type 0) (k : Shape) (narrow : k.layout.shift ≤ 6) (s : State R (
         finds = found;
         value = tt;
         needs = record { in_layout = inside; caller = ok.number; unspent = none_won; places = λ t l is. tt };
-        cells = aside_cells R k narrow s sh r ok i 0 0 inside refl (pow_pos (word_depth k.layout i));
+        cells = aside_cells k s.words now_cells sh.cells i 0 0 inside refl (pow_pos (word_depth k.layout i));
         tags = λ t l. let tag = sh.tags t l in let q : Place = now_world.place t in
             let b : ℕ = t % 2 ^ k.layout.shift in
-            reshow r.number q _ _ _ _ _ _ _ _ _ _ _ _
-            (gathers r.number q (only (t / 2 ^ k.layout.shift) i) (in_small k narrow t i))
+            reshow
+            (gathers r.number q (only (t / 2 ^ k.layout.shift) i) (only_small k narrow (t / 2 ^ k.layout.shift) i))
             (pick_swept (t / 2 ^ k.layout.shift) i r.number q) tag.word
             (none_left k narrow now_cells.words.aside i t (aside_bit q) (aside_small q) tag.aside)
             tag.posted (ok.held t l)
@@ -197,18 +192,14 @@ module _ (R : Type 0) (k : Shape) (narrow : k.layout.shift ≤ 6) (s : State R (
   pub swept_taken : (i : ℕ) → i < words k.layout → (b : ℕ) → bit_at (get_or r.swept i 0) b ≡ 1
       → bit_at (get_or s.words (word_at i) 0) b ≡ 1
   swept_taken i inside b one =
-      let tag = bit_tag k narrow i (get_or r.swept i 0) b (ok.swept_within i inside) one in let t : ℕ = tag.0 in
+      let tag = bit_tag k.layout i (get_or r.swept i 0) b (ok.swept_within i inside) one in let t : ℕ = tag.0 in
       let mine = ok.swept t tag.1 ∙ (λ j. bit_at (get_or r.swept (tag.2 j) 0) (tag.3 j)) ∙ one in
       ap (λ (z : ℕ). bit_at z b) (sh.cells.word i inside)
       ∙ sym (λ j. bit_at (now_cells.words.word (tag.2 j)) (tag.3 j)) ∙ sym (sh.tags t tag.1).word
       ∙ swept_word r.number (now_world.place t) mine
     where
       swept_word : (c : ℕ) (q : Place) → sweep_bit c q ≡ 1 → word_bit q ≡ 1
-      swept_word c free e = absurd (omega arith)
-      swept_word c (held d) e = refl
-      swept_word c posted e = refl
-      swept_word c aside e = refl
-      swept_word c (sweep d) e = refl
+      swept_word c q e = grind arith
 
   module _ (i : ℕ) (inside : i < words k.layout) (fits : get_or r.swept i 0 < 2 ^ 64) where
     abbrev mask : ℕ
@@ -225,11 +216,11 @@ module _ (R : Type 0) (k : Shape) (narrow : k.layout.shift ≤ 6) (s : State R (
           finds = found;
           value = tt;
           needs = record { in_layout = inside; caller = ok.number; unspent = none_won; places = λ t l is. tt };
-          cells = word_cells R k narrow s sh r ok i (without n mask) x inside same
+          cells = word_cells k s.words now_cells sh.cells i (without n mask) x inside same
               (let a = minus_le (now_cells.words.word i) mask in let b = sh.cells.word_within i inside in omega arith);
           tags = λ t l. let tag = sh.tags t l in let q : Place = now_world.place t in
               let c : ℕ = r.number in
-              reshow c q _ _ _ _ _ _ _ _ _ _ _ _ (spills c q (only (t / 2 ^ k.layout.shift) i) (in_small k narrow t i))
+              reshow (spills c q (only (t / 2 ^ k.layout.shift) i) (only_small k narrow (t / 2 ^ k.layout.shift) i))
               (pick_spilled (t / 2 ^ k.layout.shift) i c q)
               ((λ z. min (tag.word z)
               (1 - among_as k narrow i mask t (sweep_bit c q) (sweep_small c q)

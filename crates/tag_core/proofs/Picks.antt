@@ -1,12 +1,12 @@
 -- What each event does with one tag, as a choice by the bits of masks.
-use Rattle.std.proofs.Common.{◌≡◌, ℕ, zero, suc, ◌/◌, ◌%◌, ◌^◌, ◌<◌, Bool, true, false, cond, nat_eq, ◌==◌, ◌&&◌, IsTrue, arith, refl, sym, ap, ◌∙◌}
+use Rattle.std.proofs.Common.{◌≡◌, ℕ, zero, suc, ◌/◌, ◌%◌, ◌^◌, cond, nat_eq, ◌==◌, IsTrue, arith}
 use Rattle.std.specs.Int.{bit_at}
 use Rattle.std.proofs.lemmas.Nat.Bits.{bit_at-lt}
 use Rattle.sums.specs.Below.{one_if}
 use Rattle.sums.proofs.Laws.{one_if-bit}
 use Rattle.tag_layout.specs.Layout.{Layout}
 use Rattle.tag_model.specs.declared.place.Place.{Place}
-use Rattle.tag_model.specs.declared.place.Place.TheVariants.{Free as free, Held as held, Posted as posted, Aside as aside, Sweep as sweep}
+use Rattle.tag_model.specs.declared.place.Place.TheVariants.{Free as free, Sweep as sweep}
 use Rattle.tag_model.specs.declared.event.Event.{Event}
 use Rattle.tag_model.specs.Event.{is_in_mask, swept_by, spilled_by}
 use Rattle.tag_model.specs.World.{place_after}
@@ -29,70 +29,37 @@ only t u = one_if (nat_eq t u)
 abbrev pub placed : Layout → Event → (ℕ → Place) → ℕ → Place
 placed l e p t = place_after l e t (p t)
 
-by_bool : (b : Bool) (q p : Place) → pick (one_if b) q p ≡ cond b q p
-by_bool true q p = refl
-by_bool false q p = refl
-
-one_in : (b : Bool) (x : ℕ) → x < 2 → cond b x 0 ≡ one_if (b && (x == 1))
-one_in true x h = sym (one_if-bit x h)
-one_in false x h = refl
-
 -- the tag's bit in a mask is 1 where the mask names the tag
 pub among_named : (l : Layout) (word mask tag : ℕ) → among l.shift word mask tag ≡ one_if (is_in_mask l word mask tag)
-among_named l word mask tag =
-    one_in (nat_eq (tag / 2 ^ l.shift) word) (bit_at mask (tag % 2 ^ l.shift)) (bit_at-lt mask (tag % 2 ^ l.shift))
-
-is_one : (b : Bool) → IsTrue b → one_if b ≡ 1
-is_one b h = ap one_if h
-
-one_is : (b : Bool) → one_if b ≡ 1 → IsTrue b
-one_is true e = refl
-one_is false e = absurd (omega arith)
+among_named l word mask tag = grind (arith, one_if-bit, bit_at-lt)
 
 -- a tag that the mask names has its bit
 pub among_one : (l : Layout) (word mask tag : ℕ) → IsTrue (is_in_mask l word mask tag) → among l.shift word mask tag ≡ 1
-among_one l word mask tag h = among_named l word mask tag ∙ is_one (is_in_mask l word mask tag) h
+among_one l word mask tag h = grind (arith, among_named)
 
 -- a tag that has its bit is named by the mask
 pub one_among : (l : Layout) (word mask tag : ℕ) → among l.shift word mask tag ≡ 1 → IsTrue (is_in_mask l word mask tag)
-one_among l word mask tag e = one_is (is_in_mask l word mask tag) (sym (among_named l word mask tag) ∙ e)
+one_among l word mask tag e = grind (arith, among_named)
 
 -- the bit of one tag, at that tag
 pub only_one : (t u : ℕ) → IsTrue (t == u) → only t u ≡ 1
-only_one t u h = is_one (nat_eq t u) h
+only_one t u h = grind arith
 
 -- a choice by the bit in a mask
 pub pick_among : (l : Layout) (word mask tag : ℕ) (q p : Place)
     → pick (among l.shift word mask tag) q p ≡ cond (is_in_mask l word mask tag) q p
-pick_among l word mask tag q p = ap (λ (n : ℕ). pick n q p) (among_named l word mask tag)
-    ∙ by_bool (is_in_mask l word mask tag) q p
+pick_among l word mask tag q p = grind (arith, among_named)
 
 -- a choice by the bit of one tag
 pub pick_only : (t u : ℕ) (q p : Place) → pick (only t u) q p ≡ cond (t == u) q p
-pick_only t u q p = by_bool (nat_eq t u) q p
-
-swept : (c : ℕ) (p : Place) → pick (aside_bit p) (sweep c) p ≡ swept_by c p
-swept c free = refl
-swept c (held d) = refl
-swept c posted = refl
-swept c aside = refl
-swept c (sweep d) = refl
-
-spilled : (c : ℕ) (p : Place) → pick (sweep_bit c p) free p ≡ spilled_by c p
-spilled c free = refl
-spilled c (held d) = refl
-spilled c posted = refl
-spilled c aside = refl
-spilled c (sweep d) = by_bool (nat_eq d c) free (sweep d)
+pick_only t u q p = grind arith
 
 -- a choice by the bits of a sweep
 pub pick_swept : (t u c : ℕ) (p : Place) → pick (only t u) (pick (aside_bit p) (sweep c) p) p
     ≡ cond (t == u) (swept_by c p) p
-pick_swept t u c p = pick_only t u (pick (aside_bit p) (sweep c) p) p
-    ∙ ap (λ (x : Place). cond (t == u) x p) (swept c p)
+pick_swept t u c p = grind arith
 
 -- a choice by the bits of a spill
 pub pick_spilled : (t u c : ℕ) (p : Place)
     → pick (only t u) (pick (sweep_bit c p) free p) p ≡ cond (t == u) (spilled_by c p) p
-pick_spilled t u c p = pick_only t u (pick (sweep_bit c p) free p) p
-    ∙ ap (λ (x : Place). cond (t == u) x p) (spilled c p)
+pick_spilled t u c p = grind arith

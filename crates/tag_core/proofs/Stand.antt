@@ -1,11 +1,10 @@
 -- Words, cleared sets and states stand apart in the table, and tags in their words.
-use Rattle.std.proofs.Common.{◌≡◌, ◌≢◌, ℕ, ◌+◌, ◌*◌, ◌^◌, ◌<◌, List, length, get_or, set, cond, Bool, arith, sym, ap, ◌∙◌, get_or-set_other, get_or-set_same, eq-eqb, ne_eqb}
-use mathlib.Core.Logic.{dite}
-use native.Mathlib.Decide.{ℕ_discrete}
+use Rattle.std.proofs.Common.{◌≡◌, ◌≢◌, ℕ, ◌+◌, ◌*◌, ◌^◌, ◌<◌, arith, sym, ◌∙◌}
+use Rattle.std.specs.Int.{bit_at}
+use Rattle.std.proofs.lemmas.Nat.Bits.{bit_at_above}
 use Rattle.std.proofs.lemmas.Nat.{pow_below, div-add-mod'}
-use Rattle.tag_layout.specs.Layout.{Layout, word_bits, words, word_depth, word_of, place_of}
-use Rattle.tag_layout.proofs.PlaceFacts.{place_of-below}
-use Rattle.tag_core.specs.Steps.{changed_at}
+use Rattle.tag_layout.specs.Layout.{Layout, word_bits, words, word_depth, word_of, place_of, tag_at, IsWithin}
+use Rattle.tag_layout.proofs.PlaceFacts.{place_of-below, tag_at-below, word_of-tag_at, place_of-tag_at}
 use Rattle.tag_core.specs.Spacing.{word_at, aside_at, state_at, table_width}
 
 -- different words stand at different indexes
@@ -53,24 +52,34 @@ pub state_in : (l : Layout) (t : ℕ) → t < l.depth → state_at l t < table_w
 unfolding state_at table_width
 state_in l t h = omega arith
 
+-- where words, cleared sets and states stand
+pub ruleset spread = (
+  word_at_one,
+  aside_at_one,
+  state_at_one,
+  word_no_aside,
+  word_no_state,
+  aside_no_state,
+  word_in,
+  aside_in,
+  state_in,
+)
+
 -- the table has a word
 pub some_width : (l : Layout) → 0 < table_width l
 unfolding table_width
 some_width l = omega arith
 
--- an entry changed among those that `at` spreads over a list
-pub set_spread : (ws : List ℕ) (at g : ℕ → ℕ) (n i x : ℕ) → ((a b : ℕ) → at a ≡ at b → a ≡ b) → at i < length ws
-    → ((j : ℕ) → j < n → get_or ws (at j) 0 ≡ g j)
-    → (j : ℕ) → j < n → get_or (set ws (at i) x) (at j) 0 ≡ changed_at g i x j
-set_spread ws at g n i x one inside same j l = dite (ℕ_discrete j i)
-    (λ e. ap (λ (z : ℕ). get_or (set ws (at i) x) (at z) 0) e ∙ get_or-set_same ws (at i) x 0 inside
-    ∙ ap (λ (b : Bool). cond b x (g j)) (sym (eq-eqb j i e)))
-    (λ ne. get_or-set_other ws (at i) (at j) x 0 (λ e. ne (one j i e)) ∙ same j l
-    ∙ ap (λ (b : Bool). cond b x (g j)) (sym (ne_eqb j i ne)))
-
 -- a tag is known by its word and its place there
 pub same_tag : (l : Layout) (t u : ℕ) → word_of l t ≡ word_of l u → place_of l t ≡ place_of l u → t ≡ u
 same_tag l t u e e' = let p : ℕ = word_bits l in sym (div-add-mod' t p) ∙ (λ z. e z * p + e' z) ∙ div-add-mod' u p
+
+-- a bit of a mask within its word is that of a tag
+pub bit_tag : (l : Layout) (i m b : ℕ) → IsWithin l i m → bit_at m b ≡ 1
+    → (t : ℕ) × (t < l.depth) × (word_of l t ≡ i) × (place_of l t ≡ b)
+bit_tag l i m b within one =
+    let low : b < word_depth l i = grind (arith, bit_at_above) in let few : b < word_bits l = omega arith in
+    (tag_at l i b, tag_at-below l i b low, word_of-tag_at l i b few, place_of-tag_at l i b few)
 
 -- a tag's bit lies within its word
 pub tag_mask_within : (l : Layout) (u : ℕ) → u < l.depth → 2 ^ place_of l u < 2 ^ word_depth l (word_of l u)

@@ -1,15 +1,12 @@
 -- A tag's bits in words and masks, and what they are once one word is changed.
-use Rattle.std.proofs.Common.{◌≡◌, ◌≢◌, ℕ, ◌-◌, ◌/◌, ◌%◌, ◌^◌, ◌<◌, ◌≤◌, List, length, get_or, set, Bool, cond, bit_or, min, max, arith, sym, ap, ◌∙◌, subst, get_or-set_other, get_or-set_same, eq-eqb, ne_eqb, ⊎_elim}
-use mathlib.Core.Logic.{dite}
-use native.Mathlib.Decide.{ℕ_discrete}
+use Rattle.std.proofs.Common.{◌≡◌, ◌≢◌, ℕ, ◌-◌, ◌/◌, ◌%◌, ◌^◌, ◌<◌, ◌≤◌, List, length, get_or, set, bit_or, min, max, arith, ap, ◌∙◌, get_or-set_other, get_or-set_same, eq-eqb, ne_eqb}
 use Rattle.std.specs.Int.{bit_at, trailing_zeros, w64}
-use Rattle.std.proofs.lemmas.Bool.{cases_lt}
 use Rattle.std.proofs.lemmas.Nat.{pow_pos, pow_below, mod_below}
-use Rattle.std.proofs.lemmas.Nat.Bits.{bit_at_or, bit_at_above, bit_at-lt, bit_at-zero, bit_at-pow_same, bit_at-pow_other, bit_at-trailing_zeros}
+use Rattle.std.proofs.lemmas.Nat.Bits.{bit_at_or, bit_at-lt, bit_at-zero, bit_at-pow_same, bit_at-pow_other, bit_at-trailing_zeros}
 use Rattle.std.proofs.Math.Pow.{pow_mono}
-use Rattle.sums.specs.Below.{one_if}
-use Rattle.tag_layout.specs.Layout.{words, word_bits, word_depth, word_of, place_of, tag_at, IsWithin}
-use Rattle.tag_layout.proofs.PlaceFacts.{tag_at-back, tag_at-below, word_of-tag_at, place_of-tag_at}
+use Rattle.sums.proofs.Laws.{one_if-le}
+use Rattle.tag_layout.specs.Layout.{word_depth, word_of, place_of, tag_at}
+use Rattle.tag_layout.proofs.PlaceFacts.{tag_at-back}
 use Rattle.tag_core.specs.declared.shape.Shape.{Shape}
 use Rattle.tag_core.specs.Steps.{changed_at, without}
 use Rattle.tag_core.specs.Records.{tag_bit}
@@ -30,114 +27,40 @@ module _ (k : Shape) (narrow : k.layout.shift ≤ 6) where
       let le : 2 ^ k.layout.shift ≤ 2 ^ 6 = pow_mono narrow in let low : word_depth k.layout i ≤ 64 = omega arith in
       let le2 : 2 ^ word_depth k.layout i ≤ 2 ^ 64 = pow_mono low in omega arith
 
-  -- a bit of a mask within the layout is that of a tag
-  pub bit_tag : (i m b : ℕ) → IsWithin k.layout i m → bit_at m b ≡ 1
-      → (t : ℕ) × (t < k.layout.depth) × (word_of k.layout t ≡ i) × (place_of k.layout t ≡ b)
-  bit_tag i m b within one =
-      let low : b < word_depth k.layout i = ⊎_elim (λ h. h)
-      (λ past. let none = bit_at_above m (word_depth k.layout i) b within past in absurd (omega arith))
-      (cases_lt b (word_depth k.layout i)) in
-      let few : b < word_bits k.layout = omega arith in (
-        tag_at k.layout i b,
-        tag_at-below k.layout i b low,
-        word_of-tag_at k.layout i b few,
-        place_of-tag_at k.layout i b few,
-      )
-
   -- bit of a mask at a tag in its word, and in another
   pub among_here : (i m t : ℕ) → t / 2 ^ k.layout.shift ≡ i
       → bit_at m (t % 2 ^ k.layout.shift) ≡ among k.layout.shift i m t
-  among_here i m t e = ap (λ (b : Bool). cond b (bit_at m (t % 2 ^ k.layout.shift)) 0)
-      (sym (eq-eqb (t / 2 ^ k.layout.shift) i e))
+  among_here i m t e = grind (arith, eq-eqb)
 
   -- and in another word
   pub among_else : (i m t : ℕ) → t / 2 ^ k.layout.shift ≢ i → 0 ≡ among k.layout.shift i m t
-  among_else i m t e = ap (λ (b : Bool). cond b (bit_at m (t % 2 ^ k.layout.shift)) 0)
-      (sym (ne_eqb (t / 2 ^ k.layout.shift) i e))
-
-  -- a tag's bit in the word that was changed
-  pub changed_here : (g : ℕ → ℕ) (i x t : ℕ) → t / 2 ^ k.layout.shift ≡ i
-      → bit_at x (t % 2 ^ k.layout.shift) ≡ bit_at (changed_at g i x (t / 2 ^ k.layout.shift)) (t % 2 ^ k.layout.shift)
-  changed_here g i x t e =
-      ap (λ (b : Bool). bit_at (cond b x (g (t / 2 ^ k.layout.shift))) (t % 2 ^ k.layout.shift))
-      (sym (eq-eqb (t / 2 ^ k.layout.shift) i e))
-
-  -- and in another word
-  pub changed_else : (g : ℕ → ℕ) (i x t : ℕ) → t / 2 ^ k.layout.shift ≢ i
-      → bit_at (g (t / 2 ^ k.layout.shift)) (t % 2 ^ k.layout.shift)
-      ≡ bit_at (changed_at g i x (t / 2 ^ k.layout.shift))
-      (t % 2 ^ k.layout.shift)
-  changed_else g i x t e =
-      ap (λ (b : Bool). bit_at (cond b x (g (t / 2 ^ k.layout.shift))) (t % 2 ^ k.layout.shift))
-      (sym (ne_eqb (t / 2 ^ k.layout.shift) i e))
-
-  -- a tag's bit in masks of which its word's was set
-  pub mask_here : (l : List ℕ) (i x t : ℕ) → i < length l → t / 2 ^ k.layout.shift ≡ i
-      → bit_at x (t % 2 ^ k.layout.shift) ≡ tag_bit k.layout (set l i x) t
-  mask_here l i x t h e =
-      ap (λ (z : ℕ). bit_at z (t % 2 ^ k.layout.shift))
-      (sym (ap (λ (j : ℕ). get_or (set l i x) j 0) e ∙ get_or-set_same l i x 0 h))
-
-  -- and where another word's was
-  pub mask_else : (l : List ℕ) (i x t : ℕ) → t / 2 ^ k.layout.shift ≢ i
-      → tag_bit k.layout l t ≡ tag_bit k.layout (set l i x) t
-  mask_else l i x t e =
-      ap (λ (z : ℕ). bit_at z (t % 2 ^ k.layout.shift)) (sym (get_or-set_other l i (t / 2 ^ k.layout.shift) x 0 e))
-
-  -- the cells after a step on one of them
-  pub changed_within : (g : ℕ → ℕ) (i x : ℕ) → IsWithin k.layout i x
-      → ((j : ℕ) → j < words k.layout → IsWithin k.layout j (g j)) → (j : ℕ) → j < words k.layout
-      → IsWithin k.layout j (changed_at g i x j)
-  changed_within g i x h all j l = dite (ℕ_discrete j i)
-      (λ e. subst (λ (b : Bool). IsWithin k.layout j (cond b x (g j))) (sym (eq-eqb j i e))
-      (subst (λ (z : ℕ). IsWithin k.layout z x) (sym e) h))
-      (λ n. subst (λ (b : Bool). IsWithin k.layout j (cond b x (g j))) (sym (ne_eqb j i n)) (all j l))
+  among_else i m t e = grind (arith, ne_eqb)
 
   -- it is 0 or 1
   pub among_small : (i m t : ℕ) → among k.layout.shift i m t < 2
-  among_small i m t = dite (ℕ_discrete (t / 2 ^ k.layout.shift) i)
-      (λ e. let z = among_here i m t e in let y = bit_at-lt m (t % 2 ^ k.layout.shift) in omega arith)
-      (λ e. let z = among_else i m t e in omega arith)
+  among_small i m t = grind (arith, bit_at-lt)
 
   -- a tag's bit after an or of one word
   pub or_bit : (g : ℕ → ℕ) (i m t : ℕ)
       → max (bit_at (g (t / 2 ^ k.layout.shift)) (t % 2 ^ k.layout.shift)) (among k.layout.shift i m t) ≡ bit_at
       (changed_at g i (bit_or (g i) m) (t / 2 ^ k.layout.shift)) (t % 2 ^ k.layout.shift)
-  or_bit g i m t = let b : ℕ = t % 2 ^ k.layout.shift in dite (ℕ_discrete (t / 2 ^ k.layout.shift) i)
-      (λ e. (λ z. max (bit_at (g (e z)) b) (sym (among_here i m t e) z)) ∙ sym (bit_at_or (g i) m b)
-      ∙ changed_here g i (bit_or (g i) m) t e)
-      (λ e. ap (max (bit_at (g (t / 2 ^ k.layout.shift)) b)) (sym (among_else i m t e)) ∙ omega arith
-      ∙ changed_else g i (bit_or (g i) m) t e)
+  or_bit g i m t = grind (arith, bit_at_or)
 
   -- and after an and-not
   pub minus_bit : (g : ℕ → ℕ) (i m t : ℕ) → m < 2 ^ 64
       → min (bit_at (g (t / 2 ^ k.layout.shift)) (t % 2 ^ k.layout.shift)) (1 - among k.layout.shift i m t) ≡ bit_at
       (changed_at g i (without (g i) m) (t / 2 ^ k.layout.shift)) (t % 2 ^ k.layout.shift)
-  minus_bit g i m t fits =
-      let b : ℕ = t % 2 ^ k.layout.shift in
-      let small = bit_at-lt (g (t / 2 ^ k.layout.shift)) b in dite (ℕ_discrete (t / 2 ^ k.layout.shift) i)
-      (λ e. (λ z. min (bit_at (g (e z)) b) (1 - sym (among_here i m t e) z))
-      ∙ sym (bit_minus (g i) m b fits (place_small t)) ∙ changed_here g i (without (g i) m) t e)
-      (λ e. ap (λ (z : ℕ). min (bit_at (g (t / 2 ^ k.layout.shift)) b) (1 - z)) (sym (among_else i m t e)) ∙ omega arith
-      ∙ changed_else g i (without (g i) m) t e)
+  minus_bit g i m t fits = grind (arith, bit_minus, place_small, bit_at-lt)
 
   -- masks of which one was set, as a function
   pub list_bit : (l : List ℕ) (i x t : ℕ) → i < length l
       → bit_at (changed_at (λ j. get_or l j 0) i x (t / 2 ^ k.layout.shift)) (t % 2 ^ k.layout.shift) ≡ tag_bit k.layout
       (set l i x) t
-  list_bit l i x t h = dite (ℕ_discrete (t / 2 ^ k.layout.shift) i)
-      (λ e. sym (changed_here (λ j. get_or l j 0) i x t e) ∙ mask_here l i x t h e)
-      (λ e. sym (changed_else (λ j. get_or l j 0) i x t e) ∙ mask_else l i x t e)
+  list_bit l i x t h = grind (arith, get_or-set_same, get_or-set_other)
 
   -- the bit of one tag is its bit in a mask of it alone
   pub only_among : (u t : ℕ) → only t u ≡ among k.layout.shift (u / 2 ^ k.layout.shift) (2 ^ (u % 2 ^ k.layout.shift)) t
-  only_among u t = let p : ℕ = 2 ^ k.layout.shift in let i : ℕ = u / p in
-      let m : ℕ = 2 ^ (u % p) in dite (ℕ_discrete t u)
-      (λ e. ap one_if (eq-eqb t u e) ∙ sym (ap (bit_at m) (ap (λ (z : ℕ). z % p) e) ∙ bit_at-pow_same (u % p))
-      ∙ among_here i m t (ap (λ (z : ℕ). z / p) e))
-      (λ n. ap one_if (ne_eqb t u n) ∙ dite (ℕ_discrete (t / p) i)
-      (λ e. sym (bit_at-pow_other (u % p) (t % p) (λ e'. n (same_tag k.layout t u e e'))) ∙ among_here i m t e)
-      (λ ne. among_else i m t ne))
+  only_among u t = grind (arith, bit_at-pow_same, bit_at-pow_other, same_tag)
 
   -- that mask has at most 64 bits
   pub tag_mask : (u : ℕ) → 2 ^ (u % 2 ^ k.layout.shift) < 2 ^ 64
@@ -145,50 +68,26 @@ module _ (k : Shape) (narrow : k.layout.shift ≤ 6) where
 
   -- the bit of one tag is 0 or 1
   pub only_small : (t u : ℕ) → only t u < 2
-  only_small t u = subst (λ (z : ℕ). z < 2) (sym (only_among u t))
-      (among_small (u / 2 ^ k.layout.shift) (2 ^ (u % 2 ^ k.layout.shift)) t)
+  only_small t u = grind (arith, one_if-le)
 
   -- it is 1 at that tag alone
   pub only_is : (t u : ℕ) → only t u ≡ 1 → t ≡ u
-  only_is t u e = dite (ℕ_discrete t u) (λ z. z) (λ n. let z : only t u ≡ 0 = ap one_if (ne_eqb t u n) in
-      absurd (omega arith))
+  only_is t u e = grind (arith, ne_eqb)
 
   -- the tag that a put's mask names
   pub tag_named : (u : ℕ) → tag_at k.layout (word_of k.layout u) (trailing_zeros w64 (2 ^ place_of k.layout u)) ≡ u
   tag_named u = let p : ℕ = place_of k.layout u in
       let low = bit_at-trailing_zeros w64 (2 ^ p) (pow_pos p) (tag_mask u) in
-      let is : trailing_zeros w64 (2 ^ p) ≡ p = dite (ℕ_discrete p (trailing_zeros w64 (2 ^ p))) (λ e. sym e)
-      (λ ne. let none_there = bit_at-pow_other p (trailing_zeros w64 (2 ^ p)) (λ e. ne (sym e)) in
-      let one = low.1 in absurd (omega arith)) in
+      let is : trailing_zeros w64 (2 ^ p) ≡ p = grind (arith, bit_at-pow_other p (trailing_zeros w64 (2 ^ p)), low.1) in
       ap (tag_at k.layout (word_of k.layout u)) is ∙ tag_at-back k.layout u
-
-  -- a tag's own word
-  pub in_word : (t i : ℕ) → t / 2 ^ k.layout.shift ≡ i → only (t / 2 ^ k.layout.shift) i ≡ 1
-  in_word t i e = ap one_if (eq-eqb (t / 2 ^ k.layout.shift) i e)
-
-  -- another word
-  pub not_in_word : (t i : ℕ) → t / 2 ^ k.layout.shift ≢ i → only (t / 2 ^ k.layout.shift) i ≡ 0
-  not_in_word t i e = ap one_if (ne_eqb (t / 2 ^ k.layout.shift) i e)
-
-  -- it is 0 or 1
-  pub in_small : (t i : ℕ) → only (t / 2 ^ k.layout.shift) i < 2
-  in_small t i = dite (ℕ_discrete (t / 2 ^ k.layout.shift) i) (λ e. let z = in_word t i e in omega arith)
-      (λ e. let z = not_in_word t i e in omega arith)
 
   -- the bits y of a mask for one word
   pub among_as : (i m t y : ℕ) → y < 2 → (t / 2 ^ k.layout.shift ≡ i → bit_at m (t % 2 ^ k.layout.shift) ≡ y)
       → min (only (t / 2 ^ k.layout.shift) i) y ≡ among k.layout.shift i m t
-  among_as i m t y h here = dite (ℕ_discrete (t / 2 ^ k.layout.shift) i)
-      (λ e. let o = in_word t i e in let b = here e in let a = among_here i m t e in omega arith)
-      (λ e. let o = not_in_word t i e in let a = among_else i m t e in omega arith)
+  among_as i m t y h here = grind arith
 
   -- a mask that is emptied
   pub none_left : (g : ℕ → ℕ) (i t y : ℕ) → y < 2 → y ≡ bit_at (g (t / 2 ^ k.layout.shift)) (t % 2 ^ k.layout.shift)
       → min y (1 - only (t / 2 ^ k.layout.shift) i) ≡ bit_at (changed_at g i 0 (t / 2 ^ k.layout.shift))
       (t % 2 ^ k.layout.shift)
-  none_left g i t y h is = dite (ℕ_discrete (t / 2 ^ k.layout.shift) i)
-      (λ e. let o = in_word t i e in
-      let z : min y (1 - only (t / 2 ^ k.layout.shift) i) ≡ 0 = omega arith in z
-      ∙ sym (bit_at-zero (t % 2 ^ k.layout.shift)) ∙ changed_here g i 0 t e)
-      (λ e. let o = not_in_word t i e in
-      let z : min y (1 - only (t / 2 ^ k.layout.shift) i) ≡ y = omega arith in z ∙ is ∙ changed_else g i 0 t e)
+  none_left g i t y h is = grind (arith, bit_at-zero)

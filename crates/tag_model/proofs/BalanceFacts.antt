@@ -1,10 +1,10 @@
 -- In every run the tags won are those given back, held and posted.
-use Rattle.std.proofs.Common.{◌≡◌, ℕ, ◌+◌, ◌<◌, ◌==◌, List, [], ◌∷◌, Bool, true, false, cond, IsTrue, arith, refl, sym, ap, ◌∙◌, eq-eqb, ne_eqb}
+use Rattle.std.proofs.Common.{◌≡◌, ℕ, ◌+◌, ◌<◌, ◌==◌, List, [], ◌∷◌, Bool, cond, IsTrue, arith, refl, sym, ap, ◌∙◌, eq-eqb, ne_eqb}
 use Rattle.sums.specs.Below.{sum_below, one_if}
 use Rattle.sums.proofs.Laws.{sum_below-none, sum_below-same, sum_below-add, sum_below-only, sum_below-more}
 use Rattle.tag_layout.specs.Layout.{Layout}
 use Rattle.tag_model.specs.declared.place.Place.{Place}
-use Rattle.tag_model.specs.declared.place.Place.TheVariants.{Free, Held, Posted, Aside, Sweep as Swept}
+use Rattle.tag_model.specs.declared.place.Place.TheVariants.{Free, Held, Posted, Aside}
 use Rattle.tag_model.specs.declared.event.Event.{Event}
 use Rattle.tag_model.specs.declared.event.Event.TheVariants.{Look, Win, Put, Give, Sweep, Spill, Post, Take}
 use Rattle.tag_model.specs.Event.{caller_of, is_in_mask, names, swept_by, spilled_by, won_by, back_by}
@@ -33,37 +33,22 @@ sum_below-one n tag h = sum_below-only (λ t. one_if (t == tag)) n tag h (λ t h
 -- a named tag comes from nowhere out to a place that is out
 comes : (named : Bool) (old new : Place) → (IsTrue named → out old ≡ 0) → out new ≡ 1
     → out (cond named new old) ≡ out old + one_if named
-comes true old new was is = let a = was refl in omega arith
-comes false old new was is = omega arith
+comes named old new was is = grind arith
 
 -- a named tag goes from a place that is out
 goes : (named : Bool) (old new : Place) → (IsTrue named → out old ≡ 1) → out new ≡ 0
     → out old ≡ out (cond named new old) + one_if named
-goes true old new was is = let a = was refl in omega arith
-goes false old new was is = omega arith
+goes named old new was is = grind arith
 
 -- a named tag stays out, or stays in
 stays : (named : Bool) (old new : Place) → (IsTrue named → out new ≡ out old) → out (cond named new old) ≡ out old
-stays true old new same = same refl
-stays false old new same = refl
+stays named old new same = grind arith
 
 out-swept : (caller : ℕ) (place : Place) → out (swept_by caller place) ≡ out place
-out-swept caller Free = refl
-out-swept caller (Held other) = refl
-out-swept caller Posted = refl
-out-swept caller Aside = refl
-out-swept caller (Swept other) = refl
+out-swept caller place = grind arith
 
 out-spilled : (caller : ℕ) (place : Place) → out (spilled_by caller place) ≡ out place
-out-spilled caller Free = refl
-out-spilled caller (Held other) = refl
-out-spilled caller Posted = refl
-out-spilled caller Aside = refl
-out-spilled caller (Swept other) = either (other == caller)
-  where
-    either : (b : Bool) → out (cond b Free (Swept other)) ≡ 0
-    either true = refl
-    either false = refl
+out-spilled caller place = grind arith
 
 module _ (l : Layout) where
   -- how many tags are out

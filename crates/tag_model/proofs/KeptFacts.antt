@@ -1,19 +1,16 @@
 -- Worlds as they are kept: sums and counts of their lists, and the lists after an event.
-use Rattle.std.proofs.Common.{◌≡◌, ◌≢◌, ℕ, ◌+◌, ◌*◌, ◌<◌, ◌≤◌, ◌==◌, List, length, get_or, set, replicate, Bool, true, false, cond, arith, refl, sym, ap, ◌∙◌, subst, eq-eqb, ne_eqb, get_or-set_same, get_or-set_other, length-set, Vec, Global}
-use mathlib.Core.Logic.{dite}
-use native.Mathlib.Decide.{ℕ_discrete, dec_lt}
+use Rattle.std.proofs.Common.{◌≡◌, ℕ, ◌+◌, ◌*◌, ◌<◌, ◌≤◌, List, length, get_or, set, replicate, arith, refl, sym, ap, ◌∙◌, subst, get_or-set_same, get_or-set_other, length-set, Vec, Global}
 use Rattle.std.proofs.Math.Path.{fun_ext}
 use Rattle.std.specs.Vec.{with_items}
 use Rattle.std.proofs.Math.Nat.{mul-le-mul_right}
 use Rattle.std.proofs.lemmas.List.{with_items_is, length-replicate, get_or-replicate, get_or_past}
 use Rattle.sums.specs.Below.{sum_below}
 use Rattle.sums.proofs.Laws.{sum_below-bound, le-sum_below}
-use Rattle.tag_layout.specs.Layout.{Layout, word_of}
+use Rattle.tag_layout.specs.Layout.{Layout}
 use Rattle.tag_model.specs.declared.place.Place.{Place}
 use Rattle.tag_model.specs.declared.place.Place.TheVariants.{Free}
 use Rattle.tag_model.specs.declared.event.Event.{Event}
-use Rattle.tag_model.specs.declared.event.Event.TheVariants.{Look, Win, Put, Give, Sweep, Spill, Post, Take}
-use Rattle.tag_model.specs.Event.{caller_of, IsInLayout, brings, won_by, back_by}
+use Rattle.tag_model.specs.Event.{caller_of, IsInLayout, won_by, back_by}
 use Rattle.tag_model.specs.World.{World, opened, place_after, plus_at, after, MayHappen}
 use Rattle.tag_model.specs.Totals.{Balances}
 use Rattle.tag_model.specs.Kept.{KeptWorld, callers_of, world_of, IsSound, Happens, MovesTags}
@@ -23,52 +20,19 @@ use Rattle.tag_model.proofs.BalanceFacts.{balances-after, balances-opened}
 -- past the depth nothing is named but what stays free
 pub free-past : (l : Layout) (event : Event) (tag : ℕ) → IsInLayout l event → l.depth ≤ tag
     → place_after l event tag Free ≡ Free
-free-past l Look tag within past = refl
-free-past l (Win caller word mask) tag within past = ap (λ (b : Bool). cond b (brings (Win caller word mask) Free) Free)
-    (in_mask-past l word mask tag within.1 past)
-free-past l (Put caller named) tag within past = ap (λ (b : Bool). cond b (brings (Put caller named) Free) Free)
-    (ne_eqb tag named (λ e. omega arith))
-free-past l (Give caller word mask) tag within past =
-    ap (λ (b : Bool). cond b (brings (Give caller word mask) Free) Free) (in_mask-past l word mask tag within.1 past)
-free-past l (Sweep caller word) tag within past = either (word_of l tag == word)
-  where
-    either : (b : Bool) → cond b Free Free ≡ Free
-    either true = refl
-    either false = refl
-free-past l (Spill caller word) tag within past = either (word_of l tag == word)
-  where
-    either : (b : Bool) → cond b Free Free ≡ Free
-    either true = refl
-    either false = refl
-free-past l (Post caller named) tag within past = ap (λ (b : Bool). cond b (brings (Post caller named) Free) Free)
-    (ne_eqb tag named (λ e. omega arith))
-free-past l (Take caller named) tag within past = ap (λ (b : Bool). cond b (brings (Take caller named) Free) Free)
-    (ne_eqb tag named (λ e. omega arith))
+free-past l event tag within past = grind (arith, in_mask-past)
 
 -- one count that grew
 pub get_or-plus_at : (counts : List ℕ) (caller more k : ℕ) → caller < length counts
     → get_or (set counts caller (get_or counts caller 0 + more)) k 0 ≡ plus_at caller more (λ c. get_or counts c 0) k
-get_or-plus_at counts caller more k h = dite (ℕ_discrete k caller)
-    (λ (e : k ≡ caller).
-    ap (λ (j : ℕ). get_or (set counts caller (get_or counts caller 0 + more)) j 0) e
-    ∙ get_or-set_same counts caller (get_or counts caller 0 + more) 0 h
-    ∙ ap (λ (j : ℕ). get_or counts j 0 + more) (sym e) ∙ ap (λ (b : Bool). get_or counts k 0 + cond b more 0)
-    (sym (eq-eqb k caller e)))
-    (λ (ne : k ≢ caller).
-    get_or-set_other counts caller k (get_or counts caller 0 + more) 0 ne
-    ∙ (let z : get_or counts k 0 ≡ get_or counts k 0 + 0 = omega arith in z)
-    ∙ ap (λ (b : Bool). get_or counts k 0 + cond b more 0) (sym (ne_eqb k caller ne)))
+get_or-plus_at counts caller more k h = grind (arith, get_or-set_same, get_or-set_other)
 
 -- the places after an event, at every tag
 pub moved-everywhere : (l : Layout) (event : Event) (old new : List Place) → IsInLayout l event → length old ≡ l.depth
     → MovesTags l event old new
     → (tag : ℕ) → get_or new tag Free ≡ place_after l event tag (get_or old tag Free)
-moved-everywhere l event old new within long moves tag = dite (dec_lt tag l.depth)
-    (λ (h : tag < l.depth). moves.moved tag h)
-    (λ past.
-    let long_new = moves.tags in get_or_past new tag Free (omega arith)
-    ∙ sym (free-past l event tag within (omega arith))
-    ∙ ap (place_after l event tag) (sym (get_or_past old tag Free (omega arith))))
+moved-everywhere l event old new within long moves tag =
+    grind (arith, moves.moved, free-past l event tag, get_or_past)
 
 -- the lists after an event hold the world after it
 pub world-after :
@@ -103,8 +67,7 @@ world-opened depth callers =
     λ i. record { place = places i; won = counts i; back = counts i }
   where
     same : {X : Type 0} (n k : ℕ) (x : X) → get_or (replicate n x) k x ≡ x
-    same n k x = dite (dec_lt k n) (λ (h : k < n). get_or-replicate n k x x h)
-        (λ no. get_or_past (replicate n x) k x (let e = length-replicate n x in omega arith))
+    same n k x = grind (arith, get_or-replicate, get_or_past, length-replicate)
 
 -- what a sound world keeps is far from overflow
 module _ (kept : KeptWorld) (sound : IsSound kept) where
@@ -153,18 +116,7 @@ module _ (old : KeptWorld) (event : Event) (places : List Place) (sound : IsSoun
         some_caller = omega arith;
         few_callers = omega arith;
         both_counts = omega arith;
-        unspent = λ caller h. dite (ℕ_discrete caller (caller_of event))
-            (λ (e : caller ≡ caller_of event).
-            let is = get_or-plus_at old.won (caller_of event) (won_by event) caller may.caller in
-            let here : get_or old.won caller 0 ≡ get_or old.won (caller_of event) 0 =
-            ap (λ (k : ℕ). get_or old.won k 0) e in
-            let counted : cond (caller == caller_of event) (won_by event) 0 ≡ won_by event =
-            ap (λ (b : Bool). cond b (won_by event) 0) (eq-eqb caller (caller_of event) e) in
-            let most = may.unspent in omega arith)
-            (λ (ne : caller ≢ caller_of event).
-            let other = get_or-set_other old.won (caller_of event) caller
-            (get_or old.won (caller_of event) 0 + won_by event) 0 ne in
-            let most = sound.unspent caller (omega arith) in omega arith);
+        unspent = λ caller h. grind (arith, get_or-set_same, get_or-set_other, sound.unspent caller, may.unspent);
         balances =
             subst (λ (n : ℕ). Balances old.layout n (world_of (kept_after old event places))) (sym same)
             (subst (Balances old.layout (callers_of old)) (sym happens-kept.world)

@@ -1,5 +1,5 @@
 -- The tags of a mask: which they are, and how many.
-use Rattle.std.proofs.Common.{◌≡◌, ◌≢◌, ℕ, zero, suc, ◌+◌, ◌*◌, ◌/◌, ◌^◌, ◌<◌, ◌≤◌, ◌==◌, ◌&&◌, Bool, false, count_ones, arith, sym, ap, ◌∙◌, subst, ⊎_elim, eq-eqb, ne_eqb}
+use Rattle.std.proofs.Common.{◌≡◌, ◌≢◌, ℕ, zero, suc, ◌+◌, ◌*◌, ◌/◌, ◌^◌, ◌<◌, ◌≤◌, ◌==◌, ◌&&◌, Bool, false, count_ones, arith, ap, ◌∙◌, ⊎_elim, eq-eqb, ne_eqb}
 use mathlib.Core.Logic.{dite}
 use native.Mathlib.Decide.{ℕ_discrete}
 use lib.Count.{ones_step}
@@ -9,7 +9,7 @@ use Rattle.std.proofs.lemmas.Nat.{ones-le}
 use Rattle.std.proofs.lemmas.Nat.Bits.{bit_at-lt, bit_at_lowest, bit_at-suc, bit_at_above, bit_at-pow_same, bit_at-pow_other}
 use Rattle.sums.specs.Below.{sum_below, one_if}
 use Rattle.sums.proofs.Laws.{sum_below-same, sum_below-split, sum_below-window, one_if-bit}
-use Rattle.tag_layout.specs.Layout.{Layout, word_bits, words, word_of, place_of, tag_at, word_depth, IsWithin}
+use Rattle.tag_layout.specs.Layout.{Layout, word_bits, words, word_of, place_of, word_depth, IsWithin}
 use Rattle.tag_layout.proofs.PlaceFacts.{word-start, word_bits-pos, tag_at-back, place_of-below, word_of-tag_at, place_of-tag_at}
 use Rattle.tag_model.specs.Event.{is_in_mask}
 
@@ -29,13 +29,10 @@ module _ (l : Layout) (word mask : ℕ) where
   -- in the mask's word the tag's bit decides
   pub in_mask-here : (tag : ℕ) → word_of l tag ≡ word
       → one_if (is_in_mask l word mask tag) ≡ bit_at mask (place_of l tag)
-  in_mask-here tag here =
-      ap (λ (b : Bool). one_if (b && (bit_at mask (place_of l tag) == 1))) (eq-eqb (word_of l tag) word here)
-      ∙ one_if-bit (bit_at mask (place_of l tag)) (bit_at-lt mask (place_of l tag))
+  in_mask-here tag here = grind (arith, one_if-bit, bit_at-lt)
 
   pub in_mask-else : (tag : ℕ) → word_of l tag ≢ word → one_if (is_in_mask l word mask tag) ≡ 0
-  in_mask-else tag else_where = ap (λ (b : Bool). one_if (b && (bit_at mask (place_of l tag) == 1)))
-      (ne_eqb (word_of l tag) word else_where)
+  in_mask-else tag else_where = grind arith
 
   -- a word's tags have as many of the mask's bits as the mask has
   pub sum_below-mask : word < words l → IsWithin l word mask
@@ -69,32 +66,9 @@ module _ (l : Layout) (word mask : ℕ) where
 
 -- an event that names one tag names those of its bit
 pub names-one : (l : Layout) (tag t : ℕ) → (t == tag) ≡ is_in_mask l (word_of l tag) (2 ^ place_of l tag) t
-names-one l tag t = dite (ℕ_discrete t tag)
-    (λ (e : t ≡ tag).
-    eq-eqb t tag e ∙ sym (ap (λ (b : Bool). b && (bit_at (2 ^ place_of l tag) (place_of l t) == 1))
-    (eq-eqb (word_of l t) (word_of l tag) (ap (word_of l) e))
-    ∙ ap (λ (x : ℕ). x == 1) (ap (bit_at (2 ^ place_of l tag)) (ap (place_of l) e) ∙ bit_at-pow_same (place_of l tag))))
-    (λ (ne : t ≢ tag). ne_eqb t tag ne ∙ sym (dite (ℕ_discrete (word_of l t) (word_of l tag))
-    (λ (here : word_of l t ≡ word_of l tag).
-    let far : place_of l t ≢ place_of l tag =
-    λ e. ne (sym (tag_at-back l t) ∙ ap (λ (w : ℕ). tag_at l w (place_of l t)) here ∙ ap (tag_at l (word_of l tag)) e
-    ∙ tag_at-back l tag) in
-    ap (λ (b : Bool). b && (bit_at (2 ^ place_of l tag) (place_of l t) == 1))
-    (eq-eqb (word_of l t) (word_of l tag) here)
-    ∙ ap (λ (x : ℕ). x == 1) (bit_at-pow_other (place_of l tag) (place_of l t) far))
-    (λ (else_where : word_of l t ≢ word_of l tag). ap
-    (λ (b : Bool). b && (bit_at (2 ^ place_of l tag) (place_of l t) == 1))
-    (ne_eqb (word_of l t) (word_of l tag) else_where))))
+names-one l tag t = grind (arith, bit_at-pow_same, bit_at-pow_other, tag_at-back)
 
 -- an event that names a whole word names those of all its bits
 pub names-word : (l : Layout) (word mask t : ℕ) → ((place : ℕ) → place < word_depth l word → bit_at mask place ≡ 1)
     → t < l.depth → (word_of l t == word) ≡ is_in_mask l word mask t
-names-word l word mask t usable h = dite (ℕ_discrete (word_of l t) word)
-    (λ (here : word_of l t ≡ word).
-    let low : place_of l t < word_depth l word = subst (λ (w : ℕ). place_of l t < word_depth l w) here
-    (place_of-below l t h) in
-    eq-eqb (word_of l t) word here
-    ∙ sym (ap (λ (b : Bool). b && (bit_at mask (place_of l t) == 1)) (eq-eqb (word_of l t) word here)
-    ∙ ap (λ (x : ℕ). x == 1) (usable (place_of l t) low)))
-    (λ (else_where : word_of l t ≢ word). ne_eqb (word_of l t) word else_where
-    ∙ sym (ap (λ (b : Bool). b && (bit_at mask (place_of l t) == 1)) (ne_eqb (word_of l t) word else_where)))
+names-word l word mask t usable h = grind (arith, place_of-below, usable (place_of l t))

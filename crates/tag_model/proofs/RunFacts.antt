@@ -3,7 +3,6 @@ use Rattle.std.proofs.Common.{◌≡◌, ℕ, ◌+◌, List, [], ◌∷◌, ◌+
 use Rattle.tag_layout.specs.Layout.{Layout}
 use Rattle.tag_model.specs.declared.event.Event.{Event}
 use Rattle.tag_model.specs.declared.event.EventFault.{EventFault}
-use Rattle.tag_model.specs.declared.event.EventFault.TheVariants.{NoSuchTag, NoSuchCaller, Spent, NotFree, NotHeld, NotPosted}
 use Rattle.tag_model.specs.World.{World, after, MayHappen, IsFirstFault}
 use Rattle.tag_model.specs.Runs.{after_all, MayRun, StopsAt}
 use Rattle.tag_model.specs.Kept.{KeptWorld, callers_of, world_of, Happens, Ran}
@@ -75,15 +74,7 @@ module _ (l : Layout) where
 -- nothing that can happen has a fault
 pub may-has_no_fault : (l : Layout) (callers : ℕ) (w : World) (event : Event) (fault : EventFault)
     → MayHappen l callers w event → IsFirstFault l callers w event fault → ⊥
-may-has_no_fault l callers w event NoSuchTag may not = not may.in_layout
-may-has_no_fault l callers w event NoSuchCaller may not = let h = may.caller in let g = not.1 in omega arith
-may-has_no_fault l callers w event Spent may not = let h = may.unspent in let g = not.2 in omega arith
-may-has_no_fault l callers w event NotFree may not = let missed = not.0.3 in
-    missed.3 (may.places missed.0 missed.1 missed.2)
-may-has_no_fault l callers w event NotHeld may not = let missed = not.0.3 in
-    missed.3 (may.places missed.0 missed.1 missed.2)
-may-has_no_fault l callers w event NotPosted may not = let missed = not.0.3 in
-    missed.3 (may.places missed.0 missed.1 missed.2)
+may-has_no_fault l callers w event fault may not = grind (arith, may.places)
 
 -- a run and one event more
 module _ (old now : KeptWorld) (before : List Event) (event : Event) (ran : Ran old before now) where
@@ -91,9 +82,8 @@ module _ (old now : KeptWorld) (before : List Event) (event : Event) (ran : Ran 
   ran-more new happens =
       let layout = ran.setup.layout in let callers = ran.setup.callers in let world = ran.world in
       let may : MayHappen old.layout (callers_of old) (after_all old.layout before (world_of old)) event =
-      subst (λ (w : World). MayHappen old.layout (callers_of old) w event) world
-      (subst (λ (n : ℕ). MayHappen old.layout n (world_of now) event) callers
-      (subst (λ (l : Layout). MayHappen l (callers_of now) (world_of now) event) layout happens.could)) in
+      subst (λ (x : Layout × ℕ × World). MayHappen x.0 x.1 x.2 event) (λ j. (layout j, callers j, world j))
+      happens.could in
       record {
         setup = record { layout = happens.setup.layout ∙ layout; callers = happens.setup.callers ∙ callers };
         could = may_run-append old.layout (callers_of old) before (event ∷ []) (world_of old) ran.could (may, tt);
@@ -105,9 +95,8 @@ module _ (old now : KeptWorld) (before : List Event) (event : Event) (ran : Ran 
   fault-moved : (fault : EventFault) → IsFirstFault now.layout (callers_of now) (world_of now) event fault
       → IsFirstFault old.layout (callers_of old) (after_all old.layout before (world_of old)) event fault
   fault-moved fault is =
-      subst (λ (w : World). IsFirstFault old.layout (callers_of old) w event fault) ran.world
-      (subst (λ (n : ℕ). IsFirstFault old.layout n (world_of now) event fault) ran.setup.callers
-      (subst (λ (l : Layout). IsFirstFault l (callers_of now) (world_of now) event fault) ran.setup.layout is))
+      subst (λ (x : Layout × ℕ × World). IsFirstFault x.0 x.1 x.2 event fault)
+      (λ j. (ran.setup.layout j, ran.setup.callers j, ran.world j)) is
 
   pub stops-here : (rest : List Event) (fault : EventFault)
       → IsFirstFault now.layout (callers_of now) (world_of now) event fault

@@ -1,5 +1,5 @@
 -- A tag is posted exactly if the word of its state is 1.
-use Rattle.std.proofs.Common.{rules, arith, ◌≡◌, ℕ, zero, suc, ◌+◌, ◌<◌, List, [], ◌∷◌, get_or, nat_eq, refl, sym, ap, ◌∙◌, subst, eq-eqb, ne_eqb}
+use Rattle.std.proofs.Common.{rules, arith, ◌≡◌, ℕ, zero, suc, ◌+◌, ◌<◌, List, [], ◌∷◌, get_or, nat_eq, sym, ap, ◌∙◌, subst, eq-eqb, ne_eqb}
 use mathlib.Core.Option.{some, some-injective, some-ne-none}
 use lib.ListN.{get_elem?}
 use Rattle.std.specs.Slots.{slots_items, slots_len}
@@ -35,18 +35,13 @@ loop-tag-preserved g c =
     let next : suc t ≡ t + 1 = omega arith in
     let is : get_or ws (state_at l t) 0 ≡ c.word.result = ap (λ (z : ℕ). get_or ws z 0) (sym c.state_spot.ensures)
     ∙ read ws c.state_spot.result c.word.result c.word.ensures in
-    let more : ones l ws (suc t) ≡ ones l ws t + one_if (nat_eq (get_or ws (state_at l t) 0) 1) = refl in
+    let more : ones l ws (t + 1) ≡ ones l ws t + one_if (nat_eq (get_or ws (state_at l t) 0) 1) =
+    ap (ones l ws) (sym next) in
     elim c.if-word-eq1.branch [
-      | then-word-eq1 w ↦ (let one : one_if (nat_eq (get_or ws (state_at l t) 0) 1) ≡ 1 = ap one_if
-          (eq-eqb (get_or ws (state_at l t) 0) 1 (is ∙ w.if-word-eq1.true)) in
-          let p = w.posted-is in (
-            (let z : c.if-word-eq1.posted ≡ ones l ws (suc t) = omega arith in z ∙ ap (ones l ws) next),
-            (let b = inv.1 in omega arith),
-          ))
-      | else-word-eq1 w ↦ (let none_here : one_if (nat_eq (get_or ws (state_at l t) 0) 1) ≡ 0 = ap one_if
-          (ne_eqb (get_or ws (state_at l t) 0) 1 (λ z. w.if-word-eq1.false (sym is ∙ z))) in
-          let p = w.posted-is in (
-            (let z : c.if-word-eq1.posted ≡ ones l ws (suc t) = omega arith in z ∙ ap (ones l ws) next),
-            (let b = inv.1 in omega arith),
-          ))
+      | then-word-eq1 w ↦ (
+          let one = ap one_if (eq-eqb (get_or ws (state_at l t) 0) 1 (is ∙ w.if-word-eq1.true)) in
+          let p = w.posted-is in let b = inv.1 in (omega arith, omega arith))
+      | else-word-eq1 w ↦ (
+          let none_here = ap one_if (ne_eqb (get_or ws (state_at l t) 0) 1 (λ z. w.if-word-eq1.false (sym is ∙ z))) in
+          let p = w.posted-is in let b = inv.1 in (omega arith, omega arith))
     ]

@@ -13,11 +13,6 @@ use Rattle.tag_core.proofs.Ends.{won_all, back_all, held_all, posted_all, even_a
 use Rattle.tag_core.proofs.Chains.{count_chain}
 use Rattle.tag_core.proofs.gather.end.Goals as goal
 
-pub count_posted-posted-requires : goal.count_posted-posted-requires
-count_posted-posted-requires g c =
-    let v = c.close_with-ended.ensures.values in let n = c.close_with-ended.ensures.counts in
-    let w = c.args.map.wide in (v.0, n.0 ∙ w.0)
-
 pub returns : goal.returns
 returns g c =
     let a = c.args.all in let m = c.args.map in let k = m.shape in let ended = c.close_with-ended.result in

@@ -1,8 +1,6 @@
 -- Taking a slot empties its entry, and adds it to the end of the list.
-use Rattle.std.proofs.Common.{rules, arith, ◌≡◌, ◌≢◌, ℕ, zero, suc, ◌+◌, ◌<◌, List, [], ◌∷◌, ◌++◌, Bool, false, take, set, slice_index_or, get_or-set_other, refl, sym, ap, ◌∙◌, subst}
+use Rattle.std.proofs.Common.{rules, arith, ◌≡◌, ◌≢◌, ℕ, zero, suc, ◌+◌, ◌<◌, List, [], ◌∷◌, ◌++◌, Bool, false, take, set, slice_index_or, get_or-set_other, refl, sym, ap, ◌∙◌}
 use mathlib.Core.Option.{some, some-injective, some-ne-none}
-use mathlib.Core.Logic.{dite}
-use native.Mathlib.Decide.{ℕ_discrete}
 use lib.ListN.{get_elem?}
 use Rattle.std.specs.Slots.{slots_filled, slots_len, slots_items}
 use Rattle.tag_core.proofs.gather.take_out.Goals as goal
@@ -29,12 +27,8 @@ loop-i-preserved g c =
     → slice_index_or (slots_filled c.take.new.self.slots) n false ≡ slice_index_or fs n false =
     (λ n ne. ap (λ (z : List Bool). slice_index_or z n false) others.1 ∙ get_or-set_other fs i n false false ne) in
     record {
-      empty = λ n l. dite (ℕ_discrete n i)
-          (λ (e : n ≡ i). ap (λ (z : List Bool). slice_index_or z n false) others.1
-          ∙ ap (λ (z : ℕ). slice_index_or (set fs i false) z false) e ∙ put_out fs i)
-          (λ (ne : n ≢ i). off n ne ∙ inv.empty n (omega arith));
-      full = λ n le l. off n (λ (e : n ≡ i). omega arith)
-          ∙ inv.full n (omega arith) (subst (λ (z : ℕ). n < z) others.2 l);
+      empty = λ n l. grind (arith, off n, put_out fs i, inv.empty n, others.1);
+      full = λ n le l. grind (arith, off n, inv.full n, others.2);
       near = (let low : c.loop-i.i < slots_len c.loop-i.ended.slots = search rules in
           let same = others.2 in omega arith);
       items = others.0 ∙ inv.items;

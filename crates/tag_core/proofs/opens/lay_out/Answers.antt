@@ -1,15 +1,7 @@
 -- Nobody won a tag before the first map of a chain, and each caller made is one of the map's.
-use Rattle.std.proofs.Common.{[]}
 use Rattle.step_ledger.proofs.Numbers.{numbered_all}
 use Rattle.tag_core.specs.Callers.{IsCallerOf}
-use Rattle.tag_core.proofs.Passing.{starts}
 use Rattle.tag_core.proofs.opens.lay_out.Goals as goal
-
-pub new_map-requires-clause-opening : goal.new_map-requires-clause-opening
-new_map-requires-clause-opening g c = starts c.args.shape c.requires.blank
-
-pub new_map-requires-clause-chain : goal.new_map-requires-clause-chain
-new_map-requires-clause-chain g c = ∣ ([], c.requires.blank) ∣₁
 
 pub returns-clause-own : goal.returns-clause-own
 returns-clause-own g c = numbered_all _ (IsCallerOf c.in-Ok.map) c.in-Ok.map.shape.callers c.in_ok-callers.callers.items

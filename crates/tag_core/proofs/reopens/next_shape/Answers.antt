@@ -1,8 +1,6 @@
 -- Each caller's counts stand at its number, and no two callers have one number.
-use Rattle.std.proofs.Common.{arith, ◌≡◌, ◌≢◌, ℕ, ◌+◌, ◌<◌, List, length, get_or, set, sym, ap, ◌∙◌, subst, get_or-set_other, get_or-set_same, length-set, refl}
-use mathlib.Core.Option.{some, some-injective}
-use mathlib.Core.Logic.{dite}
-use native.Mathlib.Decide.{ℕ_discrete}
+use Rattle.std.proofs.Common.{arith, ◌≡◌, ℕ, ◌+◌, ◌<◌, List, length, get_or, set, ap, ◌∙◌, get_or-set_other, get_or-set_same, length-set, refl}
+use mathlib.Core.Option.{some}
 use lib.ListN.{get_elem?}
 use Rattle.atomic_table.proofs.Lists.{at_index}
 use Rattle.tag_core.specs.declared.caller.Caller.{Caller}
@@ -40,12 +38,8 @@ more : {R : Type 0} (f : Caller R → ℕ) (callers : List (Caller R)) (counts :
     → HaveOwnNumbers callers
     → (i : ℕ) (y : Caller R) → i < n + 1 → get_elem? callers i ≡ some y
     → get_or (set counts x.number (f x)) y.number 0 ≡ f y
-more f callers counts n x here low before once i y l at = dite (ℕ_discrete i n)
-    (λ (same : i ≡ n). let is : x ≡ y = some-injective x y (sym here ∙ ap (get_elem? callers) (sym same) ∙ at) in
-    subst (λ (z : Caller _). get_or (set counts x.number (f x)) z.number 0 ≡ f z) is
-    (get_or-set_same counts x.number (f x) 0 low))
-    (λ (ne : i ≢ n). get_or-set_other counts x.number y.number (f x) 0 (λ e. ne (once i n y x at here e))
-    ∙ before i y (omega arith) at)
+more f callers counts n x here low before once i y l at =
+    grind (arith, get_or-set_same, get_or-set_other, before i y, once i n y x at here)
 
 pub loop-caller-preserved : goal.loop-caller-preserved
 loop-caller-preserved g c =

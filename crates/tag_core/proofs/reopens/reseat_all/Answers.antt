@@ -1,5 +1,5 @@
 -- The callers are reseated in the order of their numbers, each in its own place.
-use Rattle.std.proofs.Common.{rules, arith, ◌≡◌, ◌≢◌, ℕ, ◌+◌, ◌-◌, ◌<◌, ◌≤◌, List, [], ◌∷◌, All, Vec, Global, length, length-set, length-append, get_or, set, replicate, sym, ap, ◌∙◌, subst, ⊎_elim}
+use Rattle.std.proofs.Common.{rules, arith, ◌≡◌, ℕ, ◌+◌, ◌-◌, ◌<◌, ◌≤◌, List, [], ◌∷◌, All, Vec, Global, length, length-set, length-append, get_or, set, replicate, sym, ap, ◌∙◌, subst}
 use mathlib.Core.Option.{some, some-injective}
 use mathlib.Core.Logic.{dite}
 use native.Mathlib.Decide.{dec_lt}
@@ -50,27 +50,13 @@ module _ {R : Type 0} (m : Map R) (old cur : List (Caller R)) (n : ℕ) (long : 
     gone_more : (j : ℕ) (a b : Caller R) → get_elem? old j ≡ some a
         → get_elem? (set cur i x') j ≡ some b → a.number < n + 1
         → IsCallerOf m b × (record_of b ≡ reopened_record m.shape (record_of a))
-    gone_more j a b e f l = let w = mine i x at is in ⊎_elim
-        (λ (t : (j ≡ i) × (x' ≡ b)).
-        let same : x ≡ a = w.2 ∙ some-injective w.0 a (sym w.1 ∙ ap (get_elem? old) (sym t.0) ∙ e) in
-        subst (λ (z : Caller R × Caller R). IsCallerOf m z.1
-        × (record_of z.1 ≡ reopened_record m.shape (record_of z.0)))
-        (λ j. (same j, t.1 j)) new)
-        (λ (t : (j ≢ i) × (get_elem? cur j ≡ some b)). gone j a b e t.1
-        (let far : a.number ≢ n = (λ z. t.0 (once j i a w.0 e w.1 (z ∙ sym is
-        ∙ ap (λ (y : Caller R). y.number) w.2))) in
-        omega arith))
-        (at_set cur i j x' b f)
+    gone_more j a b e f l = let w = mine i x at is in
+        grind (arith, at_set cur i j x' b f, gone j a b e, once j i a w.0 e w.1)
 
     -- the others stay
     stays_more : (j : ℕ) (a b : Caller R) → get_elem? old j ≡ some a → get_elem? (set cur i x') j ≡ some b
         → n + 1 ≤ a.number → b ≡ a
-    stays_more j a b e f l = let w = mine i x at is in ⊎_elim
-        (λ (t : (j ≡ i) × (x' ≡ b)).
-        let same : x ≡ a = w.2 ∙ some-injective w.0 a (sym w.1 ∙ ap (get_elem? old) (sym t.0) ∙ e) in
-        let number = ap (λ (z : Caller R). z.number) same in absurd (omega arith))
-        (λ (t : (j ≢ i) × (get_elem? cur j ≡ some b)). stays j a b e t.1 (omega arith))
-        (at_set cur i j x' b f)
+    stays_more j a b e f l = let w = mine i x at is in grind (arith, at_set cur i j x' b f, stays j a b e)
 
 pub unreachable-requires : goal.unreachable-requires
 unreachable-requires g c =

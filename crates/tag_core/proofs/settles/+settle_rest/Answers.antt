@@ -17,11 +17,6 @@ settle-requires-clause-all g t c =
     let none : c.args.callers.now.items ≡ [] = search rules in
     subst (λ (z : List (Caller R)). HasAll (numbers (map record_of z ++ rs)) m.shape.callers) none c.requires.every
 
-pub lend-lender-requires-clause-caller : goal.lend-lender-requires-clause-caller
-lend-lender-requires-clause-caller g t c =
-    let R = g.row.R.Denot in let P : Caller R → Type 0 = IsCallerOf c.args.tags.now in
-    all_last P c.pop.new.self.items c.in-Some.last (subst (All P) c.in-Some.ensures.items c.requires.own)
-
 pub settle_rest-loans-requires : goal.settle_rest-loans-requires
 settle_rest-loans-requires g t c κs within =
     let R = g.row.R.Denot in let m = c.args.tags.now in let P : Caller R → Type 0 = IsCallerOf m in

@@ -1,8 +1,7 @@
 -- The step sets the mask's bits in the word and wins those that it found 0. There is room for all of them by the test
 -- before it, the caller's mask gains what was won, and its seat the slots of these tags.
-use Rattle.std.proofs.Common.{rules, arith, ◌≡◌, ℕ, ◌+◌, ◌≤◌, slice_set, length-set, bit_or, count_ones, refl, sym, ap, ◌∙◌, subst}
-use Rattle.std.specs.Int.{bit_at}
-use Rattle.tag_layout.specs.Layout.{IsWithin, word_of, place_of}
+use Rattle.std.proofs.Common.{rules, arith, ℕ, ◌+◌, ◌≤◌, slice_set, length-set, bit_or, count_ones, refl, sym, ap, ◌∙◌, subst}
+use Rattle.tag_layout.specs.Layout.{IsWithin}
 use Rattle.tag_core.specs.declared.shape.Shape.{Shape}
 use Rattle.tag_core.specs.Steps.{without}
 use Rattle.tag_core.specs.Spacing.{word_at}
@@ -11,7 +10,7 @@ use Rattle.tag_core.specs.Callers.{record_of}
 use Rattle.tag_core.proofs.Masks.{ones_minus, minus_le}
 use Rattle.tag_core.proofs.Stand.{word_in}
 use Rattle.tag_core.proofs.Allowed.{claim_allowed}
-use Rattle.tag_core.proofs.Asking.{narrow, in_words, asked, left, after, recorded, slots, plus_none}
+use Rattle.tag_core.proofs.Asking.{found, narrow, in_words, asked, left, after, recorded, slots, plus_none}
 use Rattle.tag_core.proofs.Marking.{mask_read}
 use Rattle.tag_core.proofs.Holdings.{adds_acquires, not_found}
 use Rattle.tag_core.proofs.map.Map.claim.Goals as goal
@@ -51,11 +50,9 @@ returns-clause-step g c =
     (plus_none w.back) in record { known = recorded l; slots = slots l; same_map = c.fetch_or-found.ensures.0 }
 
 pub returns-clause-held : goal.returns-clause-held
-returns-clause-held g c =
-    let m = c.args.self.now in let w = c.args.caller.now in let own = c.requires.caller in let i : ℕ = c.args.word in
-    let did = c.fetch_or-found.ensures.2 i (record_of w) c.word_spot.ensures w.knows in λ t has e.
-    subst (λ (z : Shape). bit_at c.fetch_or-found.result (place_of z.layout t) ≡ 1) own.1
-    (did.1 t has.0 (ap (λ (z : Shape). word_of z.layout t) own.1 ∙ e) has.1)
+returns-clause-held g c = let w = c.args.caller.now in
+    found c.args.self.now w c.requires.caller c.args.word c.fetch_or-found.result 1
+    (c.fetch_or-found.ensures.2 c.args.word (record_of w) c.word_spot.ensures w.knows).1
 
 pub returns-clause-acquired : goal.returns-clause-acquired
 returns-clause-acquired g c =

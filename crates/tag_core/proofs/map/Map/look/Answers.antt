@@ -1,15 +1,12 @@
 -- A load changes no word. The record gains the step with the word that was found, in which the bit of each tag that the
 -- caller holds is 1.
-use Rattle.std.proofs.Common.{◌≡◌, ℕ, refl, ap, ◌∙◌, subst}
-use Rattle.std.specs.Int.{bit_at}
-use Rattle.tag_layout.specs.Layout.{word_of, place_of}
-use Rattle.tag_core.specs.declared.shape.Shape.{Shape}
+use Rattle.std.proofs.Common.{ℕ, refl}
 use Rattle.tag_core.specs.Spacing.{word_at}
 use Rattle.tag_core.specs.Plays.{looked}
 use Rattle.tag_core.specs.Callers.{record_of}
 use Rattle.tag_core.proofs.Stand.{word_in}
 use Rattle.tag_core.proofs.Allowed.{look_allowed}
-use Rattle.tag_core.proofs.Asking.{narrow, in_words, asked, left, after, recorded, slots, plus_none}
+use Rattle.tag_core.proofs.Asking.{found, narrow, in_words, asked, left, after, recorded, slots, plus_none}
 use Rattle.tag_core.proofs.Holdings.{adds_keeps}
 use Rattle.tag_core.proofs.map.Map.look.Goals as goal
 
@@ -40,11 +37,9 @@ returns-clause-step g c =
     }
 
 pub returns-clause-held : goal.returns-clause-held
-returns-clause-held g c =
-    let w = c.args.caller.now in let own = c.requires.caller in let i : ℕ = c.args.word in
-    let did = c.load.ensures.2 i (record_of w) c.word_spot.ensures w.knows in λ t has e.
-    subst (λ (z : Shape). bit_at c.load.result (place_of z.layout t) ≡ 1) own.1
-    (did.1 t has.0 (ap (λ (z : Shape). word_of z.layout t) own.1 ∙ e) has.1)
+returns-clause-held g c = let w = c.args.caller.now in
+    found c.args.self.now w c.requires.caller c.args.word c.load.result 1
+    (c.load.ensures.2 c.args.word (record_of w) c.word_spot.ensures w.knows).1
 
 pub returns-clause-kept : goal.returns-clause-kept
 returns-clause-kept g c =

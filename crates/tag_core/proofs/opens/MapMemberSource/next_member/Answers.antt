@@ -1,8 +1,6 @@
 -- The seat splits off the record of one caller, who has won and holds nothing.
 use Rattle.std.proofs.Common.{rules, arith, ◌≡◌, ℕ, replicate, ap, ◌∙◌}
-use Rattle.step_ledger.proofs.Fresh.{next_others}
 use Rattle.tag_layout.specs.Layout.{words}
-use Rattle.tag_core.specs.Records.{fresh_record}
 use Rattle.tag_core.proofs.SeatMoves.{some_words}
 use Rattle.tag_core.proofs.Seatings.{splits_next, knows, shown, carries, wide, is_fresh}
 use Rattle.tag_core.proofs.opens.MapMemberSource.next_member.Goals as goal
@@ -35,13 +33,3 @@ returns-clause-member g c = let k = c.args.self.now.shape in let n : ℕ = c.arg
       is_fresh k n 0 0 c.requires.comes (c.requires.rest.0.0 n, c.requires.rest.0.1 n) _ (ap (λ x. x.0) c.requires.rest.2)
           _ c.split_seat-seat.ensures.4 _ c.of.ensures _ blank,
     )
-
-pub returns-clause-rest : goal.returns-clause-rest
-returns-clause-rest g c = let k = c.args.self.now.shape in let kept = c.requires.rest.2 in (
-  c.requires.rest.0,
-  c.split_seat-seat.ensures.0 ∙ c.requires.rest.1,
-  c.split_seat-seat.ensures.2 ∙ (λ j. (
-    next_others (fresh_record {R = g.row.R.Denot} k) c.args.number k.callers c.requires.comes _ (ap (λ x. x.0) kept) j,
-    ap (λ x. x.1) kept j,
-  )),
-)

@@ -73,10 +73,3 @@ invariant_of-self g c =
       few = omega arith;
       small = (omega arith, omega arith, omega arith);
     }
-
-pub returns-clause-gathered : goal.returns-clause-gathered
-returns-clause-gathered g c =
-    let R = g.row.R.Denot in let now = c.load.ensures.2.0 ∙ c.join_seat.ensures.2 in
-    came (record_of c.args.caller) c.swap.new.x c.swap.new.y c.start_lending-first.result.0.seat c.args.self.now.seat
-    c.load.new.seat.me (ap (λ z. z.0) now) c.swap.ensures.x_after c.swap.ensures.y_after
-    c.start_lending-first.ensures.gathered
