@@ -75,7 +75,7 @@ impl<R: Copy> Queue<R> {
 
     /// Checks that the number is a tag's and that the agent holds that tag.
     #[inline]
-    pub fn find_held(&self, agent: &Agent<R>, tag: u32) -> Result<(), QueueFault>
+    pub(crate) fn find_held(&self, agent: &Agent<R>, tag: u32) -> Result<(), QueueFault>
         requires agent { IsAgentOf self.now agent.now }
         ensures held { IsOk result ↔ Holds agent.now tag }
         ensures no_such_tag { (result ≡ Err QueueFault.NoSuchTag) ↔ ((layout_of self.now).depth ≤ tag) }
