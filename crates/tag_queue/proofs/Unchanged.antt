@@ -69,20 +69,19 @@ module _ {R : Type 0} where
       (λ j. (same.each 0 a b refl refl).caller.known j
       ∷ unchanged-records olds news record { count = omega arith; each = λ n x y p q. same.each (suc n) x y p q } j)
 
-  -- what was counted of them is what was there before
-  pub counted : (k : Shape) (olds news : List (Agent R)) (totals : Totals) → AreUnchanged olds news
-      → AreSettled k (records_of news) totals
-      → (totals.held ≡ held_in (records_of olds)) × (totals.posted ≡ posted_in (records_of olds))
-  counted k olds news totals same settled = let back = unchanged-records olds news same in (
-    settled.held ∙ ap (λ (z : List (Record R)). held_in z) back,
-    posted_is k (records_of news) totals settled ∙ ap (λ (z : List (Record R)). posted_in z) back,
-  )
+  -- the totals of unchanged agents count what was in use before, and balance
+  pub record AreCounted (agents : List (Agent R)) (totals : Totals) : Type 0 where
+    pub held : totals.held ≡ held_in (records_of agents)
+    pub posted : totals.posted ≡ posted_in (records_of agents)
+    pub balance : Balance (records_of agents)
 
-  -- and it balances
-  pub balanced : (k : Shape) (olds news : List (Agent R)) (totals : Totals) → AreUnchanged olds news
-      → AreSettled k (records_of news) totals → Balance (records_of olds)
-  balanced k olds news totals same settled = subst (λ (rs : List (Record R)). Balance rs)
-      (unchanged-records olds news same) (balance_is k (records_of news) totals settled)
+  pub counted : {k : Shape} {olds news : List (Agent R)} {totals : Totals} → AreUnchanged olds news
+      → AreSettled k (records_of news) totals → AreCounted olds totals
+  counted {k} {olds} {news} {totals} same settled = let back = unchanged-records olds news same in record {
+    held = settled.held ∙ ap (λ (z : List (Record R)). held_in z) back;
+    posted = posted_is k (records_of news) totals settled ∙ ap (λ (z : List (Record R)). posted_in z) back;
+    balance = subst (λ (rs : List (Record R)). Balance rs) back (balance_is k (records_of news) totals settled);
+  }
 
   abbrev standing : List (Agent R) → ℕ
   standing [] = 0
