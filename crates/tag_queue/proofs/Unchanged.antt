@@ -14,8 +14,10 @@ use Rattle.tag_core.specs.Records.{tag_bit}
 use Rattle.tag_core.specs.Gathering.{numbers}
 use Rattle.tag_core.specs.Settling.{AreSettled}
 use Rattle.step_ledger.proofs.Seats.{pairs_more}
+use Rattle.step_ledger.proofs.Turned.{all_front, all_last}
 use Rattle.tag_queue.specs.declared.agent.Agent.{Agent}
-use Rattle.tag_queue.specs.Agents.{caller_of, waiter_of, numbers_of, records_of, SameElse, IsUnchanged, AreUnchanged}
+use Rattle.tag_queue.specs.declared.queue.Queue.{Queue}
+use Rattle.tag_queue.specs.Agents.{caller_of, waiter_of, numbers_of, records_of, IsAgentOf, SameElse, IsUnchanged, AreUnchanged}
 use Rattle.wake_book.specs.Groups.{standing_of as standing_of_waiter}
 use Rattle.tag_queue.specs.Resizing.{standing_count}
 use Rattle.tag_queue.specs.Using.{held_in, posted_in, Balance}
@@ -46,6 +48,20 @@ module _ {R : Type 0} where
     holds = holds_same (caller_of old) (caller_of new) one.known;
     same_else = else;
   }
+
+  -- so is one whose caller lent its record and got it back
+  pub lent_back : (old new : Agent R) {lender : Caller R} → lender ≡ caller_of old
+      → core.IsUnchanged lender (caller_of new) → SameElse old new → IsUnchanged old new
+  lent_back old new is back = agent_same old new (subst (λ (c : Caller R). core.IsUnchanged c (caller_of new)) is back)
+
+  -- the last agent of a queue, and those before it, belong to it
+  module _ (queue : Queue R) (olds front : List (Agent R)) (last : Agent R) (taken : olds ≡ front ++ last ∷ [])
+      (own : All (IsAgentOf queue) olds) where
+    pub last_own : IsAgentOf queue last
+    last_own = all_last (IsAgentOf queue) front last (subst (All (IsAgentOf queue)) taken own)
+
+    pub front_own : All (IsAgentOf queue) front
+    front_own = all_front (IsAgentOf queue) front last (subst (All (IsAgentOf queue)) taken own)
 
   -- what holds of all agents still holds once one more is pushed
   pub all_pushed : (P : Agent R → Type 0) (news rest : List (Agent R)) (back : Agent R) → news ≡ rest ++ back ∷ []
