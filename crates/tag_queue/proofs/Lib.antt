@@ -21,6 +21,5 @@ pub mod Refits
 pub mod NextMaps
 pub mod Resized
 pub mod Refusals
-pub mod Presence
 pub mod OneByOne
 pub mod Placed

@@ -1,5 +1,5 @@
 -- The parts of a new queue fit together.
-use Rattle.std.proofs.Common.{◌≡◌, ℕ, zero, suc, ◌+◌, ◌<◌, List, [], ◌∷◌, map, length, arith, refl, sym, ap, ◌∙◌, subst}
+use Rattle.std.proofs.Common.{◌≡◌, ℕ, zero, suc, ◌+◌, ◌<◌, List, map, length, arith, refl, sym, ap, ◌∙◌, subst}
 use Rattle.std.specs.Prelude.{All}
 use Rattle.std.proofs.lemmas.List.{length-map, get_or-map}
 use mathlib.Core.Option.{some, some-injective, some-ne-none}
@@ -8,6 +8,7 @@ use Rattle.atomic_table.proofs.Lists.{at_map}
 use Rattle.step_ledger.specs.Records.{fresh, fresh_record}
 use Rattle.step_ledger.specs.declared.record.Record.{Record}
 use Rattle.step_ledger.specs.History.{total}
+use Rattle.step_ledger.proofs.Seats.{within}
 use Rattle.tag_core.specs.declared.caller.Caller.{Caller}
 use Rattle.tag_core.specs.declared.map.Map.{Map}
 use Rattle.tag_core.specs.declared.record.Record as core
@@ -50,11 +51,6 @@ module _ {T : Type 0} where
       ≡ some (f x)) all (at_map f xs i x e))
       ∙ ap fresh_record (let z : 0 + i ≡ i = omega arith in z)
 
-there : {A : Type 0} (xs : List A) (i : ℕ) (x : A) → get_elem? xs i ≡ some x → i < length xs
-there [] i x e = absurd (some-ne-none x (sym e))
-there (y ∷ xs) zero x e = omega arith
-there (y ∷ xs) (suc i) x e = let h = there xs i x e in omega arith
-
 -- what holds of all images holds of the image of each entry
 all-map : {A B : Type 0} (P : B → Type 0) (f : A → B) (xs : List A) → All P (map f xs) → All (λ x. P (f x)) xs
 all-map P f xs h k d l = subst P (get_or-map f xs k d (f d) l) (h k (f d) (let z = length-map xs f in omega arith))
@@ -80,7 +76,7 @@ module _ {R : Type 0} where
         caller_is = ap (λ (r : core.Record R). r.number) own.1;
         teller_is = ap (λ (r : Record BookStep). r.number) t_is;
         waiter_is = ap (λ (r : Record GroupStep). r.number) w_is;
-        below = subst (λ (k : Shape). n < k.callers) (sym own.0.1) (let a = there callers n x ex in
+        below = subst (λ (k : Shape). n < k.callers) (sym own.0.1) (let a = within callers n x ex in
             let z = new.count in omega arith);
         counts = omega arith;
         wakes = omega arith;

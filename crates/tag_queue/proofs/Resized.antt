@@ -1,11 +1,8 @@
 -- Agents are unchanged when they settle, so a resize of them is one of the agents passed in.
-use Rattle.std.proofs.Common.{◌≡◌, ℕ, suc, ◌<◌, ◌≤◌, List, [], ◌∷◌, map, arith, refl, sym, ap, ◌∙◌, subst, ⊎_elim, Ok, Err, Result}
-use Rattle.std.specs.Prelude.{◌↔◌, is_ok}
-use Rattle.std.proofs.lemmas.Bool.{cases_lt, false≢true}
+use Rattle.std.proofs.Common.{◌≡◌, ℕ, suc, List, [], ◌∷◌, map, arith, refl, sym, ap, ◌∙◌, subst}
 use Rattle.std.proofs.lemmas.List.{length-map}
 use mathlib.Core.Option.{some-injective}
 use Rattle.step_ledger.specs.Gather.{HasAll}
-use Rattle.tag_layout.specs.declared.layout.TheConstants.{MAX_DEPTH}
 use Rattle.tag_core.specs.declared.caller.Caller.{Caller}
 use Rattle.tag_core.specs.declared.record.Record.{Record}
 use Rattle.tag_core.specs.Callers as core
@@ -13,32 +10,12 @@ use Rattle.tag_core.proofs.Entries.{entry, entry_of_map}
 use Rattle.step_ledger.proofs.Seats.{within}
 use Rattle.tag_queue.specs.declared.agent.Agent.{Agent}
 use Rattle.tag_queue.specs.declared.queue.Queue.{Queue}
-use Rattle.tag_queue.specs.declared.resizes.ResizeCause.{ResizeCause}
-use Rattle.tag_queue.specs.declared.resizes.ResizeCause.TheVariants.{Missing, DepthTooLarge, InUse, Waiting, Memory}
 use Rattle.tag_core.specs.Gathering.{numbers}
 use Rattle.tag_queue.specs.Agents.{caller_of, teller_of, waiter_of, hint_of, shape_of, numbers_of, IsUnchanged, AreUnchanged}
-use Rattle.tag_queue.specs.Resizing.{HasMap, IsBusyFor, IsRefusedFor, IsResized, GoesOnAfter}
+use Rattle.tag_queue.specs.Resizing.{IsResized, GoesOnAfter}
 use Rattle.tag_queue.proofs.Gathering.{caller_numbers}
 use Rattle.tag_queue.proofs.NextMaps.{reopened_after, leads_after}
 use Rattle.tag_queue.proofs.Unchanged.{agent_same, unchanged-records}
-
--- a layout was made, so the depth is in range
-pub depth_fits : {L E : Type 0} (layout : L) (fault : E) (depth : ℕ)
-    → ((◌≡◌ {A = Result L E} (Ok layout) (Err fault)) ↔ (MAX_DEPTH < depth))
-    → depth ≤ MAX_DEPTH
-depth_fits {L} {E} layout fault depth told = ⊎_elim
-    (λ (deep : MAX_DEPTH < depth). absurd (false≢true (sym (ap (λ (r : Result L E). is_ok r) (told.1 deep)))))
-    (λ (fits : depth ≤ MAX_DEPTH). fits) (cases_lt MAX_DEPTH depth)
-
--- tags in use, or agents that wait, are causes to refuse a resize to a depth in range
-pub refused_for : {R : Type 0} (queue : Queue R) (agents : List (Agent R)) (depth : ℕ) (cause : ResizeCause)
-    → HasMap queue agents depth
-    → IsBusyFor agents cause → IsRefusedFor queue agents depth cause
-refused_for queue agents depth (Missing number) fits busy = absurd busy
-refused_for queue agents depth DepthTooLarge fits busy = absurd busy
-refused_for queue agents depth (InUse held posted) fits busy = (fits, busy)
-refused_for queue agents depth (Waiting count) fits busy = (fits, busy)
-refused_for queue agents depth Memory fits busy = absurd busy
 
 module _ {R : Type 0} where
   one_refl : (a : Agent R) → IsUnchanged a a

@@ -14,8 +14,10 @@ use Rattle.tag_core.specs.Records.{tag_bit}
 use Rattle.tag_core.specs.Gathering.{numbers}
 use Rattle.tag_core.specs.Settling.{AreSettled}
 use Rattle.step_ledger.proofs.Seats.{pairs_more}
+use Rattle.step_ledger.proofs.Turned.{all_front, all_last}
 use Rattle.tag_queue.specs.declared.agent.Agent.{Agent}
-use Rattle.tag_queue.specs.Agents.{caller_of, waiter_of, numbers_of, records_of, SameElse, IsUnchanged, AreUnchanged}
+use Rattle.tag_queue.specs.declared.queue.Queue.{Queue}
+use Rattle.tag_queue.specs.Agents.{caller_of, waiter_of, numbers_of, records_of, IsAgentOf, SameElse, IsUnchanged, AreUnchanged}
 use Rattle.wake_book.specs.Groups.{standing_of as standing_of_waiter}
 use Rattle.tag_queue.specs.Resizing.{standing_count}
 use Rattle.tag_queue.specs.Using.{held_in, posted_in, Balance}
@@ -47,6 +49,20 @@ module _ {R : Type 0} where
     same_else = else;
   }
 
+  -- so is one whose caller lent its record and got it back
+  pub lent_back : (old new : Agent R) {lender : Caller R} → lender ≡ caller_of old
+      → core.IsUnchanged lender (caller_of new) → SameElse old new → IsUnchanged old new
+  lent_back old new is back = agent_same old new (subst (λ (c : Caller R). core.IsUnchanged c (caller_of new)) is back)
+
+  -- the last agent of a queue, and those before it, belong to it
+  module _ (queue : Queue R) (olds front : List (Agent R)) (last : Agent R) (taken : olds ≡ front ++ last ∷ [])
+      (own : All (IsAgentOf queue) olds) where
+    pub last_own : IsAgentOf queue last
+    last_own = all_last (IsAgentOf queue) front last (subst (All (IsAgentOf queue)) taken own)
+
+    pub front_own : All (IsAgentOf queue) front
+    front_own = all_front (IsAgentOf queue) front last (subst (All (IsAgentOf queue)) taken own)
+
   -- what holds of all agents still holds once one more is pushed
   pub all_pushed : (P : Agent R → Type 0) (news rest : List (Agent R)) (back : Agent R) → news ≡ rest ++ back ∷ []
       → All P rest → P back → All P news
@@ -69,20 +85,19 @@ module _ {R : Type 0} where
       (λ j. (same.each 0 a b refl refl).caller.known j
       ∷ unchanged-records olds news record { count = omega arith; each = λ n x y p q. same.each (suc n) x y p q } j)
 
-  -- what was counted of them is what was there before
-  pub counted : (k : Shape) (olds news : List (Agent R)) (totals : Totals) → AreUnchanged olds news
-      → AreSettled k (records_of news) totals
-      → (totals.held ≡ held_in (records_of olds)) × (totals.posted ≡ posted_in (records_of olds))
-  counted k olds news totals same settled = let back = unchanged-records olds news same in (
-    settled.held ∙ ap (λ (z : List (Record R)). held_in z) back,
-    posted_is k (records_of news) totals settled ∙ ap (λ (z : List (Record R)). posted_in z) back,
-  )
+  -- the totals of unchanged agents count what was in use before, and balance
+  pub record AreCounted (agents : List (Agent R)) (totals : Totals) : Type 0 where
+    pub held : totals.held ≡ held_in (records_of agents)
+    pub posted : totals.posted ≡ posted_in (records_of agents)
+    pub balance : Balance (records_of agents)
 
-  -- and it balances
-  pub balanced : (k : Shape) (olds news : List (Agent R)) (totals : Totals) → AreUnchanged olds news
-      → AreSettled k (records_of news) totals → Balance (records_of olds)
-  balanced k olds news totals same settled = subst (λ (rs : List (Record R)). Balance rs)
-      (unchanged-records olds news same) (balance_is k (records_of news) totals settled)
+  pub counted : {k : Shape} {olds news : List (Agent R)} {totals : Totals} → AreUnchanged olds news
+      → AreSettled k (records_of news) totals → AreCounted olds totals
+  counted {k} {olds} {news} {totals} same settled = let back = unchanged-records olds news same in record {
+    held = settled.held ∙ ap (λ (z : List (Record R)). held_in z) back;
+    posted = posted_is k (records_of news) totals settled ∙ ap (λ (z : List (Record R)). posted_in z) back;
+    balance = subst (λ (rs : List (Record R)). Balance rs) back (balance_is k (records_of news) totals settled);
+  }
 
   abbrev standing : List (Agent R) → ℕ
   standing [] = 0

@@ -1,13 +1,13 @@
 //! Gathers all agents and closes the queue.
-ghost use Rattle.std.specs.Prelude.{◌≡◌, ◌↔◌, All, IfOk, IfErr, IsOk, MatchOption};
-ghost use Rattle.step_ledger.specs.Gather.{HasAll, IsLeastMissing, IsCauseOf};
+ghost use Rattle.std.specs.Prelude.{◌≡◌, ◌↔◌, All, IfOk, IfErr, IsOk};
+ghost use Rattle.step_ledger.specs.Gather.{HasAll, IsCauseOf};
 ghost use Rattle.tag_queue.specs.Agents.{IsAgentOf, agents_of, numbers_of};
 ghost use Rattle.tag_queue.specs.Gathering.{IsGathered};
 
 use crate::agent::Agent;
 use crate::gather::together::Together;
 use crate::queue::Queue;
-use step_ledger::{GatherCause, gather_each, least_missing};
+use step_ledger::{GatherCause, all_there, gather_each};
 use tag_model::Totals;
 use wake_book::{BookTotals, GroupTotals};
 
@@ -46,9 +46,9 @@ impl<R: Copy> Queue<R> {
         ensures missing { IfErr result (λ fault. IsCauseOf (numbers_of agents.items) (agents_of queue) fault.cause) }
         ensures err { IfErr result (λ fault. (fault.queue ≡ queue) × (fault.agents ≡ agents)) }
     {
-        if let Some(number) = queue.missing(agents.as_slice()) {
+        if let Err(cause) = all_there(&agents, queue.map.callers()) {
             return Err(QueueGatherFault {
-                cause: GatherCause::Missing(number),
+                cause,
                 queue,
                 agents,
             });
@@ -82,15 +82,5 @@ impl<R: Copy> Queue<R> {
             book: book.finish(tellers),
             groups: groups.finish(waiters),
         }
-    }
-}
-
-impl<R> Queue<R> {
-    /// Returns the least number of an agent that is not among these.
-    pub(crate) fn missing(&self, agents: &[Agent<R>]) -> Option<u32>
-        ensures { MatchOption result (HasAll (numbers_of agents.now) (agents_of self.now))
-            (IsLeastMissing (numbers_of agents.now) (agents_of self.now)) }
-    {
-        least_missing(agents, self.callers)
     }
 }

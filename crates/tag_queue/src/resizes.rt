@@ -10,6 +10,7 @@ ghost use Rattle.tag_queue.specs.Using.{Balance};
 use crate::agent::Agent;
 use crate::queue::Queue;
 use std::alloc::Global;
+use step_ledger::{GatherCause, all_there};
 use tag_layout::{Layout, LayoutFault};
 use thiserror::Error;
 use wake_book::Groups;
@@ -107,7 +108,7 @@ impl<R> Queue<R> {
         ensures cause { IfErr result (IsRefusedFor self.now agents.old.items depth) }
         ensures balance { HasMap self.now agents.old.items depth → Balance (records_of agents.old.items) }
     {
-        if let Some(number) = self.missing(agents.as_slice()) {
+        if let Err(GatherCause::Missing(number)) = all_there(agents, self.map.callers()) {
             return Err(ResizeCause::Missing(number));
         }
         let layout = match Layout::new(depth, Some(self.map.layout().shift())) {

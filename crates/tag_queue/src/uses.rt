@@ -10,7 +10,7 @@ ghost use Rattle.tag_queue.specs.Using.{AreInUse};
 use crate::agent::Agent;
 use crate::gather::QueueGatherFault;
 use crate::queue::Queue;
-use step_ledger::GatherCause;
+use step_ledger::all_there;
 use tag_core::{Gathering, Loans};
 use tag_model::Totals;
 
@@ -125,9 +125,9 @@ impl<R: Copy> Queue<R> {
         ensures missing { IfErr result (λ fault. IsCauseOf (numbers_of agents.items) (agents_of queue) fault.cause) }
         ensures err { IfErr result (λ fault. (fault.queue ≡ queue) × (fault.agents ≡ agents)) }
     {
-        if let Some(number) = queue.missing(agents.as_slice()) {
+        if let Err(cause) = all_there(&agents, queue.map.callers()) {
             return Err(QueueGatherFault {
-                cause: GatherCause::Missing(number),
+                cause,
                 queue,
                 agents,
             });

@@ -6,7 +6,7 @@ ghost use Rattle.tag_sets.specs.Gathering.{hands_of, numbers_of, totals_of_both,
 
 use crate::hand::Hand;
 use crate::tags::Tags;
-use step_ledger::{GatherCause, least_missing};
+use step_ledger::{GatherCause, all_there};
 use tag_model::Totals;
 use tag_queue::{Queue, QueueTotals};
 
@@ -32,12 +32,8 @@ impl<R: Copy> Tags<R> {
         ensures missing { IfErr result (λ fault. IsCauseOf (numbers_of hands.items) (hands_of tags) fault.cause) }
         ensures err { IfErr result (λ fault. (fault.tags ≡ tags) × (fault.hands ≡ hands)) }
     {
-        if let Some(number) = least_missing(hands.as_slice(), tags.buffers.count) {
-            return Err(TagsGatherFault {
-                cause: GatherCause::Missing(number),
-                tags,
-                hands,
-            });
+        if let Err(cause) = all_there(&hands, tags.hand_count()) {
+            return Err(TagsGatherFault { cause, tags, hands });
         }
         Ok(tags.close(hands))
     }

@@ -10,7 +10,7 @@ ghost use Rattle.tag_sets.specs.Resizing.{AreUsed, AreUnused, AreWaiting, IsOutO
 use crate::hand::Hand;
 use crate::tags::Tags;
 use std::alloc::Global;
-use step_ledger::least_missing;
+use step_ledger::{GatherCause, all_there};
 use tag_layout::MAX_DEPTH;
 use tag_queue::ResizeCause;
 
@@ -75,7 +75,7 @@ impl<R: Copy> Tags<R> {
             (IsRefusedFor self hands.old.items total) }
         ensures balance { HasMap self hands.old.items total → BalanceInBoth hands.old.items }
     {
-        if let Some(number) = least_missing(hands.as_slice(), self.buffers.count) {
+        if let Err(GatherCause::Missing(number)) = all_there(hands, self.hand_count()) {
             return (self, Some(ResizeCause::Missing(number)));
         }
         let reserved = self.reserved_count;

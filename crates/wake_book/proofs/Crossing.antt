@@ -1,4 +1,4 @@
--- Each of the crate's values may go to another thread, and threads may share each.
+-- Each of the crate's values may go to another thread, and threads may share each but a gathering.
 -- A layer above cites the row of a value that it passes, and the field's row of one that a struct of its own has.
 use denote.RattleType.{RattleType}
 use denote.Param.Send.{IsSend, IsSync, sendable}
@@ -15,88 +15,52 @@ use Rattle.wake_book.specs.contracts.groups.WaiterGathering as waiters
 use Rattle.wake_book.specs.contracts.sighting.Sighting as sighting
 use Rattle.wake_book.specs.contracts.sleeping.Announcement as announcement
 
-pub teller_send : IsSend teller.the_row
-teller_send = search (sendable, crosses, seat_send) depth 60
-
 pub teller_field_send : IsSend teller.the_field.row
 teller_field_send = search (sendable, crosses, seat_send) depth 60
-
-pub teller_sync : IsSync teller.the_row
-teller_sync = search (seat_sync, sendable, crosses) depth 60
 
 pub teller_field_sync : IsSync teller.the_field.row
 teller_field_sync = search (seat_sync, sendable, crosses) depth 60
 
-pub book_send : IsSend book.the_row
-book_send = search (table_send, sendable, crosses) depth 60
-
 pub book_field_send : IsSend book.the_field.row
 book_field_send = search (table_send, sendable, crosses) depth 60
-
-pub book_sync : IsSync book.the_row
-book_sync = search (table_sync, sendable, crosses) depth 60
 
 pub book_field_sync : IsSync book.the_field.row
 book_field_sync = search (table_sync, sendable, crosses) depth 60
 
-pub tellers_send : IsSend tellers.the_row
-tellers_send = search (sendable, crosses, seat_send) depth 60
-
 pub tellers_field_send : IsSend tellers.the_field.row
 tellers_field_send = search (sendable, crosses, seat_send) depth 60
-
-pub waiter_send : IsSend waiter.the_row
-waiter_send = search (sendable, crosses, seat_send) depth 60
 
 pub waiter_field_send : IsSend waiter.the_field.row
 waiter_field_send = search (sendable, crosses, seat_send) depth 60
 
-pub waiter_sync : IsSync waiter.the_row
-waiter_sync = search (seat_sync, sendable, crosses) depth 60
+pub waiter_send : IsSend waiter.the_row
+waiter_send = search (waiter_field_send, sendable, crosses) depth 60
 
 pub waiter_field_sync : IsSync waiter.the_field.row
 waiter_field_sync = search (seat_sync, sendable, crosses) depth 60
 
-pub groups_send : IsSend groups.the_row
-groups_send = search (table_send, sendable, crosses) depth 60
-
 pub groups_field_send : IsSend groups.the_field.row
 groups_field_send = search (table_send, sendable, crosses) depth 60
-
-pub groups_sync : IsSync groups.the_row
-groups_sync = search (table_sync, sendable, crosses) depth 60
 
 pub groups_field_sync : IsSync groups.the_field.row
 groups_field_sync = search (table_sync, sendable, crosses) depth 60
 
-pub waiters_send : IsSend waiters.the_row
-waiters_send = search (sendable, crosses, seat_send) depth 60
+pub groups_sync : IsSync groups.the_row
+groups_sync = search (table_sync, sendable, crosses) depth 60
 
 pub waiters_field_send : IsSend waiters.the_field.row
 waiters_field_send = search (sendable, crosses, seat_send) depth 60
 
 -- a sighting has no bytes, whatever it was beside
-pub sighting_send : (T : RattleType) → IsSend (sighting.the_row T)
-sighting_send T = search (sendable, crosses) depth 60
-
 pub sighting_field_send : (T : RattleType) → IsSend (sighting.the_field T).row
 sighting_field_send T = search (sendable, crosses) depth 60
-
-pub sighting_sync : (T : RattleType) → IsSync (sighting.the_row T)
-sighting_sync T = search (sendable, crosses) depth 60
 
 pub sighting_field_sync : (T : RattleType) → IsSync (sighting.the_field T).row
 sighting_field_sync T = search (sendable, crosses) depth 60
 
 -- nor has an announcement
-pub announcement_send : (T : RattleType) → IsSend (announcement.the_row T)
-announcement_send T = search (sendable, crosses) depth 60
-
 pub announcement_field_send : (T : RattleType) → IsSend (announcement.the_field T).row
 announcement_field_send T = search (sendable, crosses) depth 60
-
-pub announcement_sync : (T : RattleType) → IsSync (announcement.the_row T)
-announcement_sync T = search (sendable, crosses) depth 60
 
 pub announcement_field_sync : (T : RattleType) → IsSync (announcement.the_field T).row
 announcement_field_sync T = search (sendable, crosses) depth 60

@@ -21,6 +21,15 @@ fn find_same_number<R>(hands: &[Hand<R>]) -> Option<(usize, usize)>
     None
 }
 
+impl<R> Tags<R> {
+    /// Returns the number of hands, 1 to 64.
+    pub(crate) fn hand_count(&self) -> u32
+        ensures { result ≡ hands_of self.now }
+    {
+        self.buffers.count
+    }
+}
+
 impl<R: Copy> Tags<R> {
     /// Establishes that there are at most as many hands as the tags were opened for, by one comparison.
     pub(crate) fn assert_hand_count(&self, mut hands: Vec<Hand<R>>) -> Vec<Hand<R>>
@@ -28,7 +37,7 @@ impl<R: Copy> Tags<R> {
         ensures same { result ≡ hands }
         ensures few { length result.items ≤ hands_of self.now }
     {
-        if hands.len() <= self.buffers.count as usize {
+        if hands.len() <= self.hand_count() as usize {
             return hands;
         }
         // More hands than numbers: two would have the same number, and `meet` shows that they differ.

@@ -1,15 +1,13 @@
 -- The last agent's record goes in front of those gathered, so on the way back it is the first to be returned.
-use Rattle.std.proofs.Common.{rules, ◌≡◌, List, [], ◌++◌, All, refl, sym, ap, ◌∙◌, subst}
+use Rattle.std.proofs.Common.{rules, ◌≡◌, List, [], ◌++◌, refl, sym, ap, ◌∙◌, subst}
 use lib.ListN.{get_elem?}
 use Rattle.step_ledger.specs.Gather.{HasAll}
 use Rattle.tag_core.specs.declared.record.Record.{Record}
-use Rattle.tag_core.specs.declared.caller.Caller.{Caller}
-use Rattle.tag_core.specs.Callers.{IsCallerOf, IsUnchanged, record_of}
+use Rattle.tag_core.specs.Callers.{IsCallerOf, record_of}
 use Rattle.tag_core.specs.Gathering.{gathered, numbers}
-use Rattle.step_ledger.proofs.Turned.{all_front, all_last}
 use Rattle.tag_queue.specs.declared.agent.Agent.{Agent}
 use Rattle.tag_queue.specs.Agents.{IsAgentOf, caller_of, records_of, agents_of}
-use Rattle.tag_queue.proofs.Unchanged.{last_before, agent_same, all_pushed, unchanged-back}
+use Rattle.tag_queue.proofs.Unchanged.{last_before, last_own, front_own, lent_back, all_pushed, unchanged-back}
 use Rattle.tag_queue.proofs.uses.+settle_rest.Goals as goal
 
 pub settle-requires-clause-all : goal.settle-requires-clause-all
@@ -20,30 +18,27 @@ settle-requires-clause-all g t c =
     c.requires.every
 
 pub lend-lender-requires-clause-caller : goal.lend-lender-requires-clause-caller
-lend-lender-requires-clause-caller g t c =
-    let P : Agent g.row.R.Denot → Type 0 = IsAgentOf c.args.queue.now in
-    (all_last P c.pop.new.self.items c.in-Some.last (subst (All P) c.in-Some.ensures.items c.requires.own)).0
+lend-lender-requires-clause-caller g t c = (last_own c.args.queue.now _ _ _ c.in-Some.ensures.items c.requires.own).0
 
 pub settle_rest-loans-requires : goal.settle_rest-loans-requires
 settle_rest-loans-requires g t c κs within =
-    let R = g.row.R.Denot in let P : Agent R → Type 0 = IsAgentOf c.args.queue.now in
+    let R = g.row.R.Denot in let queue = c.args.queue.now in
     let front : List (Agent R) = c.pop.new.self.items in let last = c.in-Some.last in
-    let rs : List (Record R) = gathered c.args.all in let came = c.lend-lender.ensures.gathered in
-    let own = subst (All P) c.in-Some.ensures.items c.requires.own in (
+    let rs : List (Record R) = gathered c.args.all in let came = c.lend-lender.ensures.gathered in (
       search rules,
       (
         within,
         (
-          all_front P front last own,
+          front_own queue _ _ _ c.in-Some.ensures.items c.requires.own,
           (
             c.lend-lender.ensures.map,
             (
               (
                 record_of (caller_of last),
                 ap (λ (z : List (Record R)). get_elem? z 0) came,
-                (all_last P front last own).0.1,
+                (last_own queue _ _ _ c.in-Some.ensures.items c.requires.own).0.1,
               ),
-              subst (λ (z : List (Record R)). HasAll (numbers z) (agents_of c.args.queue.now))
+              subst (λ (z : List (Record R)). HasAll (numbers z) (agents_of queue))
                   (ap (λ (z : List (Agent R)). records_of z ++ rs) c.in-Some.ensures.items
                   ∙ last_before front last rs
                   ∙ ap (λ (z : List (Record R)). records_of front ++ z) (sym came)) c.requires.every,
@@ -55,23 +50,16 @@ settle_rest-loans-requires g t c κs within =
 
 pub give_back-caller-requires-clause-caller : goal.give_back-caller-requires-clause-caller
 give_back-caller-requires-clause-caller g t c =
-    let R = g.row.R.Denot in let P : Agent R → Type 0 = IsAgentOf c.args.queue.now in
     subst (IsCallerOf c.args.queue.now.map) (sym c.lend-lender.ensures.lender)
-    (all_last P c.pop.new.self.items c.in-Some.last (subst (All P) c.in-Some.ensures.items c.requires.own)).0
+    (last_own c.args.queue.now _ _ _ c.in-Some.ensures.items c.requires.own).0
 
 pub returns-clause-own : goal.returns-clause-own
-returns-clause-own g t c =
-    let P : Agent g.row.R.Denot → Type 0 = IsAgentOf c.args.queue.now in
-    let mine = all_last P c.pop.new.self.items c.in-Some.last (subst (All P) c.in-Some.ensures.items c.requires.own) in
-    all_pushed P _ _ _ c.push_reserved.ensures.items c.settle_rest-loans.ensures.own
+returns-clause-own g t c = let mine = last_own c.args.queue.now _ _ _ c.in-Some.ensures.items c.requires.own in
+    all_pushed (IsAgentOf c.args.queue.now) _ _ _ c.push_reserved.ensures.items c.settle_rest-loans.ensures.own
     (c.give_back-caller.ensures.caller, mine.1, mine.2)
 
 pub returns-clause-unchanged : goal.returns-clause-unchanged
 returns-clause-unchanged g t c =
-    unchanged-back c.args.agents.now.items c.pop.new.self.items _ _ c.in-Some.last _ c.in-Some.ensures.items
-    c.push_reserved.ensures.items
+    unchanged-back _ _ _ _ _ _ c.in-Some.ensures.items c.push_reserved.ensures.items
     c.settle_rest-loans.ensures.unchanged
-    (agent_same c.in-Some.last _
-    (subst (λ (z : Caller g.row.R.Denot). IsUnchanged z c.give_back-caller.result) c.lend-lender.ensures.lender
-    c.give_back-caller.ensures.unchanged)
-    (refl, (refl, refl)))
+    (lent_back c.in-Some.last _ c.lend-lender.ensures.lender c.give_back-caller.ensures.unchanged (refl, (refl, refl)))

@@ -1,64 +1,48 @@
 -- The agents' records and wait groups are unchanged, so the cause that is found holds of the agents passed in.
 use Rattle.std.proofs.Common.{arith, List, sym, ap, ◌∙◌}
 use Rattle.tag_queue.specs.declared.agent.Agent.{Agent}
-use Rattle.tag_queue.specs.Agents.{shape_of}
 use Rattle.tag_queue.specs.Resizing.{standing_count}
-use Rattle.tag_queue.proofs.Unchanged.{counted, balanced, unchanged-standing}
+use Rattle.tag_queue.proofs.Unchanged.{counted, unchanged-standing}
 use Rattle.tag_queue.proofs.queue.Queue.busy.Goals.{then-totals-ne0-via-then-totals-ne0, then-totals-ne0-via-else-totals-ne0+then-totals-ne0-2}
 use Rattle.tag_queue.proofs.queue.Queue.busy.Goals as goal
 
 pub returns-then-totals-ne0-clause-cause : goal.returns-then-totals-ne0-clause-cause
 returns-then-totals-ne0-clause-cause g c =
-    let R = g.row.R.Denot in let s = c.settle-totals.ensures in
-    let olds : List (Agent R) = c.args.agents.now.items in
-    let news : List (Agent R) = c.settle-totals.new.agents.items in
-    let were = counted (shape_of c.args.self.now) olds news c.settle-totals.result s.unchanged s.settled in (
-      were.0,
-      were.1,
+    let settle = c.settle-totals.ensures in let were = counted settle.unchanged settle.settled in (
+      were.held,
+      were.posted,
       λ none. elim c.then-totals-ne0.branch [
-        | then-totals-ne0-via-then-totals-ne0 w ↦ w.if-totals-ne0.true (were.0 ∙ none.0)
-        | then-totals-ne0-via-else-totals-ne0+then-totals-ne0-2 w ↦ w.if-totals-ne0-2.true (were.1 ∙ none.1)
+        | then-totals-ne0-via-then-totals-ne0 w ↦ w.if-totals-ne0.true (were.held ∙ none.0)
+        | then-totals-ne0-via-else-totals-ne0+then-totals-ne0-2 w ↦ w.if-totals-ne0-2.true (were.posted ∙ none.1)
       ],
     )
 
 pub returns-then-waiting-ne0-clause-cause : goal.returns-then-waiting-ne0-clause-cause
 returns-then-waiting-ne0-clause-cause g c =
-    let R = g.row.R.Denot in let s = c.settle-totals.ensures in
-    let olds : List (Agent R) = c.args.agents.now.items in
-    let news : List (Agent R) = c.settle-totals.new.agents.items in
-    let were = counted (shape_of c.args.self.now) olds news c.settle-totals.result s.unchanged s.settled in
+    let settle = c.settle-totals.ensures in let were = counted settle.unchanged settle.settled in
     let count = c.count_standing-waiting.ensures
-    ∙ ap (λ (z : List (Agent R)). standing_count z) c.as_slice.ensures.value
-    ∙ unchanged-standing olds news s.unchanged in let some = c.if-waiting-ne0.true in (
-      (sym were.0 ∙ c.if-totals-ne0.false, sym were.1 ∙ c.if-totals-ne0-2.false),
+    ∙ ap (λ (z : List (Agent g.row.R.Denot)). standing_count z) c.as_slice.ensures.value
+    ∙ unchanged-standing _ _ settle.unchanged in let some = c.if-waiting-ne0.true in (
+      (sym were.held ∙ c.if-totals-ne0.false, sym were.posted ∙ c.if-totals-ne0-2.false),
       count,
       omega arith,
     )
 
 pub returns-clause-cause : goal.returns-clause-cause
 returns-clause-cause g c =
-    let R = g.row.R.Denot in let s = c.settle-totals.ensures in
-    let olds : List (Agent R) = c.args.agents.now.items in
-    let news : List (Agent R) = c.settle-totals.new.agents.items in
-    let were = counted (shape_of c.args.self.now) olds news c.settle-totals.result s.unchanged s.settled in
+    let settle = c.settle-totals.ensures in let were = counted settle.unchanged settle.settled in
     let count = c.count_standing-waiting.ensures
-    ∙ ap (λ (z : List (Agent R)). standing_count z) c.as_slice.ensures.value
-    ∙ unchanged-standing olds news s.unchanged in (
-      (sym were.0 ∙ c.if-totals-ne0.false, sym were.1 ∙ c.if-totals-ne0-2.false),
+    ∙ ap (λ (z : List (Agent g.row.R.Denot)). standing_count z) c.as_slice.ensures.value
+    ∙ unchanged-standing _ _ settle.unchanged in (
+      (sym were.held ∙ c.if-totals-ne0.false, sym were.posted ∙ c.if-totals-ne0-2.false),
       sym count ∙ c.if-waiting-ne0.false,
     )
 
 pub returns-then-totals-ne0-clause-balance : goal.returns-then-totals-ne0-clause-balance
-returns-then-totals-ne0-clause-balance g c =
-    balanced (shape_of c.args.self.now) c.args.agents.now.items c.settle-totals.new.agents.items
-    c.settle-totals.result c.settle-totals.ensures.unchanged c.settle-totals.ensures.settled
+returns-then-totals-ne0-clause-balance g c = (counted c.settle-totals.ensures.unchanged c.settle-totals.ensures.settled).balance
 
 pub returns-then-waiting-ne0-clause-balance : goal.returns-then-waiting-ne0-clause-balance
-returns-then-waiting-ne0-clause-balance g c =
-    balanced (shape_of c.args.self.now) c.args.agents.now.items c.settle-totals.new.agents.items
-    c.settle-totals.result c.settle-totals.ensures.unchanged c.settle-totals.ensures.settled
+returns-then-waiting-ne0-clause-balance g c = (counted c.settle-totals.ensures.unchanged c.settle-totals.ensures.settled).balance
 
 pub returns-clause-balance : goal.returns-clause-balance
-returns-clause-balance g c =
-    balanced (shape_of c.args.self.now) c.args.agents.now.items c.settle-totals.new.agents.items
-    c.settle-totals.result c.settle-totals.ensures.unchanged c.settle-totals.ensures.settled
+returns-clause-balance g c = (counted c.settle-totals.ensures.unchanged c.settle-totals.ensures.settled).balance

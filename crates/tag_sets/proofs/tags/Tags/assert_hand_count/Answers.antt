@@ -13,7 +13,7 @@ unreachable-requires g c =
     let few = few_hands c.args.self.now c.args.hands.items c.requires
     (subst (λ (z : List (Hand g.row.R.Denot)). AreDistinct (numbers_of z)) c.as_slice.ensures.value
     c.in_default.ensures) in
-    let many = c.if-len-self.false in let long = c.len.ensures in let as_many = c.args.self.now.as_many.1 in omega arith
+    let many = c.if-len-hand_count.false in let long = c.len.ensures in omega arith
 
 pub meet-requires : goal.meet-requires
 meet-requires g c =
