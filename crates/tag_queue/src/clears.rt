@@ -168,6 +168,7 @@ impl<R: Copy> Queue<R> {
         ensures woken { W.woken result ≡ grants.woken }
         ensures tells { (before : Agent R) → AreGrantsOf grants (group_steps before) (group_steps agent.old)
             → W.tells result (waiter_of before) (waiter_of agent.new) }
+        ensures passes { W.passes grants (waiter_of agent.old) (waiter_of agent.new) }
         ensures none { grants.woken ≡ 0 → waiter_of agent.new ≡ waiter_of agent.old }
         ensures steps { group_steps agent.new ≡ group_steps agent.old }
         ensures stands { StandsAsBefore (waiter_of agent.old) (waiter_of agent.new) }

@@ -79,6 +79,7 @@ impl<R: Copy> Tags<R> {
         ensures woken { W.woken result ≡ grants.woken }
         ensures tells { (before : Hand R) → AreGrantsOf grants (group_steps before) (group_steps hand.old)
             → W.tells result (waiter_of before) (waiter_of hand.new) }
+        ensures passes { W.passes grants (waiter_of hand.old) (waiter_of hand.new) }
         ensures none { grants.woken ≡ 0 → waiter_of hand.new ≡ waiter_of hand.old }
         ensures steps { group_steps hand.new ≡ group_steps hand.old }
         ensures counts { teller_of (agent_of hand.new Ordinary) ≡ teller_of (agent_of hand.old Ordinary) }

@@ -1,6 +1,8 @@
 //! What becomes of the wakeups that a call granted: who wakes the sleepers, and what the call answers.
+ghost use Rattle.std.specs.Prelude.{◌≡◌, ◌≤◌};
 ghost use Rattle.wake_book.specs.Grants.{AreGrantsOf, WokenBy};
-ghost use Rattle.wake_book.specs.Groups.{RingsGranted, steps_of};
+ghost use Rattle.wake_book.specs.Groups.{RingsGranted, rung_of, steps_of};
+ghost use Rattle.wake_book.specs.declared.rings.Rung.TheVariants.{Granted};
 
 use crate::grants::{Grants, NO_GRANTS};
 use crate::groups::{Groups, Waiter};
@@ -8,6 +10,7 @@ use crate::groups::{Groups, Waiter};
 /// A way to pass on the wakeups that a call granted.
 pub trait Waking {
     ghost use Rattle.std.specs.Prelude.{◌≡◌, ℕ};
+    ghost use Rattle.wake_book.specs.declared.grants.Grants.{Grants};
     ghost use Rattle.wake_book.specs.declared.grants.TheConstants.{NO_GRANTS};
     ghost use Rattle.wake_book.specs.declared.groups.Waiter.{Waiter};
     ghost use Rattle.wake_book.specs.Grants.{AreGrantsOf};
@@ -22,6 +25,9 @@ pub trait Waking {
     // The answer is about the grants that the waiter's steps made between these two moments.
     ghost tells: { Self.Answer → Waiter → Waiter → Type 0 };
 
+    // What was done about grants that were passed on between these two moments of the waiter.
+    ghost passes: { Grants → Waiter → Waiter → Type 0 };
+
     /// Returns the answer of a call that granted nobody a wakeup.
     fn nobody() -> Self::Answer
         ensures woken { woken result ≡ 0 }
@@ -32,6 +38,7 @@ pub trait Waking {
         requires groups { IsWaiterOf groups.now waiter.old }
         ensures groups { IsWaiterOf groups.now waiter.new }
         ensures woken { woken result ≡ grants.woken }
+        ensures passes { passes grants waiter.old waiter.new }
         ensures none { grants.woken ≡ 0 → waiter.new ≡ waiter.old }
         ensures steps { steps_of waiter.new ≡ steps_of waiter.old }
         ensures stands { StandsAsBefore waiter.old waiter.new }
@@ -48,6 +55,8 @@ impl Waking for Ring {
     ghost woken = { λ woken. woken };
 
     ghost tells = { λ woken. RingsGranted };
+
+    ghost passes = { λ grants old new. 1 ≤ grants.woken → rung_of new ≡ Granted grants };
 
     #[inline]
     fn nobody() -> u32 {
@@ -74,6 +83,8 @@ impl Waking for Report {
 
     ghost tells = { λ grants old new. AreGrantsOf grants (steps_of old) (steps_of new) };
 
+    ghost passes = { λ grants old new. new ≡ old };
+
     #[inline]
     fn nobody() -> Grants {
         NO_GRANTS
@@ -95,6 +106,8 @@ impl Waking for Count {
     ghost woken = { λ woken. woken };
 
     ghost tells = { λ woken old new. WokenBy woken (steps_of old) (steps_of new) };
+
+    ghost passes = { λ grants old new. new ≡ old };
 
     #[inline]
     fn nobody() -> u32 {
