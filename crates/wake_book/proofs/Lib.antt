@@ -12,3 +12,4 @@ pub mod GroupsEnding
 pub mod Crossing
 pub mod Waiters
 pub mod Leaving
+pub mod Rest

@@ -9,3 +9,4 @@ pub mod Walks
 pub mod Grants
 pub mod Balance
 pub mod Groups
+pub mod Rest

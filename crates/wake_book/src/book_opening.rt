@@ -1,7 +1,8 @@
 //! Opens a book with its tellers.
-ghost use Rattle.std.specs.Prelude.{◌≡◌, ◌^◌, ◌<◌, ◌≤◌, ◌↔◌, [], All, IfOk};
-ghost use Rattle.step_ledger.specs.Records.{fresh_record, still_to_come};
+ghost use Rattle.std.specs.Prelude.{◌≡◌, ◌^◌, ◌<◌, ◌≤◌, ◌↔◌, All, IfOk};
+ghost use Rattle.step_ledger.specs.Records.{fresh_record};
 ghost use Rattle.wake_book.specs.Book.{IsTellerOf, record_of, tellers_of, IsOpenBook, MiscountsBook};
+ghost use Rattle.wake_book.specs.Rest.{HasRestFrom};
 
 use crate::book::{BOOK_WORDS, Book, Limits, Teller};
 use crate::fault::BookFault;
@@ -71,7 +72,7 @@ impl MemberSource for Book {
     ghost count_of = { λ book. tellers_of book };
 
     ghost has_rest = { λ book number rest. (rest.table_id ≡ book.table.shared.table_id)
-        × (rest.me ≡ (still_to_come number (tellers_of book), [])) };
+        × HasRestFrom number (tellers_of book) rest.me };
 
     ghost is_new = { λ book number teller. IsTellerOf book teller × (record_of teller ≡ fresh_record number) };
 

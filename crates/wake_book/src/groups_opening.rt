@@ -1,7 +1,8 @@
 //! Opens wait groups with their waiters.
-ghost use Rattle.std.specs.Prelude.{◌≡◌, ◌≢◌, ◌<◌, ◌≤◌, ◌↔◌, [], All, IfOk};
-ghost use Rattle.step_ledger.specs.Records.{fresh_record, still_to_come};
+ghost use Rattle.std.specs.Prelude.{◌≡◌, ◌≢◌, ◌<◌, ◌≤◌, ◌↔◌, All, IfOk};
+ghost use Rattle.step_ledger.specs.Records.{fresh_record};
 ghost use Rattle.wake_book.specs.Groups.{IsWaiterOf, IsNew, record_of, waiters_of, AreOpenGroups, MiscountsGroups};
+ghost use Rattle.wake_book.specs.Rest.{HasRestFrom};
 
 use crate::fault::BookFault;
 use crate::groups::{GROUP_WORDS, Groups, Waiter};
@@ -69,7 +70,7 @@ impl MemberSource for Groups {
     ghost count_of = { λ groups. waiters_of groups };
 
     ghost has_rest = { λ groups number rest. (rest.table_id ≡ groups.table.shared.table_id)
-        × (rest.me ≡ (still_to_come number (waiters_of groups), [])) };
+        × HasRestFrom number (waiters_of groups) rest.me };
 
     ghost is_new = { λ groups number waiter. IsWaiterOf groups waiter × IsNew waiter
         × (record_of waiter ≡ fresh_record number) };

@@ -1,10 +1,9 @@
 -- The first of the records left goes to the new waiter, and the others stay on the seat.
 use Rattle.std.proofs.Common.{arith, refl, ap, ◌∙◌}
-use Rattle.step_ledger.specs.Records.{fresh_record, steps_of}
 use Rattle.step_ledger.proofs.Members.{splits_next}
-use Rattle.step_ledger.proofs.Fresh.{next_first, next_others}
 use Rattle.wake_book.specs.Waits.{opening_words, words_after, MayStep}
 use Rattle.wake_book.specs.Groups.{waiters_of}
+use Rattle.wake_book.proofs.Rest.{next_member, still_rest}
 use Rattle.wake_book.proofs.groups_opening.GroupsMemberSource.next_member.Goals as goal
 
 pub split_seat-seat-requires : goal.split_seat-seat-requires
@@ -17,20 +16,12 @@ split_seat-seat-requires c = let b = c.args.self.now in let key = b.table.shared
     )
 
 pub returns-clause-member : goal.returns-clause-member
-returns-clause-member c = let n = c.args.number in let now = c.split_seat-seat.ensures in (
+returns-clause-member c = let now = c.split_seat-seat.ensures in (
   now.3 ∙ c.requires.rest.0,
   (refl, refl, c.of.ensures),
-  ap (λ z. record { number = n; steps = steps_of z.0 }) now.4
-      ∙ ap (λ z. record { number = n; steps = steps_of z }) (next_first fresh_record n (waiters_of c.args.self.now)
-      c.requires.comes c.args.rest.now.me.0 (ap (λ x. x.0) c.requires.rest.1)),
+  next_member c.requires.comes c.requires.rest.1 now.4,
 )
 
 pub returns-clause-rest : goal.returns-clause-rest
-returns-clause-rest c = let now = c.split_seat-seat.ensures in (
-  now.0 ∙ c.requires.rest.0,
-  now.2 ∙ (λ j. (
-    next_others fresh_record c.args.number (waiters_of c.args.self.now) c.requires.comes c.args.rest.now.me.0
-        (ap (λ x. x.0) c.requires.rest.1) j,
-    ap (λ x. x.1) c.requires.rest.1 j,
-  )),
-)
+returns-clause-rest c = let now = c.split_seat-seat.ensures in
+    (now.0 ∙ c.requires.rest.0, still_rest c.requires.comes c.requires.rest.1 now.2)
