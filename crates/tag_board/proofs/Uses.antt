@@ -27,9 +27,9 @@ pub use Rattle.tag_core.specs.declared.shape.Shape.{Shape}
 pub use Rattle.tag_core.specs.declared.step.Step.{Step}
 pub use Rattle.tag_core.specs.declared.step.Step.TheVariants.{Word}
 pub use Rattle.tag_core.specs.declared.word_step.WordStep.TheVariants.{Give, Look, LookAside}
-pub use Rattle.tag_search.proofs.AloneCallers.{own_found, own_post, own_put, own_take, own_took, place_small, state_after}
+pub use Rattle.tag_search.proofs.AloneCallers.{own_found, place_small, state_after}
 pub use Rattle.tag_search.proofs.Pools.{and_false, and_true, or_false, pool_ext}
-pub use Rattle.tag_search.specs.Alone.{is_posted, IsAlone, pool_left}
+pub use Rattle.tag_search.specs.Alone.{IsAlone}
 pub use Rattle.tag_search.specs.AloneLaws.{cells_left, own_after, words_left}
 pub use Rattle.tag_search.specs.Gains.{count_of, count_of_run}
 pub use Rattle.tag_search.specs.Pool.{free_at, is_busy, Pool, pool_of}
@@ -63,10 +63,10 @@ pub use Rattle.tag_sets.specs.declared.kind.Kind.{Kind}
 pub use Rattle.tag_sets.specs.declared.kind.Kind.TheVariants.{Ordinary, Reserved}
 pub use Rattle.tag_sets.specs.declared.shown.Shown.{Shown}
 pub use Rattle.tag_sets.specs.declared.tags.Tags.{Tags}
-pub use Rattle.tag_board.specs.AloneSets.{AloneBatch, AloneClears, AloneClearsList, AloneDumps, AloneGets, AloneListsBusy, AlonePosts, AloneResizes, AloneSet, AloneSets, AloneShows, AloneTakes, AreUntouched, ChangesSet, ChangesSetOf, Chooses, ChoosesRun, Does, first_in, give_back, is_aside_in, is_busy_in, is_busy_tag, is_named, plain, post_in, put_back, resized, shallow, split_in, take_in, untouched}
+pub use Rattle.tag_board.specs.AloneSets.{AloneBatch, AloneClears, AloneClearsList, AloneDumps, AloneGets, AloneListsBusy, AlonePosts, AloneResizes, AloneSet, AloneSets, AloneShows, AloneTakes, AreUntouched, Chooses, ChoosesRun, Does, give_back, is_aside_in, is_busy_in, is_busy_tag, is_named, plain, post_in, put_back, resized, set_left, sets_left, shallow, split_in, take_in, untouched}
 pub use Rattle.tag_board.specs.Boards.{alone_sets_of, searchers_of, state_of, waiters_of}
 pub use Rattle.tag_board.specs.Looks.{depth_of, Dumps, ListsBusy}
-pub use Rattle.tag_board.specs.Parts.{alone_set_of, alone_sets_in, alone_sets_of_all, AreOrdered, has, holds, part_of, record_in, searcher_of, searchers_in, searchers_of_all, state_of_all, terms_of, waiter_of, waiters_of_all}
+pub use Rattle.tag_board.specs.Parts.{AreOrdered, has, holds, part_of, record_in, searcher_of, searchers_in, searchers_of_all, state_of_all, terms_of, waiter_of, waiters_of_all}
 pub use Rattle.tag_board.specs.Refusals.{AreHeldOnce, AreOrdinary, IsSpent, Miscounts, RefusesBatch, RefusesGet, RefusesLeave, RefusesList, RefusesShallow, RefusesTag, RefusesWait}
 pub use Rattle.tag_board.specs.Replays.{Answers, Changes, cleared, HoldsAll, is_answer, is_in_list, is_in_run, IsOf, joined, left, left as parted, NobodyElseHolds, NobodyHolds, standing, Takes, Wins, won, won_more}
 pub use Rattle.tag_board.specs.Searches.{CountsFound, FindsRun, FindsTag, GivesTags, ListsFound, nobody, PacksFound, plainly, PostsTag, PutsTag, ResizesSets, Searcher, Searchers, shallowly, TriesTag}
