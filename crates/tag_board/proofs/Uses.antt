@@ -1,6 +1,6 @@
 -- The names that several proofs use, of the library, the crates below and the definitions here.
 pub use Rattle.std.proofs.Math.Logic.{∥∥₁_elim}
-pub use Rattle.std.proofs.lemmas.Bool.{and_from, and_parts, both_ways, cases_Bool, cases_eq, cases_lt, false_from_ne_true, false≢true, le-leb, le-ltb, leb-true, lt-ltb, ltb-false, ltb-true, not-true, not_from_false, or_cases, or_left, or_right}
+pub use Rattle.std.proofs.lemmas.Bool.{and_from, and_parts, both_ways, cases_Bool, cases_lt, false_from_ne_true, false≢true, le-leb, le-ltb, leb-true, lt-ltb, ltb-false, ltb-true, not-true, not_from_false, or_cases, or_left, or_right}
 pub use Rattle.std.proofs.lemmas.List.{append-nil, drop_all, get_or-map, get_or_past, length-map, map-set, set-get_or, take_at}
 pub use Rattle.std.proofs.lemmas.Nat.{one_shl, pow_pos}
 pub use Rattle.std.proofs.lemmas.Nat.Bits.{bit_at-lt, bit_at-zero, bit_at_above}
@@ -15,8 +15,8 @@ pub use Rattle.sums.proofs.Laws.{count_below-same, le-sum_below, one_if-bit, one
 pub use Rattle.sums.specs.Below.{count_below, one_if, sum_below}
 pub use Rattle.step_ledger.specs.Gather.{HasAll}
 pub use Rattle.step_ledger.specs.History.{total}
-pub use Rattle.tag_layout.proofs.PlaceFacts.{place_of-tag_at, word_bits-le, word_of-below, word_of-tag_at}
-pub use Rattle.tag_layout.specs.Layout.{HasShift, Layout, place_of, tag_at, word_bits, word_depth, word_of, words}
+pub use Rattle.tag_layout.proofs.PlaceFacts.{word_bits-le, word_of-below}
+pub use Rattle.tag_layout.specs.Layout.{HasShift, Layout, place_of, word_bits, word_depth, word_of, words}
 pub use Rattle.tag_core.proofs.Entries.{all_at, entry, entry_or}
 pub use Rattle.tag_core.specs.Callers.{record_of}
 pub use Rattle.tag_core.specs.Records.{record_after, tag_bit}
@@ -63,7 +63,7 @@ pub use Rattle.tag_sets.specs.declared.kind.Kind.{Kind}
 pub use Rattle.tag_sets.specs.declared.kind.Kind.TheVariants.{Ordinary, Reserved}
 pub use Rattle.tag_sets.specs.declared.shown.Shown.{Shown}
 pub use Rattle.tag_sets.specs.declared.tags.Tags.{Tags}
-pub use Rattle.tag_board.specs.AloneSets.{AloneBatch, AloneClears, AloneClearsList, AloneDumps, AloneGets, AloneListsBusy, AlonePosts, AloneResizes, AloneSet, AloneSets, AloneShows, AloneTakes, AreUntouched, Chooses, ChoosesRun, Does, give_back, is_aside_in, is_busy_in, is_busy_tag, is_named, plain, post_in, put_back, resized, set_left, sets_left, shallow, split_in, take_in, untouched}
+pub use Rattle.tag_board.specs.AloneSets.{AloneBatch, AloneClears, AloneClearsList, AloneDumps, AloneGets, AloneListsBusy, AlonePosts, AloneResizes, AloneSet, AloneSets, AloneShows, AloneTakes, AreUntouched, Chooses, ChoosesRun, Does, give_back, is_aside_in, is_busy_in, is_busy_tag, is_named, plain, post_in, put_back, set_left, sets_left, shallow, take_in, untouched}
 pub use Rattle.tag_board.specs.Boards.{alone_sets_of, searchers_of, state_of, waiters_of}
 pub use Rattle.tag_board.specs.Looks.{depth_of, Dumps, ListsBusy}
 pub use Rattle.tag_board.specs.Parts.{AreOrdered, has, holds, part_of, record_in, searcher_of, searchers_in, searchers_of_all, state_of_all, terms_of, waiter_of, waiters_of_all}
