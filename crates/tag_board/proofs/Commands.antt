@@ -1,12 +1,12 @@
 -- What a call on one hand is for the board.
 use Rattle.std.proofs.Common.{◌≡◌, ◌≢◌, ℕ, Bool, false, List, length, set, All, Result, Ok, Err, IfOk, OnErr, sym, ap, ◌∙◌, subst, length-set, arith}
-use Rattle.tag_board.proofs.Uses.{dite, ℕ_discrete, TagFault, Hand, Kind, Tags, hands_of, IsHandOf, number_of, total_of, reserved_of, HoldsMore, Board, AloneSets, Does, state_of, alone_sets_of, waiters_of, searchers_of, AreOrdered, state_of_all, sets_left, waiter_of, newcomer, searchers_in, nobody, waiters_of_all, searchers_of_all, Searchers, Answers, Changes, HoldsAll, NobodyHolds, NobodyElseHolds, Wins, Part, State, Waiter, Moves, MovesIf}
+use Rattle.tag_board.proofs.Uses.{alone_sets_of_all, dite, ℕ_discrete, TagFault, Hand, Kind, Tags, hands_of, IsHandOf, number_of, total_of, reserved_of, HoldsMore, Board, AloneSets, Does, state_of, alone_sets_of, waiters_of, searchers_of, AreOrdered, state_of_all, sets_left, waiter_of, newcomer, searchers_in, nobody, waiters_of_all, searchers_of_all, Searchers, Answers, Changes, HoldsAll, NobodyHolds, NobodyElseHolds, Wins, Part, State, Waiter, Moves, MovesIf}
 use Rattle.std.proofs.lemmas.List.Elements.{All-set}
 use Rattle.tag_board.specs.Boards.{IsAlone}
 use Rattle.tag_board.proofs.Only.{AreOnly, only_hand}
 use Rattle.tag_board.proofs.Holdings.{Names, not_holds}
 use Rattle.tag_board.proofs.Seats.{moved, seen_here}
-use Rattle.tag_board.proofs.AloneCalls.{Decides}
+use Rattle.tag_board.proofs.AloneCalls.{Decides, first_sets}
 pub use Rattle.tag_board.proofs.Naming.{names_answer, names_one}
 pub use Rattle.tag_board.proofs.Effects.{AsBefore, Effect, low_group, none_woken}
 pub use Rattle.tag_board.proofs.Gains.{batch_gains, batch_number, Gained, get_gains, none_around, reserved_gains, shallow_gains}
@@ -18,12 +18,14 @@ pub use Rattle.tag_board.proofs.Verdicts.{answers, IsVerdict, leave_verdict, lis
 -- what a contract sees of a board
 pub record Seen : Type 0 where
   pub state : State
+  pub sets : AloneSets
   pub waiters : ℕ → Waiter
   pub searchers : ℕ → Searchers
 
 abbrev pub seen : Tags ℕ → List (Hand ℕ) → Seen
 seen tags hands = record {
   state = state_of_all tags hands;
+  sets = alone_sets_of_all hands;
   waiters = waiters_of_all hands;
   searchers = searchers_of_all hands;
 }
@@ -31,15 +33,11 @@ seen tags hands = record {
 abbrev pub seen_of : Board → Seen
 seen_of b = seen b.tags b.hands.items
 
--- both sets, as the steps of the first caller determine them
-abbrev pub sets_in : Seen → AloneSets
-sets_in s = sets_left (s.searchers 0)
-
 -- a call on the hand of a caller changed so what a contract sees of the board
 pub record EffectOn (b : Board) (i : ℕ) (change : Part → Part) (alters : AloneSets → AloneSets → Type 0)
     (waits : Waiter → Waiter → Type 0) (works : Searchers → Searchers → Type 0) (after : Seen) : Type 0 where
   pub changes : Changes i change (state_of b) after.state
-  pub alone : IsAlone b → alters (alone_sets_of b) (sets_in after)
+  pub alone : IsAlone b → alters (alone_sets_of b) after.sets
   pub waiters : Moves i waits (waiters_of b) after.waiters
   pub searches : Moves i works (searchers_of b) after.searchers
 
@@ -48,7 +46,7 @@ pub record Replies {A : Type 0} (b : Board) (i : ℕ) (refuses : TagFault → Ty
     (alters : A → AloneSets → AloneSets → Type 0) (waits : A → Waiter → Waiter → Type 0)
     (works : A → Searchers → Searchers → Type 0) (r : Result A TagFault) (after : Seen) : Type 0 where
   pub answers : Answers refuses (λ a. done a after.state) (state_of b) r after.state
-  pub alone : IsAlone b → Does alters (alone_sets_of b) r (sets_in after)
+  pub alone : IsAlone b → Does alters (alone_sets_of b) r after.sets
   pub waiters : MovesIf i waits (waiters_of b) r after.waiters
   pub searches : MovesIf i works (searchers_of b) r after.searchers
 
@@ -97,9 +95,11 @@ module _ (b : Board) {i : ℕ} {old : Hand ℕ} (at : Sits b.hands.items i old) 
           changes = changes b.tags at new change d.part;
           alone = λ one. let low = at.within in let first : i ≡ 0 = omega arith in
               let here = ap now.searchers (sym first) ∙ seen_here searchers_in nobody (seat at new) in
-              decides.sets (searchers_of b 0) (now.searchers 0)
+              subst (λ (v : AloneSets). alone v now.sets) (sym (first_sets b.hands.items))
+              (subst (λ (v : AloneSets). alone (sets_left (searchers_of b 0)) v) (sym (first_sets (set b.hands.items i new)))
+              (decides.sets (searchers_of b 0) (now.searchers 0)
               (subst AreOnly (sym here) (only_hand b.tags new own (sym b.every ∙ one)))
-              (subst (λ (n : ℕ). works (searchers_of b n) (now.searchers n)) first worked.own);
+              (subst (λ (n : ℕ). works (searchers_of b n) (now.searchers n)) first worked.own)));
           waiters = moved waiter_of newcomer at new waits d.waiter;
           searches = worked;
         }
@@ -121,7 +121,7 @@ module _ (b : Board) {i : ℕ} {old : Hand ℕ} (at : Sits b.hands.items i old) 
       replies (Err fault) verdict d e = let same = unmoved b.tags at e in record {
         answers = answers refuses (λ a. done a now.state) (state_of b) now.state (Err fault) verdict tt
             (ap (state_of_all b.tags) same);
-        alone = λ one. ap (λ (hands : List (Hand ℕ)). sets_left (searchers_of_all hands 0)) same;
+        alone = λ one. ap alone_sets_of_all same;
         waiters = ap waiters_of_all same;
         searches = ap searchers_of_all same;
       }

@@ -1,9 +1,9 @@
 -- What a contract sees of a board.
 use Rattle.std.specs.Prelude.{◌≡◌, ℕ, ◌<◌}
 use Rattle.tag_board.specs.declared.board.Board.{Board}
-use Rattle.tag_board.specs.AloneSets.{AloneSets, sets_left}
+use Rattle.tag_board.specs.AloneSets.{AloneSets}
 use Rattle.tag_board.specs.States.{State}
-use Rattle.tag_board.specs.Parts.{state_of_all, waiters_of_all, searchers_of_all}
+use Rattle.tag_board.specs.Parts.{state_of_all, alone_sets_of_all, waiters_of_all, searchers_of_all}
 use Rattle.tag_board.specs.Searches.{Searchers}
 use Rattle.tag_board.specs.Wakeups.{Waiter}
 
@@ -21,7 +21,7 @@ IsAlone board = (state_of board).terms.callers ≡ 1
 
 -- both sets, as the steps of the first caller determine them
 abbrev pub alone_sets_of : Board → AloneSets
-alone_sets_of board = sets_left (searchers_of_all board.hands.items 0)
+alone_sets_of board = alone_sets_of_all board.hands.items
 
 -- each caller as it waits and wakes others
 abbrev pub waiters_of : Board → ℕ → Waiter

@@ -13,6 +13,7 @@ use Rattle.tag_sets.specs.declared.tags.Tags.{Tags}
 use Rattle.tag_sets.specs.Sets.{kind_of, number_in_set}
 use Rattle.tag_sets.specs.Hands.{agent_of, queue_of, layout_of, reserved_of, total_of, least_of, split_of, standing_of, hint_of, number_of}
 use Rattle.tag_sets.specs.Hands.{book_steps, group_steps, wait_index_of}
+use Rattle.tag_board.specs.AloneSets.{AloneSets, sets_left}
 use Rattle.tag_board.specs.Searches.{Searcher, Searchers, nobody}
 use Rattle.tag_board.specs.States.{Terms, Part, State, idle}
 use Rattle.tag_board.specs.Wakeups.{Waiter, newcomer}
@@ -90,3 +91,7 @@ searchers_in hand = λ kind. searcher_of (agent_of hand kind)
 -- each caller as it works on both sets: caller n is the hand at index n
 abbrev pub searchers_of_all : List (Hand ℕ) → ℕ → Searchers
 searchers_of_all hands caller = slice_index_or (map searchers_in hands) caller nobody
+
+-- both sets, as the steps of the first hand determine them
+abbrev pub alone_sets_of_all : List (Hand ℕ) → AloneSets
+alone_sets_of_all hands = slice_index_or (map (λ hand. sets_left (searchers_in hand)) hands) 0 (sets_left nobody)

@@ -3,7 +3,7 @@ use Rattle.std.proofs.Common.{ℕ, List, ◌++◌, drop, ap, sym, ◌∙◌, sub
 use Rattle.tag_board.proofs.Uses.{div_ceil, AloneDumps, PacksFound, state_of, alone_sets_of, searchers_of, Dumps, Moves}
 use Rattle.tag_board.specs.Boards.{IsAlone}
 use Rattle.tag_board.proofs.Lookings.{dump_there, depth_is, filled}
-use Rattle.tag_board.proofs.Commands.{Seen, all_rest, effect_on, seated, sets_in, seen, dump_does, own_here, same_state, sits}
+use Rattle.tag_board.proofs.Commands.{Seen, all_rest, effect_on, seated, seen, dump_does, own_here, same_state, sits}
 use Rattle.tag_board.proofs.AloneCalls as alone
 use Rattle.tag_board.proofs.board.Board.dump.Goals as goal
 
@@ -27,7 +27,7 @@ returns c =
     let whole = filled bytes.items c.dump.new.into d.bytes bytes.len c.dump.result (sym bytes.ok.0) after d.long
     (d.count_is ∙ is ∙ omega arith) in
     let P : List ℕ → Type 0 = λ x. Dumps kind (state_of b) x now.state
-    × (IsAlone b → AloneDumps kind (alone_sets_of b) x (sets_in now))
+    × (IsAlone b → AloneDumps kind (alone_sets_of b) x now.sets)
     × Moves i (PacksFound kind x) (searchers_of b) now.searchers in
     let t = subst P whole (
       record {

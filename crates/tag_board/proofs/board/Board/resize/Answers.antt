@@ -1,10 +1,10 @@
 -- All hands are passed in, so none is missing; the tags in use that a refusal reports are the sums over both sets.
-use Rattle.std.proofs.Common.{◌≡◌, ℕ, ◌≤◌, length, refl, sym, ap, ◌∙◌, arith}
-use Rattle.tag_board.proofs.Uses.{Searchers, searchers_of_all, sets_left}
+use Rattle.std.proofs.Common.{◌≡◌, ℕ, ◌≤◌, length, Ok, refl, sym, ap, ◌∙◌, subst, arith}
+use Rattle.tag_board.proofs.Uses.{alone_sets_of_all, AloneResizes, AloneSets, Searchers, searchers_of_all, sets_left}
 use Rattle.tag_queue.specs.Agents as queue
 use Rattle.tag_board.proofs.Continuing.{order_kept, every_there, world_resized, world_free, waiters_resized, total_kept, world_kept, waiters_kept, numbers_kept, may_resize, refuses}
 use Rattle.tag_board.proofs.Endings.{all_there}
-use Rattle.tag_board.proofs.AloneCalls.{resizes}
+use Rattle.tag_board.proofs.AloneCalls.{first_sets, resizes}
 use Rattle.tag_board.proofs.Reopened.{sets_kept, sets_resized}
 use Rattle.tag_board.proofs.board.Board.resize.Goals as goal
 
@@ -62,13 +62,18 @@ returns-in_default-clause-answers c =
 
 pub returns-in-Ok-clause-alone : goal.returns-in-Ok-clause-alone
 returns-in-Ok-clause-alone c = λ one. let b = c.args.self in let some : 1 ≤ length b.hands.items = omega arith in
-    resizes (length b.hands.items) c.args.total (searchers_of_all b.hands.items)
+    subst (λ (v : AloneSets). AloneResizes c.args.total v (Ok tt) (alone_sets_of_all c.in-Ok.hands.items))
+    (sym (first_sets b.hands.items))
+    (subst (λ (v : AloneSets). AloneResizes c.args.total (sets_left (searchers_of_all b.hands.items 0)) (Ok tt) v)
+    (sym (first_sets c.in-Ok.hands.items))
+    (resizes (length b.hands.items) c.args.total (searchers_of_all b.hands.items)
     (searchers_of_all c.in-Ok.hands.items) some
-    (sets_resized b.tags c.in-Ok.tags b.hands.items c.in-Ok.hands.items c.args.total b.own c.in-Ok.ensures.ok)
+    (sets_resized b.tags c.in-Ok.tags b.hands.items c.in-Ok.hands.items c.args.total b.own c.in-Ok.ensures.ok)))
 
 pub returns-in_default-clause-alone : goal.returns-in_default-clause-alone
-returns-in_default-clause-alone c = λ one. ap (λ (s : ℕ → Searchers). sets_left (s 0))
-    (sets_kept c.args.self.hands.items c.in-Err.field-0.hands.items c.in-Err.ensures.err.1)
+returns-in_default-clause-alone c = λ one. let b = c.args.self in let hands = c.in-Err.field-0.hands.items in
+    first_sets hands ∙ ap (λ (s : ℕ → Searchers). sets_left (s 0))
+    (sets_kept b.hands.items hands c.in-Err.ensures.err.1) ∙ sym (first_sets b.hands.items)
 
 pub returns-in-Ok-clause-waiters : goal.returns-in-Ok-clause-waiters
 returns-in-Ok-clause-waiters c = let b = c.args.self in let is = c.in-Ok.ensures.ok in

@@ -4,7 +4,7 @@ use Rattle.tag_board.proofs.Uses.{TagFault, AloneTakes, TriesTag, state_of, alon
 use Rattle.tag_sets.specs.Gets.{IsAnswer}
 use Rattle.tag_board.proofs.Postings.{take_number, cause_of_take, err_is, refused_take}
 use Rattle.tag_board.proofs.Ranges.{tag_low}
-use Rattle.tag_board.proofs.Commands.{EffectOn, Seen, all_rest, effect_on, free_before, holds_gained, seated, seen, seen_of, sets_in, AsBefore, names_answer, names_one, refused_does, take_does, own_here, same_state, sits}
+use Rattle.tag_board.proofs.Commands.{EffectOn, Seen, all_rest, effect_on, free_before, holds_gained, seated, seen, seen_of, AsBefore, names_answer, names_one, refused_does, take_does, own_here, same_state, sits}
 use Rattle.tag_board.proofs.AloneCalls as alone
 use Rattle.tag_board.proofs.board.Board.take.Goals as goal
 
@@ -55,7 +55,7 @@ returns-in_err-take c =
           (refused_take tag i fault (state_of b) now.state (same_state (state_of b) now.state i k.changes)
           (cause_of_take b.tags old new tag _ fault (λ f. e.no_such_tag.0 (ap Err f))
           (λ high. let none = e.no_such_tag.1 high in cc) e.refuses));
-      alone = λ one. subst (λ (x : Result (Unit {0}) TagFault). AloneTakes tag (alone_sets_of b) x (sets_in now)) (sym is)
+      alone = λ one. subst (λ (x : Result (Unit {0}) TagFault). AloneTakes tag (alone_sets_of b) x now.sets) (sym is)
           (k.alone one);
       waiters = all_rest k.waiters;
       searches = subst (λ (x : Result (Unit {0}) TagFault). Moves i (TriesTag tag x) (searchers_of b) now.searchers)
