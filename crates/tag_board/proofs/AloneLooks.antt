@@ -1,11 +1,11 @@
--- What the looks of a set's only agent find in it.
-use Rattle.std.proofs.Common.{◌≡◌, ℕ, zero, suc, ◌+◌, ◌<◌, ◌≤◌, Bool, true, false, not, ◌&&◌, ◌||◌, nat_eq, nat_lt, List, [], ◌∷◌, length, get_or, refl, sym, ap, ◌∙◌, subst, arith}
-use Rattle.tag_board.proofs.Uses.{ltb-true, lt-ltb, bit_at-lt, bit_at, Layout, words, word_of, place_of, word_of-below, Record, Shape, Step, record_of, IsAlone, cells_left, words_left, own_after, pool_of, is_busy, own_found, state_after, place_small, Agent, caller_of, is_busy_in, is_aside_in, alone_set_of}
-use Rattle.tag_board.proofs.AloneSteps.{set_ext}
+-- What the looks of a set's only caller find in it.
+use Rattle.std.proofs.Common.{◌≡◌, ℕ, zero, suc, ◌+◌, ◌<◌, Bool, true, false, not, ◌&&◌, ◌||◌, nat_eq, nat_lt, List, [], ◌∷◌, length, get_or, refl, sym, ap, ◌∙◌, arith}
+use Rattle.tag_board.proofs.Uses.{ltb-true, lt-ltb, bit_at-lt, bit_at, Layout, word_of, place_of, word_of-below, words_left, is_busy, place_small, pool_of, count_below, count_below-same, is_busy_in, is_aside_in, set_left, Searcher}
 use Rattle.tag_core.specs.Steps.{Words, Quiet, words_after_all}
-use Rattle.tag_search.specs.SharedLaws.{shape_after}
-use Rattle.tag_search.proofs.AloneFacts.{EachFound, own_of_record, found_quiet, left_after}
 use Rattle.tag_sets.specs.Looks as looks
+use Rattle.tag_board.specs.Searches.{LooksAt}
+use Rattle.tag_board.proofs.Only.{IsOnly}
+use Rattle.tag_board.proofs.AloneSteps.{narrow_before, quiet, words_then, posted_then}
 
 -- looks leave the words unchanged
 looks_leave : (found : List (ℕ × ℕ)) (word : ℕ) (w : Words) → words_after_all (looks.looks_from word found) w ≡ w
@@ -39,71 +39,49 @@ and_under : (b x y : Bool) → (b ≡ true → x ≡ y) → (b && x) ≡ (b && y
 and_under true x y e = e refl
 and_under false x y e = refl
 
-module _ {R : Type 0} (old new : Agent R) (one : IsAlone (caller_of old)) (found : List (ℕ × ℕ))
-    (f : looks.MakesLooks (looks.looks_from 0 found) old new) where
-  made : (record_of (caller_of new)).steps ≡ own_after (looks.looks_from 0 found) (record_of (caller_of old)).steps
-  made = ap (λ (r : Record R). r.steps) f.known ∙ own_of_record (looks.looks_from 0 found) (record_of (caller_of old))
-
-  shape : (caller_of new).shape.value ≡ (caller_of old).shape.value
-  shape = ap (λ (r : Record R). r.shape) f.known ∙ shape_after (looks.looks_from 0 found) (record_of (caller_of old))
+module _ (a b : Searcher) (only : IsOnly b) (found : List (ℕ × ℕ)) (l : LooksAt found a b) where
+  abbrev layout : Layout
+  layout = a.layout
 
   -- the set is unchanged
-  pub alone_looked : alone_set_of new ≡ alone_set_of old
-  alone_looked =
-      let older : List (Step R) = (record_of (caller_of old)).steps in
-      let words = ap (λ (s : List (Step R)). words_left s) made ∙ left_after (looks.looks_from 0 found) older
-      ∙ looks_leave found 0 (words_left older) in
-      set_ext (alone_set_of new) (alone_set_of old) (ap (λ (s : Shape). s.layout) shape) (ap pool_of words)
-      (λ tag. ap (λ (s : List (Step R)). nat_eq ((cells_left s).state tag) 1) made
-      ∙ ap (λ (g : ℕ → ℕ). nat_eq (g tag) 1) (state_after (looks.looks_from 0 found) older)) f.same_else.0
+  pub looked : set_left b ≡ set_left a
+  looked = let left = words_then a b only (looks.looks_from 0 found) l.steps ∙ looks_leave found 0 (words_left a.steps) in
+      let posted = posted_then a b only (looks.looks_from 0 found) l.steps in
+      λ j. record { layout = l.layout j; pool = pool_of (left j); posted = posted j; hint = l.hint j }
 
-  word_found : (k : ℕ) → k < length found
-      → ((get_or found k (0, 0)).0 ≡ (words_left (record_of (caller_of old)).steps).word k)
-      × ((get_or found k (0, 0)).1 ≡ (words_left (record_of (caller_of old)).steps).aside k)
-  word_found k low =
-      let older : List (Step R) = (record_of (caller_of old)).steps in
-      let after : IsAlone (caller_of new) = ap (λ (s : Shape). s.callers) shape ∙ one in
-      let quiet = (found_quiet (looks.looks_from 0 found) older
-      (subst (λ (s : List (Step R)). EachFound s) made (own_found (caller_of new) after))).0 in
-      let is = looks_found found 0 (words_left older) quiet k low in let same : 0 + k ≡ k = omega arith in
-      (is.0 ∙ ap (words_left older).word same, is.1 ∙ ap (words_left older).aside same)
+  -- the look at a tag's word found what the older steps left
+  word_found : (number : ℕ) → number < layout.depth
+      → ((looks.word_in found (word_of layout number)).0 ≡ (words_left a.steps).word (word_of layout number))
+      × ((looks.word_in found (word_of layout number)).1 ≡ (words_left a.steps).aside (word_of layout number))
+  word_found number low =
+      let inside = word_of-below layout number low in let each = l.each in let w : Words = words_left a.steps in
+      let is : 0 + word_of layout number ≡ word_of layout number = omega arith in
+      let at = looks_found found 0 w (quiet a b only (looks.looks_from 0 found) l.steps) (word_of layout number)
+      (omega arith) in (at.0 ∙ ap w.word is, at.1 ∙ ap w.aside is)
 
-  module _ (l : Layout) (same : l ≡ (alone_set_of old).layout) (narrow : l.shift ≤ 6) (each : length found ≡ words l) where
-    -- what was found busy is busy, and what was found aside is set aside
-    found_busy : (number : ℕ) → number < l.depth
-        → looks.is_busy_in l found number ≡ is_busy (alone_set_of old).pool (word_of l number) (place_of l number)
-    found_busy number low =
-        let w : Words = words_left (record_of (caller_of old)).steps in let i : ℕ = word_of l number in
-        let p : ℕ = place_of l number in
-        let inside = word_of-below l number low in let at = word_found i (omega arith) in
-        (λ j. nat_eq (bit_at (at.0 j) p) 1 && nat_eq (bit_at (at.1 j) p) 0)
-        ∙ busy_bits (nat_lt p 64) (bit_at (w.word i) p) (bit_at (w.aside i) p)
-        (lt-ltb p 64 (place_small l number low narrow))
-        (bit_at-lt (w.word i) p) (bit_at-lt (w.aside i) p)
+  -- what was found busy is busy, and what was found aside is set aside
+  pub seen_busy : (number : ℕ) → (nat_lt number layout.depth && looks.is_busy_in layout found number)
+      ≡ is_busy_in (set_left a) number
+  seen_busy number = let i : ℕ = word_of layout number in let p : ℕ = place_of layout number in
+      let w : Words = words_left a.steps in
+      and_under (nat_lt number layout.depth) (looks.is_busy_in layout found number) (is_busy (set_left a).pool i p)
+      (λ t. let low = ltb-true number layout.depth t in let at = word_found number low in
+      (λ j. nat_eq (bit_at (at.0 j) p) 1 && nat_eq (bit_at (at.1 j) p) 0)
+      ∙ busy_bits (nat_lt p 64) (bit_at (w.word i) p) (bit_at (w.aside i) p)
+      (lt-ltb p 64 (place_small layout number low (narrow_before a b only l.layout)))
+      (bit_at-lt (w.word i) p) (bit_at-lt (w.aside i) p))
 
-    found_aside : (number : ℕ) → number < l.depth
-        → looks.is_aside_in l found number ≡ (alone_set_of old).pool.aside (word_of l number) (place_of l number)
-    found_aside number low =
-        let w : Words = words_left (record_of (caller_of old)).steps in let i : ℕ = word_of l number in
-        let p : ℕ = place_of l number in
-        let inside = word_of-below l number low in let at = word_found i (omega arith) in
-        ap (λ (x : ℕ). nat_eq (bit_at x p) 1) at.1
-        ∙ ap (λ (b : Bool). b && nat_eq (bit_at (w.aside i) p) 1) (sym (lt-ltb p 64 (place_small l number low narrow)))
+  pub seen_aside : (number : ℕ) → (nat_lt number layout.depth && looks.is_aside_in layout found number)
+      ≡ is_aside_in (set_left a) number
+  seen_aside number = let i : ℕ = word_of layout number in let p : ℕ = place_of layout number in
+      and_under (nat_lt number layout.depth) (looks.is_aside_in layout found number) ((set_left a).pool.aside i p)
+      (λ t. let low = ltb-true number layout.depth t in let at = word_found number low in
+      ap (λ (x : ℕ). nat_eq (bit_at x p) 1) at.1
+      ∙ ap (λ (near : Bool). near && nat_eq (bit_at ((words_left a.steps).aside i) p) 1)
+      (sym (lt-ltb p 64 (place_small layout number low (narrow_before a b only l.layout)))))
 
-    pub alone_busy : (number : ℕ) → (nat_lt number l.depth && looks.is_busy_in l found number)
-        ≡ is_busy_in (alone_set_of old) number
-    alone_busy number =
-        and_under (nat_lt number l.depth) (looks.is_busy_in l found number)
-        (is_busy (alone_set_of old).pool (word_of l number) (place_of l number))
-        (λ t. found_busy number (ltb-true number l.depth t))
-        ∙ ap (λ (m : Layout). nat_lt number m.depth
-        && is_busy (alone_set_of old).pool (word_of m number) (place_of m number)) same
-
-    pub alone_aside : (number : ℕ) → (nat_lt number l.depth && looks.is_aside_in l found number)
-        ≡ is_aside_in (alone_set_of old) number
-    alone_aside number =
-        and_under (nat_lt number l.depth) (looks.is_aside_in l found number)
-        ((alone_set_of old).pool.aside (word_of l number) (place_of l number))
-        (λ t. found_aside number (ltb-true number l.depth t))
-        ∙ ap (λ (m : Layout). nat_lt number m.depth && (alone_set_of old).pool.aside (word_of m number) (place_of m number))
-        same
+  -- two tests that agree on the numbers of the set count the same
+  pub counted : (f g : ℕ → Bool) → ((number : ℕ) → (nat_lt number layout.depth && f number) ≡ g number)
+      → count_below f layout.depth ≡ count_below g layout.depth
+  counted f g same = count_below-same f g layout.depth
+      (λ k low. ap (λ (near : Bool). near && f k) (sym (lt-ltb k layout.depth low)) ∙ same k)

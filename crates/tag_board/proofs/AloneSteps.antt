@@ -1,9 +1,16 @@
--- How single steps of a set's only agent change it.
-use Rattle.std.proofs.Common.{◌≡◌, ℕ, ◌<◌, ◌≤◌, Bool, true, false, not, ◌&&◌, ◌||◌, cond, nat_eq, Some, None, refl, sym, ap, ◌∙◌, arith}
-use Rattle.tag_board.proofs.Uses.{pow_pos, Layout, word_of, place_of, word_bits, word_bits-le, Record, record_of, IsAlone, is_posted, pool_left, cells_left, own_put, own_post, own_take, own_took, or_false, and_true, and_false, Agent, caller_of, put_back, post_in, take_in, alone_set_of, AloneSet, words_left, pool_of}
-use Rattle.tag_queue.specs.Agents.{hint_of}
-use Rattle.tag_queue.specs.Clears as clears
-use Rattle.tag_queue.specs.Slots as slots
+-- How the steps of a set's only caller change it.
+use Rattle.std.proofs.Common.{◌≡◌, ℕ, ◌<◌, ◌≤◌, Bool, true, false, not, ◌&&◌, ◌||◌, cond, nat_eq, nat_lt, List, [], Option, Some, None, refl, sym, ap, ◌∙◌, subst, arith}
+use Rattle.tag_board.proofs.Uses.{pow_pos, bit_at-zero, Layout, word_of, place_of, word_bits, word_bits-le, Step, cells_left, words_left, own_after, pool_of, pool_ext, or_false, and_true, and_false, state_after, Visit, AloneSet, Chooses, ChoosesRun, set_left, put_back, post_in, take_in, untouched, Searcher}
+use Rattle.tag_core.specs.declared.step.Step.TheVariants.{Post, Take}
+use Rattle.tag_core.specs.declared.word_step.WordStep.{WordStep}
+use Rattle.tag_core.specs.Steps.{Words, Quiet, words_after_all}
+use Rattle.tag_search.specs.Choice.{IsChoice, IsBatchChoice}
+use Rattle.tag_search.specs.Batch.{batch_words}
+use Rattle.tag_search.specs.Hints.{reduced}
+use Rattle.tag_search.proofs.AloneFacts.{EachFound, found_quiet, left_after}
+use Rattle.tag_search.proofs.PlainPools.{put_pool}
+use Rattle.tag_board.specs.Searches.{Searches, SearchesRun, Puts, Makes}
+use Rattle.tag_board.proofs.Only.{IsOnly}
 
 or_true : (a : Bool) → (a || true) ≡ true
 or_true true = refl
@@ -18,68 +25,101 @@ taken_bit : (b : Bool) (x : ℕ) → nat_eq (cond b 0 x) 1 ≡ (nat_eq x 1 && no
 taken_bit true x = sym (and_false (nat_eq x 1))
 taken_bit false x = sym (and_true (nat_eq x 1))
 
--- sets with the same fields are equal
-pub set_ext : (v w : AloneSet) → v.layout ≡ w.layout → v.pool ≡ w.pool → ((tag : ℕ) → v.posted tag ≡ w.posted tag)
-    → v.hint ≡ w.hint → v ≡ w
-set_ext v w layout pool posted hint = λ j. record {
-  layout = layout j;
-  pool = pool j;
-  posted = λ tag. posted tag j;
-  hint = hint j;
+-- each place of a map without steps is free
+blank_pool : (l : Layout) (round_robin : Bool) → pool_of (words_left {R = ℕ} []) ≡ (untouched l round_robin).pool
+blank_pool l round_robin = pool_ext (pool_of (words_left {R = ℕ} [])) (untouched l round_robin).pool
+    (λ i k. ap (λ (x : ℕ). nat_lt k 64 && nat_eq x 0) (bit_at-zero k) ∙ and_true (nat_lt k 64))
+    (λ i k. ap (λ (x : ℕ). nat_lt k 64 && nat_eq x 1) (bit_at-zero k) ∙ and_false (nat_lt k 64))
+
+-- the tags that these steps leave posted
+abbrev pub posted_left : List (Step ℕ) → ℕ → Bool
+posted_left steps tag = nat_eq ((cells_left steps).state tag) 1
+
+-- a set on which no step was made
+pub fresh : (s : Searcher) → s.steps ≡ [] → set_left s ≡ record (untouched s.layout false) { hint = s.hint }
+fresh s none = λ j. record {
+  layout = s.layout;
+  pool = (ap (λ (steps : List (Step ℕ)). pool_of (words_left steps)) none ∙ blank_pool s.layout false) j;
+  posted = λ tag. ap (λ (steps : List (Step ℕ)). posted_left steps tag) none j;
+  hint = s.hint;
 }
 
-module _ {R : Type 0} (old new : Agent R) where
-  -- an agent that keeps its record and its hint keeps the set
-  pub alone_known : record_of (caller_of new) ≡ record_of (caller_of old) → hint_of new ≡ hint_of old
-      → alone_set_of new ≡ alone_set_of old
-  alone_known known hint = set_ext (alone_set_of new) (alone_set_of old) (ap (λ (r : Record R). r.shape.layout) known)
-      (ap (λ (r : Record R). pool_of (words_left r.steps)) known)
-      (λ tag. ap (λ (r : Record R). nat_eq ((cells_left r.steps).state tag) 1) known) hint
+module _ (a b : Searcher) where
+  pub post : (number value : ℕ) → Makes (Post number value) a b → set_left b ≡ post_in number (set_left a)
+  post number value made = ap set_left made ∙ (λ j. record (set_left a) {
+    posted = λ other. posted_bit (nat_eq other number) ((cells_left a.steps).state other) j;
+  })
 
-  -- the set after steps of the agent that changed its posted tags so
-  stepped : (after : Record R) (w : AloneSet) → record_of (caller_of new) ≡ after
-      → after.shape.layout ≡ w.layout → pool_left (caller_of new) ≡ w.pool
-      → ((tag : ℕ) → nat_eq ((cells_left after.steps).state tag) 1 ≡ w.posted tag) → hint_of new ≡ w.hint
-      → alone_set_of new ≡ w
-  stepped after w known layout pool posted hint = set_ext (alone_set_of new) w
-      (ap (λ (r : Record R). r.shape.layout) known ∙ layout) pool
-      (λ tag. ap (λ (r : Record R). nat_eq ((cells_left r.steps).state tag) 1) known ∙ posted tag) hint
+  module _ (only : IsOnly b) where
+    pub narrow_before : b.layout ≡ a.layout → a.layout.shift ≤ 6
+    narrow_before same = subst (λ (l : Layout). l.shift ≤ 6) (sym only.layout ∙ same) only.narrow
 
-  module _ (one : IsAlone (caller_of old)) (number : ℕ) where
-    pub alone_post : slots.Posts number old new → alone_set_of new ≡ post_in number (alone_set_of old)
-    alone_post p = stepped _ (post_in number (alone_set_of old)) p.step.known refl
-        (own_post (caller_of old) (caller_of new) number p.value p.step)
-        (λ other. posted_bit (nat_eq other number) ((cells_left (record_of (caller_of old)).steps).state other))
-        p.same_else.0
+    -- steps on words found what the older ones left
+    pub quiet : (some : List WordStep) → b.steps ≡ own_after some a.steps → Quiet some (words_left a.steps)
+    quiet some is = (found_quiet some a.steps (subst (λ (s : List (Step ℕ)). EachFound s) is only.found)).0
 
-    pub alone_take : slots.Takes number old new → (is_posted (caller_of old) number ≡ true)
-        × (alone_set_of new ≡ take_in number (alone_set_of old))
-    alone_take t = let after : IsAlone (caller_of new) = ap (λ (r : Record R). r.shape.callers) t.step.known ∙ one in (
-      sym (own_took (caller_of old) (caller_of new) number 1 (Some t.value) after t.step),
-      stepped _ (take_in number (alone_set_of old)) t.step.known refl
-          (own_take (caller_of old) (caller_of new) number 1 (Some t.value) t.step)
-          (λ other. taken_bit (nat_eq other number) ((cells_left (record_of (caller_of old)).steps).state other))
-          t.same_else.0,
+    -- what they leave, and that they neither post a tag nor take one
+    pub words_then : (some : List WordStep) → b.steps ≡ own_after some a.steps
+        → words_left b.steps ≡ words_after_all some (words_left a.steps)
+    words_then some is = ap (λ (s : List (Step ℕ)). words_left s) is ∙ left_after some a.steps
+
+    pub posted_then : (some : List WordStep) → b.steps ≡ own_after some a.steps
+        → (set_left b).posted ≡ (set_left a).posted
+    posted_then some is = λ j. λ tag. (ap (λ (s : List (Step ℕ)). posted_left s tag) is
+        ∙ ap (λ (f : ℕ → ℕ). nat_eq (f tag) 1) (state_after some a.steps)) j
+
+    pub choose : (visits : AloneSet → List Visit) (answer : Option ℕ)
+        → Searches (λ (s : Searcher). visits (set_left s)) answer a b → Chooses visits answer (set_left a) (set_left b)
+    choose visits answer s = let made = s.steps in record {
+      layout = made.layout;
+      choice = subst (λ (w : Words). IsChoice a.layout (set_left a).pool (visits (set_left a)) answer (pool_of w))
+          (sym (words_then made.some made.steps))
+          (made.holds.alone (words_left a.steps) (quiet made.some made.steps));
+      posted = posted_then made.some made.steps;
+      hint = s.hint;
+    }
+
+    pub choose_run : (n : ℕ) (answer : Option (ℕ × ℕ)) → SearchesRun n answer a b
+        → ChoosesRun n answer (set_left a) (set_left b)
+    choose_run n answer s = let made = s.steps in record {
+      layout = made.layout;
+      choice = subst (λ (w : Words). IsBatchChoice a.layout n (set_left a).pool
+          (batch_words a.layout (word_of a.layout (reduced a.layout.depth a.hint.at))) answer (pool_of w))
+          (sym (words_then made.some made.steps))
+          (made.holds.alone (words_left a.steps) (quiet made.some made.steps));
+      posted = posted_then made.some made.steps;
+      hint = s.hint;
+    }
+
+    -- a put sets its place aside
+    pub put : (number : ℕ) → Puts number a b → set_left b ≡ put_back number (set_left a)
+    put number p =
+        let l : Layout = a.layout in let few = word_bits-le l (narrow_before p.layout) in
+        let some : 0 < word_bits l = pow_pos l.shift in let low : place_of l number < 64 = omega arith in
+        let pool = ap (λ (s : List (Step ℕ)). pool_of (words_left s)) p.steps
+        ∙ put_pool (words_left a.steps) (word_of l number) (place_of l number) p.found low in
+        λ j. record {
+          layout = p.layout j;
+          pool = pool j;
+          posted = λ tag. ap (λ (s : List (Step ℕ)). posted_left s tag) p.steps j;
+          hint = record { at = p.hint.at j; round_robin = p.hint.round_robin j };
+        }
+
+    -- the exchange of a take finds what the older steps left
+    found_there : (number found : ℕ) (value : Option ℕ) → Makes (Take number found value) a b
+        → nat_eq found 1 ≡ (set_left a).posted number
+    found_there number found value made = ap (λ (n : ℕ). nat_eq n 1)
+        (subst (λ (s : List (Step ℕ)). EachFound s) (ap (λ (s : Searcher). s.steps) made) only.found).0
+
+    pub take : (number value : ℕ) → Makes (Take number 1 (Some value)) a b
+        → ((set_left a).posted number ≡ true) × (set_left b ≡ take_in number (set_left a))
+    take number value made = (
+      sym (found_there number 1 (Some value) made),
+      ap set_left made ∙ (λ j. record (set_left a) {
+        posted = λ other. taken_bit (nat_eq other number) ((cells_left a.steps).state other) j;
+      }),
     )
 
-    pub alone_miss : slots.Misses number old new → (is_posted (caller_of old) number ≡ false)
-        × (alone_set_of new ≡ alone_set_of old)
-    alone_miss m = let after : IsAlone (caller_of new) = ap (λ (r : Record R). r.shape.callers) m.step.known ∙ one in (
-      sym (own_took (caller_of old) (caller_of new) number 0 None after m.step),
-      stepped _ (alone_set_of old) m.step.known refl
-          (own_take (caller_of old) (caller_of new) number 0 None m.step) (λ other. refl) m.same_else.0,
-    )
-
-    -- a place is below 64
-    place_low : (l : Layout) → l.shift ≤ 6 → place_of l number < 64
-    place_low l narrow = let few = word_bits-le l narrow in let pos : 0 < word_bits l = pow_pos l.shift in omega arith
-
-    pub alone_put : (alone_set_of old).layout.shift ≤ 6 → clears.Puts (alone_set_of old).layout number old new
-        → alone_set_of new ≡ put_back number (alone_set_of old)
-    alone_put narrow p =
-        let l : Layout = (alone_set_of old).layout in
-        let left = own_put (caller_of old) (caller_of new) (word_of l number) (place_of l number) p.found
-        (place_low l narrow) p.put in
-        set_ext (alone_set_of new) (put_back number (alone_set_of old))
-        (ap (λ (r : Record R). r.shape.layout) p.put.known) left.pool_is left.posted
-        (λ j. record { at = p.hint.at j; round_robin = p.hint.round_robin j })
+    pub miss : (number : ℕ) → Makes (Take number 0 None) a b
+        → ((set_left a).posted number ≡ false) × (set_left b ≡ set_left a)
+    miss number made = (sym (found_there number 0 None made), ap set_left made)

@@ -1,19 +1,19 @@
 -- What a call on one hand is for the board.
-use Rattle.std.proofs.Common.{◌≡◌, ◌≢◌, ℕ, Bool, false, List, length, set, All, Result, Ok, Err, IfOk, OnErr, sym, ap, ◌∙◌, subst, length-set}
-use Rattle.tag_board.proofs.Uses.{dite, ℕ_discrete, TagFault, Hand, Kind, Tags, hands_of, IsHandOf, number_of, total_of, reserved_of, HoldsMore, Board, AloneSets, Does, state_of, alone_sets_of, waiters_of, searchers_of, AreOrdered, state_of_all, alone_sets_of_all, waiters_of_all, searchers_of_all, Searchers, Answers, Changes, HoldsAll, NobodyHolds, NobodyElseHolds, Wins, won, Part, State, Waiter, Moves, MovesIf}
+use Rattle.std.proofs.Common.{◌≡◌, ◌≢◌, ℕ, Bool, false, List, length, set, All, Result, Ok, Err, IfOk, OnErr, sym, ap, ◌∙◌, subst, length-set, arith}
+use Rattle.tag_board.proofs.Uses.{alone_sets_of_all, dite, ℕ_discrete, TagFault, Hand, Kind, Tags, hands_of, IsHandOf, number_of, total_of, reserved_of, HoldsMore, Board, AloneSets, Does, state_of, alone_sets_of, waiters_of, searchers_of, AreOrdered, state_of_all, sets_left, waiter_of, newcomer, searchers_in, nobody, waiters_of_all, searchers_of_all, Searchers, Answers, Changes, HoldsAll, NobodyHolds, NobodyElseHolds, Wins, Part, State, Waiter, Moves, MovesIf}
 use Rattle.std.proofs.lemmas.List.Elements.{All-set}
 use Rattle.tag_board.specs.Boards.{IsAlone}
-use Rattle.tag_board.proofs.AloneBoard.{alone_sets_moved}
+use Rattle.tag_board.proofs.Only.{AreOnly, only_hand}
 use Rattle.tag_board.proofs.Holdings.{Names, not_holds}
-use Rattle.tag_board.proofs.Searching.{searchers_move}
-use Rattle.tag_board.proofs.Waiters.{waiters_move}
+use Rattle.tag_board.proofs.Seats.{moved, seen_here}
+use Rattle.tag_board.proofs.AloneCalls.{Decides, first_sets}
 pub use Rattle.tag_board.proofs.Naming.{names_answer, names_one}
 pub use Rattle.tag_board.proofs.Effects.{AsBefore, Effect, low_group, none_woken}
 pub use Rattle.tag_board.proofs.Gains.{batch_gains, batch_number, Gained, get_gains, none_around, reserved_gains, shallow_gains}
 pub use Rattle.tag_board.proofs.Calls.{busy_does, clear_does, dump_does, enter_does, leave_does, list_does, post_does, refused_does, show_does, stay_does, take_does}
 pub use Rattle.tag_board.proofs.Outcomes.{both_ok, both_on, err_same, err_since, none_since, not_some_since, ok_map, on_map, some_since}
-pub use Rattle.tag_board.proofs.Seats.{changes, held_here, here_held, none_here, ordered, own_here, part_here, room_here, round_here, same_state, seat, sits, Sits, spent_here, stands_here, unmoved}
-pub use Rattle.tag_board.proofs.Verdicts.{answers, batch_verdict, get_verdict, IsVerdict, leave_verdict, list_verdict, reserved_verdict, shallow_verdict, tag_verdict, wait_verdict}
+pub use Rattle.tag_board.proofs.Seats.{all_rest, changes, held_here, here_held, none_here, ordered, own_here, part_here, round_here, same_state, seat, sits, Sits, spent_here, stands_here, unmoved}
+pub use Rattle.tag_board.proofs.Verdicts.{answers, IsVerdict, leave_verdict, list_verdict, may_get, may_get_batch, may_get_reserved, may_get_shallow, tag_verdict, wait_verdict}
 
 -- what a contract sees of a board
 pub record Seen : Type 0 where
@@ -50,13 +50,7 @@ pub record Replies {A : Type 0} (b : Board) (i : ℕ) (refuses : TagFault → Ty
   pub waiters : MovesIf i waits (waiters_of b) r after.waiters
   pub searches : MovesIf i works (searchers_of b) r after.searchers
 
--- if one caller is as it was, and no other moved, all are as they were
-pub all_rest : {A : Type 0} {i : ℕ} {old new : ℕ → A} → Moves i AsBefore old new → new ≡ old
-all_rest {A} {i} {old} {new} m = λ j. λ caller. dite (ℕ_discrete caller i)
-    (λ (e : caller ≡ i). subst (λ (k : ℕ). new k ≡ old k) (sym e) m.own)
-    (λ (ne : caller ≢ i). m.others caller ne) j
-
--- the same after a refusal
+-- if no caller moved, all are as they were, also after a refusal
 pub none_moved : {A B : Type 0} (i : ℕ) {old new : ℕ → B} (r : Result A TagFault)
     → MovesIf i (λ a. AsBefore) old r new → new ≡ old
 none_moved i (Ok a) m = all_rest m
@@ -91,38 +85,46 @@ module _ (b : Board) {i : ℕ} {old : Hand ℕ} (at : Sits b.hands.items i old) 
   abbrev now : Seen
   now = seen b.tags (set b.hands.items i new)
 
-  module _ {change : Part → Part} {alone : AloneSets → AloneSets → Type 0} {waits : Waiter → Waiter → Type 0}
-      {works : Searchers → Searchers → Type 0} (d : Effect b.tags change alone waits works old new) where
+  module _ (own : IsHandOf b.tags new) where
     -- what the call did to the hand, it did to the board
-    pub effect_on : EffectOn b i change alone waits works now
-    effect_on = record {
-      changes = changes b.tags at new change d.part;
-      alone = λ one. alone_sets_moved at new one alone (d.alone (sym b.every ∙ one));
-      waiters = waiters_move at new waits d.waiter;
-      searches = searchers_move at new works d.searcher;
-    }
+    pub effect_on : {change : Part → Part} {alone : AloneSets → AloneSets → Type 0} {waits : Waiter → Waiter → Type 0}
+        {works : Searchers → Searchers → Type 0} → Decides works alone → Effect change waits works old new
+        → EffectOn b i change alone waits works now
+    effect_on {change} {alone} {waits} {works} decides d =
+        let worked = moved searchers_in nobody at new works d.searcher in record {
+          changes = changes b.tags at new change d.part;
+          alone = λ one. let low = at.within in let first : i ≡ 0 = omega arith in
+              let here = ap now.searchers (sym first) ∙ seen_here searchers_in nobody (seat at new) in
+              subst (λ (v : AloneSets). alone v now.sets) (sym (first_sets b.hands.items))
+              (subst (λ (v : AloneSets). alone (sets_left (searchers_of b 0)) v) (sym (first_sets (set b.hands.items i new)))
+              (decides.sets (searchers_of b 0) (now.searchers 0)
+              (subst AreOnly (sym here) (only_hand b.tags new own (sym b.every ∙ one)))
+              (subst (λ (n : ℕ). works (searchers_of b n) (now.searchers n)) first worked.own)));
+          waiters = moved waiter_of newcomer at new waits d.waiter;
+          searches = worked;
+        }
 
-  module _ {A : Type 0} {refuses : TagFault → Type 0} (change : A → Part → Part) (done : A → State → Type 0)
-      (alone : A → AloneSets → AloneSets → Type 0) (waits : A → Waiter → Waiter → Type 0)
-      (works : A → Searchers → Searchers → Type 0) where
-    -- a call that may be refused, which then changes nothing
-    pub replies : (r : Result A TagFault) → IsVerdict refuses r
-        → IfOk r (λ a. Effect b.tags (change a) (alone a) (waits a) (works a) old new
-        × (Changes i (change a) (state_of b) now.state → done a now.state))
-        → OnErr r (new ≡ old) → Replies b i refuses done alone waits works r now
-    replies (Ok a) verdict d e = let to = effect_on d.0 in record {
-      answers = answers refuses (λ a. done a now.state) (state_of b) now.state (Ok a) verdict (d.1 to.changes) tt;
-      alone = to.alone;
-      waiters = to.waiters;
-      searches = to.searches;
-    }
-    replies (Err fault) verdict d e = let same = unmoved b.tags at e in record {
-      answers = answers refuses (λ a. done a now.state) (state_of b) now.state (Err fault) verdict tt
-          (ap (state_of_all b.tags) same);
-      alone = λ one. ap alone_sets_of_all same;
-      waiters = ap waiters_of_all same;
-      searches = ap searchers_of_all same;
-    }
+    module _ {A : Type 0} {refuses : TagFault → Type 0} (change : A → Part → Part) (done : A → State → Type 0)
+        {alone : A → AloneSets → AloneSets → Type 0} (waits : A → Waiter → Waiter → Type 0)
+        {works : A → Searchers → Searchers → Type 0} (decides : (a : A) → Decides (works a) (alone a)) where
+      -- a call that may be refused, which then changes nothing
+      pub replies : (r : Result A TagFault) → IsVerdict refuses r
+          → IfOk r (λ a. Effect (change a) (waits a) (works a) old new
+          × (Changes i (change a) (state_of b) now.state → done a now.state))
+          → OnErr r (new ≡ old) → Replies b i refuses done alone waits works r now
+      replies (Ok a) verdict d e = let to = effect_on (decides a) d.0 in record {
+        answers = answers refuses (λ a. done a now.state) (state_of b) now.state (Ok a) verdict (d.1 to.changes) tt;
+        alone = to.alone;
+        waiters = to.waiters;
+        searches = to.searches;
+      }
+      replies (Err fault) verdict d e = let same = unmoved b.tags at e in record {
+        answers = answers refuses (λ a. done a now.state) (state_of b) now.state (Err fault) verdict tt
+            (ap (state_of_all b.tags) same);
+        alone = λ one. ap alone_sets_of_all same;
+        waiters = ap waiters_of_all same;
+        searches = ap searchers_of_all same;
+      }
 
   module _ (named : ℕ → Bool) (Is : ℕ → Type 0) (names : Names named Is) (more : HoldsMore Is old new) where
     -- the caller holds what its hand gained
@@ -139,18 +141,24 @@ module _ (b : Board) {i : ℕ} {old : Hand ℕ} (at : Sits b.hands.items i old) 
 
   -- a get that the set did not refuse is answered
   pub got : {A : Type 0} {kind : Kind} {named : ℕ → Bool} {Is : ℕ → Type 0} {n : ℕ} {refuses : TagFault → Type 0}
-      (done : A → State → Type 0) (alone : A → AloneSets → AloneSets → Type 0)
-      (works : A → Searchers → Searchers → Type 0) (a : A) (after : Seen) → after ≡ now
-      → Gained b.tags b.hands.items kind named Is n (alone a) (works a) old new → NobodyElseHolds now.state i named
-      → IsVerdict refuses (Ok a) → (Wins i kind named n (state_of b) now.state → done a now.state)
+      {alone : A → AloneSets → AloneSets → Type 0} {works : A → Searchers → Searchers → Type 0}
+      (done : A → State → Type 0) → ((a : A) → Decides (works a) (alone a)) → IsHandOf b.tags new
+      → (a : A) (after : Seen) → after ≡ now
+      → Gained b.tags b.hands.items kind named Is n (works a) old new → NobodyElseHolds now.state i named
+      → ((fault : TagFault) → ¬ (refuses fault)) → (Wins i kind named n (state_of b) now.state → done a now.state)
       → Replies b i refuses done alone (λ o. AsBefore) works (Ok a) after
-  got {A} {kind} {named} {Is} {n} {refuses} done alone works a after same g else verdict is =
-      subst (λ (x : Seen). Replies b i refuses done alone (λ o. AsBefore) works (Ok a) x) (sym same)
-      (replies (λ o. won kind named n) done alone (λ o. AsBefore) works (Ok a) verdict (
-        g.effect,
-        (λ c. is record {
-          free = free_before named Is g.names g.more c else;
-          there = λ tag t. g.there tag ((g.names tag).0 t);
-          change = c;
-        }),
-      ) tt)
+  got {A} {kind} {named} {Is} {n} {refuses} {alone} {works} done decides own a after same g else may is =
+      let k = effect_on own (decides a) g.effect in
+      subst (λ (x : Seen). Replies b i refuses done alone (λ o. AsBefore) works (Ok a) x) (sym same) record {
+        answers = (
+          may,
+          is record {
+            free = free_before named Is g.names g.more k.changes else;
+            there = λ tag t. g.there tag ((g.names tag).0 t);
+            change = k.changes;
+          },
+        );
+        alone = k.alone;
+        waiters = k.waiters;
+        searches = k.searches;
+      }

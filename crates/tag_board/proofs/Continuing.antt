@@ -83,13 +83,14 @@ module _ {R : Type 0} where
     part = λ caller. same_seen part_of (idle false) olds news long each caller j;
   }
 
-  -- hands with the same numbers as before are in the same order
-  pub order_kept : (old new : List (Hand R)) → numbers_of new ≡ numbers_of old → AreOrdered old
-      → (length new ≡ length old) × AreOrdered new
-  order_kept old new same ordered =
-      let long : length new ≡ length old = sym (length-map new number_of)
-      ∙ ap (λ (ns : List ℕ). length ns) same ∙ length-map old number_of in
-      (long, λ n low. ap (λ (ns : List ℕ). get_or ns n 0) same ∙ ordered n (omega arith))
+  -- hands with the same numbers as before are as many, and in the same order
+  count_kept : (old new : List (Hand R)) → numbers_of new ≡ numbers_of old → length new ≡ length old
+  count_kept old new same =
+      sym (length-map new number_of) ∙ ap (λ (ns : List ℕ). length ns) same ∙ length-map old number_of
+
+  pub order_kept : (old new : List (Hand R)) → numbers_of new ≡ numbers_of old → AreOrdered old → AreOrdered new
+  order_kept old new same ordered n low = let long = count_kept old new same in
+      ap (λ (ns : List ℕ). get_or ns n 0) same ∙ ordered n (omega arith)
 
   -- a hand that counts what another counts has the same part
   part_kept : (a b : Hand R) → ((tag : ℕ) → holds b tag ≡ holds a tag)
@@ -151,67 +152,78 @@ nobody_holds tags hands none caller tag named = ⊎_elim
     (get_or_past (map part_of hands) caller (idle false) (let z = length-map hands part_of in omega arith)))
     (cases_lt caller (length hands))
 
--- a hand that continues holds nothing, as before, and keeps its counts
-record GoesOn {R : Type 0} (a b : Hand R) : Type 0 where
-  none : (tag : ℕ) → holds b tag ≡ false
-  part : part_of b ≡ part_of a
+-- a hand that continues: its ordinary agent starts anew and keeps its hint, its completions and its waits, and its
+-- reserved agent is unchanged
+pub record GoesOn {R : Type 0} (new : Tags R) (a b : Hand R) : Type 0 where
+  pub known : record_in b Ordinary ≡ reopened_record (queue.shape_of new.ordinary) (record_in a Ordinary)
+  pub other : queue.IsUnchanged a.reserved b.reserved
+  pub hint : queue.hint_of b.ordinary ≡ queue.hint_of a.ordinary
+  pub counts : queue.SameCounts a.ordinary b.ordinary
 
 module _ {R : Type 0} (old new : Tags R) (olds news : List (Hand R)) (total : ℕ)
-    (is : sets.IsResized old olds total new news) (unused : sets.held_in_both olds ≡ 0) where
-  goes_on : (n : ℕ) (a b : Hand R) → get_elem? olds n ≡ some a → get_elem? news n ≡ some b → GoesOn a b
+    (is : sets.IsResized old olds total new news) where
+  pub goes_on : (n : ℕ) (a b : Hand R) → get_elem? olds n ≡ some a → get_elem? news n ≡ some b → GoesOn new a b
   goes_on n a b p q =
       let before = map ordinary_part olds in let after = map ordinary_part news in
-      let here = at_map ordinary_part olds n a p in let there = at_map ordinary_part news n b q in
-      let known : record_in b Ordinary ≡ reopened_record (queue.shape_of new.ordinary) (record_in a Ordinary) =
-      (is.ordinary.callers.callers.each n (queue.caller_of a.ordinary) (queue.caller_of b.ordinary)
-      (at_map queue.caller_of before n a.ordinary here) (at_map queue.caller_of after n b.ordinary there)).1 in
-      let other : record_in b Reserved ≡ record_in a Reserved = (is.reserved_agents.each n a.reserved b.reserved
-      (at_map reserved_part olds n a p) (at_map reserved_part news n b q)).caller.known in
-      let empty : size_of (record_in a Ordinary).held + size_of (record_in a Reserved).held ≡ 0 =
-      all_at (λ (h : Hand R). size_of (record_in h Ordinary).held + size_of (record_in h Reserved).held ≡ 0) olds
-      (all_none (λ (h : Hand R). size_of (record_in h Ordinary).held + size_of (record_in h Reserved).held) olds
-      (both_sets (λ r. size_of r.held) olds ∙ unused)) n a p in
-      let free : (tag : ℕ) → holds b tag ≡ false = holds_none b
-      (ap (λ (r : Record R). size_of r.held) known ∙ size_none (words (queue.layout_of new.ordinary)))
-      (ap (λ (r : Record R). size_of r.held) other ∙ omega arith) in
-      let none : (tag : ℕ) → holds a tag ≡ false = holds_none a (omega arith) (omega arith) in
-      let waiter = same_at queue.waiter_of before after n a.ordinary b.ordinary is.ordinary.waiters here there in
-      let hint = same_at queue.hint_of before after n a.ordinary b.ordinary is.ordinary.hints here there in record {
-        none = free;
-        part = part_kept a b (λ tag. free tag ∙ sym (none tag)) (elim [
-          | Ordinary ↦ (ap (λ (r : Record R). r.won) known, ap (λ (r : Record R). r.back) known)
-          | Reserved ↦ (ap (λ (r : Record R). r.won) other, ap (λ (r : Record R). r.back) other)
-        ]) waiter hint;
+      let here = at_map ordinary_part olds n a p in let there = at_map ordinary_part news n b q in record {
+        known = (is.ordinary.callers.callers.each n (queue.caller_of a.ordinary) (queue.caller_of b.ordinary)
+            (at_map queue.caller_of before n a.ordinary here) (at_map queue.caller_of after n b.ordinary there)).1;
+        other = is.reserved_agents.each n a.reserved b.reserved (at_map reserved_part olds n a p)
+            (at_map reserved_part news n b q);
+        hint = same_at queue.hint_of before after n a.ordinary b.ordinary is.ordinary.hints here there;
+        counts = (
+          same_at queue.teller_of before after n a.ordinary b.ordinary is.ordinary.tellers here there,
+          same_at queue.waiter_of before after n a.ordinary b.ordinary is.ordinary.waiters here there,
+        );
       }
 
   -- there are as many hands as before
-  long : length news ≡ length olds
-  long = sym (length-map news number_of) ∙ ap (λ (ns : List ℕ). length ns) is.numbers ∙ length-map olds number_of
-
-  -- only the total of the state changes
-  pub world_resized : state_of_all new news ≡ record (state_of_all old olds) { total = total }
-  world_resized = same_terms old new olds news total is.split long (elim [
-    | Ordinary ↦ is.ordinary.callers.next.life_is
-    | Reserved ↦ ap (λ (q : Queue R). (queue.shape_of q).life) is.reserved
-  ]) (ap (λ (l : Limits). l.cap) is.ordinary.rest.book.limits) is.ordinary.rest.least (elim [
-    | Ordinary ↦ ap word_bits is.ordinary.callers.next.layout_is
-    | Reserved ↦ ap (λ (q : Queue R). word_bits (queue.layout_of q)) is.reserved
-  ]) is.total_is (λ n a b p q. (goes_on n a b p q).part)
+  pub long : length news ≡ length olds
+  long = count_kept olds news is.numbers
 
   -- each caller waits and wakes others as before
   pub waiters_resized : waiters_of_all news ≡ waiters_of_all olds
-  waiters_resized = same_waiters olds news long (λ n a b p q.
-      let before = map ordinary_part olds in let after = map ordinary_part news in
-      let here = at_map ordinary_part olds n a p in let there = at_map ordinary_part news n b q in (
-        same_at queue.teller_of before after n a.ordinary b.ordinary is.ordinary.tellers here there,
-        same_at queue.waiter_of before after n a.ordinary b.ordinary is.ordinary.waiters here there,
-      ))
+  waiters_resized = same_waiters olds news long (λ n a b p q. (goes_on n a b p q).counts)
 
-  -- no caller holds a tag
-  pub world_free : NobodyHolds (state_of_all new news) (λ tag. true)
-  world_free = nobody_holds new news (λ n b q.
-      let a = entry olds n (let low = within news n b q in let same = long in omega arith) in
-      (goes_on n a.0 b a.1 q).none)
+  module _ (unused : sets.held_in_both olds ≡ 0) where
+    -- a hand that continues held nothing, and holds nothing
+    free_there : (n : ℕ) (a b : Hand R) → get_elem? olds n ≡ some a → get_elem? news n ≡ some b → (tag : ℕ)
+        → (holds a tag ≡ false) × (holds b tag ≡ false)
+    free_there n a b p q tag =
+        let g = goes_on n a b p q in
+        let empty : size_of (record_in a Ordinary).held + size_of (record_in a Reserved).held ≡ 0 =
+        all_at (λ (h : Hand R). size_of (record_in h Ordinary).held + size_of (record_in h Reserved).held ≡ 0) olds
+        (all_none (λ (h : Hand R). size_of (record_in h Ordinary).held + size_of (record_in h Reserved).held) olds
+        (both_sets (λ r. size_of r.held) olds ∙ unused)) n a p in (
+          holds_none a (omega arith) (omega arith) tag,
+          holds_none b
+              (ap (λ (r : Record R). size_of r.held) g.known ∙ size_none (words (queue.layout_of new.ordinary)))
+              (ap (λ (r : Record R). size_of r.held) g.other.caller.known ∙ omega arith) tag,
+        )
+
+    part_there : (n : ℕ) (a b : Hand R) → get_elem? olds n ≡ some a → get_elem? news n ≡ some b → part_of b ≡ part_of a
+    part_there n a b p q =
+        let g = goes_on n a b p q in let other = g.other.caller.known in
+        part_kept a b (λ tag. let free = free_there n a b p q tag in free.1 ∙ sym free.0) (elim [
+          | Ordinary ↦ (ap (λ (r : Record R). r.won) g.known, ap (λ (r : Record R). r.back) g.known)
+          | Reserved ↦ (ap (λ (r : Record R). r.won) other, ap (λ (r : Record R). r.back) other)
+        ]) g.counts.1 g.hint
+
+    -- only the total of the state changes
+    pub world_resized : state_of_all new news ≡ record (state_of_all old olds) { total = total }
+    world_resized = same_terms old new olds news total is.split long (elim [
+      | Ordinary ↦ is.ordinary.callers.next.life_is
+      | Reserved ↦ ap (λ (q : Queue R). (queue.shape_of q).life) is.reserved
+    ]) (ap (λ (l : Limits). l.cap) is.ordinary.rest.book.limits) is.ordinary.rest.least (elim [
+      | Ordinary ↦ ap word_bits is.ordinary.callers.next.layout_is
+      | Reserved ↦ ap (λ (q : Queue R). word_bits (queue.layout_of q)) is.reserved
+    ]) is.total_is part_there
+
+    -- no caller holds a tag
+    pub world_free : NobodyHolds (state_of_all new news) (λ tag. true)
+    world_free = nobody_holds new news (λ n b q tag.
+        let a = entry olds n (let low = within news n b q in let same = long in omega arith) in
+        (free_there n a.0 b a.1 q tag).1)
 
   -- all hands are present
   pub every_there : length olds ≡ hands_of old → length news ≡ hands_of new

@@ -1,6 +1,6 @@
 -- What a call does to the hand that makes it.
 use Rattle.std.proofs.Common.{◌≡◌, ℕ, ◌<◌, List, ap, subst, arith}
-use Rattle.tag_board.proofs.Uses.{Layout, Hand, Kind, Ordinary, Reserved, Tags, hands_of, number_of, agent_of, reserved_of, kind_of, other_kind, reserved_below, AloneSets, alone_sets_in, searchers_in, part_of, waiter_of, Part, Waiter, Searchers}
+use Rattle.tag_board.proofs.Uses.{Layout, Hand, Kind, Ordinary, Reserved, Tags, number_of, agent_of, reserved_of, kind_of, other_kind, reserved_below, searchers_in, part_of, waiter_of, Part, Waiter, Searchers}
 use Rattle.tag_queue.specs.Agents as queue
 use Rattle.tag_sets.specs.Clears as clears
 use Rattle.tag_sets.specs.Shows as shows
@@ -10,13 +10,11 @@ use Rattle.tag_board.proofs.Tallies as tallies
 use Rattle.tag_board.proofs.Handfuls.{PartTallies, part_tallies, part_same}
 use Rattle.tag_board.proofs.Waiters.{rests}
 
--- what a call did to the part of its caller, with one caller to both sets, to its caller as a waiter, and to its caller
--- as it works on both sets
-pub record Effect (tags : Tags ℕ) (change : Part → Part) (alters : AloneSets → AloneSets → Type 0)
-    (waits : Waiter → Waiter → Type 0) (works : Searchers → Searchers → Type 0) (old new : Hand ℕ) : Type 0 where
+-- what a call did to the part of its caller, to its caller as a waiter, and to its caller as it works on both sets
+pub record Effect (change : Part → Part) (waits : Waiter → Waiter → Type 0) (works : Searchers → Searchers → Type 0)
+    (old new : Hand ℕ) : Type 0 where
   pub part : part_of new ≡ change (part_of old)
   pub number : number_of new ≡ number_of old
-  pub alone : hands_of tags ≡ 1 → alters (alone_sets_in old) (alone_sets_in new)
   pub waiter : waits (waiter_of old) (waiter_of new)
   pub searcher : works (searchers_in old) (searchers_in new)
 
@@ -50,28 +48,21 @@ module _ (tags : Tags ℕ) (old new : Hand ℕ) where
   pub low_group : (group : ℕ) → waits.Enters group old new → group < 8
   low_group group e = let low = old.ordinary.waiter.within in let is = e.set.changed.group_is in omega arith
 
+module _ (old new : Hand ℕ) where
   -- a call on one set that counts n tags won, and nothing else
-  pub counts_won : (kind : Kind) (n : ℕ) (change : Part → Part) (alone : AloneSets → AloneSets → Type 0)
-      (works : Searchers → Searchers → Type 0) → tallies.Tallies n 0 (agent_of old kind) (agent_of new kind)
+  pub counts_won : (kind : Kind) (n : ℕ) (change : Part → Part) (works : Searchers → Searchers → Type 0)
+      → tallies.Tallies n 0 (agent_of old kind) (agent_of new kind)
       → queue.SameCounts (agent_of old kind) (agent_of new kind)
       → agent_of new (other_kind kind) ≡ agent_of old (other_kind kind)
-      → (PartTallies kind n 0 old new → part_of new ≡ change (part_of old))
-      → (hands_of tags ≡ 1 → alone (alone_sets_in old) (alone_sets_in new)) → works (searchers_in old) (searchers_in new)
-      → Effect tags change alone AsBefore works old new
-  counts_won kind n change alone works tally counts other part sets worked =
-      let t = part_tallies old new kind n 0 tally other in record {
-        part = part t;
-        number = t.number;
-        alone = sets;
-        waiter = rests old new kind counts other;
-        searcher = worked;
-      }
+      → (PartTallies kind n 0 old new → part_of new ≡ change (part_of old)) → works (searchers_in old) (searchers_in new)
+      → Effect change AsBefore works old new
+  counts_won kind n change works tally counts other part worked =
+      let t = part_tallies old new kind n 0 tally other in
+      record { part = part t; number = t.number; waiter = rests old new kind counts other; searcher = worked }
 
   -- looks at the words of a set change nothing but the caller's list
-  pub looked : (alone : AloneSets → AloneSets → Type 0) → (hands_of tags ≡ 1 → alone (alone_sets_in old) (alone_sets_in new))
-      → (works : Searchers → Searchers → Type 0) → works (searchers_in old) (searchers_in new)
+  pub looked : (works : Searchers → Searchers → Type 0) → works (searchers_in old) (searchers_in new)
       → (l : Layout) (kind : Kind) (found : List (ℕ × ℕ)) → shows.LooksAround l kind found old new
-      → Effect tags as_before alone AsBefore works old new
-  looked alone sets works worked l kind found a =
-      counts_won kind 0 as_before alone works (tallies.finds _ _ found a.looks.changed)
-      a.looks.changed.same_else.1 a.looks.other (λ t. part_same old new kind t (holds_same old new a.same)) sets worked
+      → Effect as_before AsBefore works old new
+  looked works worked l kind found a = counts_won kind 0 as_before works (tallies.finds _ _ found a.looks.changed)
+      a.looks.changed.same_else.1 a.looks.other (λ t. part_same old new kind t (holds_same old new a.same)) worked

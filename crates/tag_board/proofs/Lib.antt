@@ -22,13 +22,10 @@ mod Adding
 mod Newcomers
 mod Endings
 mod Continuing
-mod AloneBoard
+mod Only
 mod AloneSteps
 mod AloneRuns
-mod AloneChanges
 mod AloneLooks
-mod AloneShows
-mod AloneOpens
-mod AloneResizes
+mod AloneCalls
 mod Charging
 mod Waiters

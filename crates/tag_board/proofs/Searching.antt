@@ -1,6 +1,6 @@
 -- What a call on one hand is for its caller as it works on both sets.
-use Rattle.std.proofs.Common.{◌≡◌, ℕ, ◌+◌, ◌-◌, true, false, ◌&&◌, cond, if◌then◌else◌, nat_lt, List, [], ◌∷◌, ◌++◌, length, map, set, Option, Some, None, Ok, Err, inl, inr, refl, sym, ap, ◌∙◌, subst}
-use Rattle.tag_board.proofs.Uses.{Layout, Record, Shape, Step, record_of, record_after, Visit, Run, record_after_runs, same_shape, Agent, TagFault, Hand, Kind, Ordinary, Reserved, Shown, Tags, IsHandOf, agent_of, hint_of, layout_of, reserved_of, split_of, kind_of, number_in_set, other_kind, Moves}
+use Rattle.std.proofs.Common.{◌≡◌, ℕ, ◌+◌, ◌-◌, true, false, ◌&&◌, cond, if◌then◌else◌, nat_lt, List, [], ◌∷◌, ◌++◌, length, map, Option, Some, None, Ok, Err, inl, inr, refl, sym, ap, ◌∙◌, subst}
+use Rattle.tag_board.proofs.Uses.{Layout, Record, Shape, Step, record_of, record_after, Visit, Run, record_after_runs, same_shape, Agent, TagFault, Hand, Kind, Ordinary, Reserved, Shown, Tags, IsHandOf, agent_of, hint_of, layout_of, reserved_of, split_of, kind_of, number_in_set, other_kind}
 use Rattle.tag_layout.specs.Layout.{words}
 use Rattle.tag_core.specs.declared.step.Step.TheVariants.{Post, Take}
 use Rattle.tag_search.specs.Gets.{IsGet}
@@ -18,20 +18,9 @@ use Rattle.tag_sets.specs.Gets as gets
 use Rattle.tag_sets.specs.Looks.{looks_from, MakesLooks, is_busy_in}
 use Rattle.tag_sets.specs.Shows as shows
 use Rattle.tag_sets.specs.Slots as slots
-use Rattle.tag_board.specs.Parts.{searcher_of, searchers_in, searchers_of_all}
-use Rattle.tag_board.specs.Searches.{Searcher, Searchers, nobody, reserved_known, ChangesOne, ChangesOneOf, Makes, Searches, SearchesRun, FindsRun, Puts, Gives, give_of, PutsTag, GivesTags, PostsTag, TriesTag, LooksAt, CountsFound, PacksFound, ListsFound}
-use Rattle.tag_board.proofs.Seats.{Sits, seat, seen_here, seen_there}
-
--- one caller changed so, and no other did
-pub searchers_move : {hands : List (Hand ℕ)} {i : ℕ} {old : Hand ℕ} → Sits hands i old → (new : Hand ℕ)
-    → (change : Searchers → Searchers → Type 0) → change (searchers_in old) (searchers_in new)
-    → Moves i change (searchers_of_all hands) (searchers_of_all (set hands i new))
-searchers_move {hands} {i} {old} at new change c = record {
-  own = subst (λ (s : Searchers). change s (searchers_of_all (set hands i new) i))
-      (sym (seen_here searchers_in nobody at))
-      (subst (λ (s : Searchers). change (searchers_in old) s) (sym (seen_here searchers_in nobody (seat at new))) c);
-  others = seen_there searchers_in nobody at new;
-}
+use Rattle.tag_board.specs.Parts.{searcher_of, searchers_in}
+use Rattle.tag_board.specs.Searches.{Searcher, reserved_known, ChangesOne, ChangesOneOf, Makes, Searches, SearchesRun, FindsRun, Puts, Gives, give_of, PutsTag, GivesTags, PostsTag, TriesTag, LooksAt, CountsFound, PacksFound, ListsFound}
+use Rattle.tag_board.proofs.Only.{layout_there, split_there}
 
 -- the steps of a record after gives of these runs
 runs_steps : (runs : List Run) (r : Record ℕ) → (record_after_runs runs r).steps ≡ map give_of runs ++ r.steps
@@ -67,24 +56,7 @@ module _ (old new : Agent ℕ) where
     hint = m.same_else.0;
   }
 
-module _ (old new : Hand ℕ) where
-  -- both sets are as before
-  pub rested : (kind : Kind) → searcher_of (agent_of new kind) ≡ searcher_of (agent_of old kind)
-      → agent_of new (other_kind kind) ≡ agent_of old (other_kind kind) → searchers_in new ≡ searchers_in old
-  rested Ordinary here other = let each : (k : Kind) → searchers_in new k ≡ searchers_in old k =
-      elim [ Ordinary ↦ here | Reserved ↦ ap searcher_of other ] in λ j. λ k. each k j
-  rested Reserved here other = let each : (k : Kind) → searchers_in new k ≡ searchers_in old k =
-      elim [ Ordinary ↦ ap searcher_of other | Reserved ↦ here ] in λ j. λ k. each k j
-
 module _ (tags : Tags ℕ) (old new : Hand ℕ) (own : IsHandOf tags old) where
-  -- the layout of a set is that of the hand's caller
-  pub layout_there : (kind : Kind) → layout_of tags kind ≡ (searchers_in old kind).layout
-  layout_there Ordinary = sym (ap (λ (k : Shape). k.layout) own.1.0.1)
-  layout_there Reserved = sym (ap (λ (k : Shape). k.layout) own.0.0.1)
-
-  pub split_there : reserved_of tags ≡ reserved_known (searchers_in old)
-  split_there = sym tags.reserved_is ∙ ap (λ (l : Layout). l.depth) (layout_there Reserved)
-
   -- a search whose visits follow from the layout
   pub searches_there : (kind : Kind) (visits : Searcher → List Visit) (to_visit : Layout → List Visit)
       → visits (searchers_in old kind) ≡ to_visit (searchers_in old kind).layout → (number : Option ℕ)
@@ -93,7 +65,7 @@ module _ (tags : Tags ℕ) (old new : Hand ℕ) (own : IsHandOf tags old) where
       → Searches visits number (searchers_in old kind) (searchers_in new kind)
   searches_there kind visits to_visit fits number s =
       let h = subst (λ (l : Layout). queue_gets.Searches l (to_visit l) number (queue.caller_of (agent_of old kind))
-      (queue.caller_of (agent_of new kind)) (hint_of old kind) (hint_of new kind)) (layout_there kind) s in
+      (queue.caller_of (agent_of new kind)) (hint_of old kind) (hint_of new kind)) (layout_there tags old own kind) s in
       let made = h.steps in record {
         steps = record {
           some = made.steps;
@@ -110,7 +82,7 @@ module _ (tags : Tags ℕ) (old new : Hand ℕ) (own : IsHandOf tags old) where
       → queue_gets.GetsBatch (layout_of tags Ordinary) n number old.ordinary new.ordinary
       → SearchesRun n number (searchers_in old Ordinary) (searchers_in new Ordinary)
   run_there n number g =
-      let h = subst (λ (l : Layout). queue_gets.GetsBatch l n number old.ordinary new.ordinary) (layout_there Ordinary) g
+      let h = subst (λ (l : Layout). queue_gets.GetsBatch l n number old.ordinary new.ordinary) (layout_there tags old own Ordinary) g
       in
       let made = h.steps in record {
         steps = record {
@@ -131,7 +103,7 @@ module _ (tags : Tags ℕ) (old new : Hand ℕ) (own : IsHandOf tags old) where
     around = λ t. let none = around t in (none.0, ap searchers_in none.1);
     found = λ f. let g = straight f in (
       g.number,
-      g.answer_is ∙ ap (λ (r : ℕ). gets.whole_run r g.number) split_there,
+      g.answer_is ∙ ap (λ (r : ℕ). gets.whole_run r g.number) (split_there tags old own),
       (run_there n g.number g.set.changed, ap searcher_of g.set.other),
     );
   }
@@ -141,16 +113,16 @@ module _ (tags : Tags ℕ) (old new : Hand ℕ) (own : IsHandOf tags old) where
       → change (number_in_set (split_of old) tag) (searchers_in old (kind_of (split_of old) tag))
       (searchers_in new (kind_of (split_of old) tag))
       → agent_of new (other_kind (kind_of (split_of old) tag)) ≡ agent_of old (other_kind (kind_of (split_of old) tag))
-      → ChangesOneOf tag change (searchers_in old) (searchers_in new)
+      → ChangesOneOf (reserved_known (searchers_in old)) tag change (searchers_in old) (searchers_in new)
   tag_there tag change here other =
       subst (λ (r : ℕ). ChangesOne (kind_of r tag) (change (number_in_set r tag)) (searchers_in old) (searchers_in new))
-      (own.2 ∙ split_there) (here, ap searcher_of other)
+      (own.2 ∙ split_there tags old own) (here, ap searcher_of other)
 
   pub clear_there : (tag : ℕ) → clears.Clears tags tag old new → PutsTag tag (searchers_in old) (searchers_in new)
   clear_there tag c =
       let kind = kind_of (split_of old) tag in let number : ℕ = number_in_set (split_of old) tag in
       let p = subst (λ (l : Layout). queue_clears.Puts l number (agent_of old kind) (agent_of new kind))
-      (layout_there kind) c.set.changed in
+      (layout_there tags old own kind) c.set.changed in
       tag_there tag Puts record {
         found = p.found;
         steps = ap (λ (r : Record ℕ). r.steps) p.put.known;
@@ -163,9 +135,9 @@ module _ (tags : Tags ℕ) (old new : Hand ℕ) (own : IsHandOf tags old) where
   list_there list g =
       let numbers : ℕ → List ℕ = λ r. map (λ (tag : ℕ). tag - r) list in
       let b = subst (λ (l : Layout). queue_batches.GivesBack l (numbers (reserved_of tags)) old.ordinary new.ordinary)
-      (layout_there Ordinary) g.set.changed in
+      (layout_there tags old own Ordinary) g.set.changed in
       let before = record_of (queue.caller_of old.ordinary) in let runs = b.gives.runs in
-      subst (λ (r : ℕ). ChangesOne Ordinary (Gives (numbers r)) (searchers_in old) (searchers_in new)) split_there (
+      subst (λ (r : ℕ). ChangesOne Ordinary (Gives (numbers r)) (searchers_in old) (searchers_in new)) (split_there tags old own) (
         record {
           runs = runs;
           cut = b.gives.cut;
@@ -204,13 +176,13 @@ module _ (tags : Tags ℕ) (old new : Hand ℕ) (own : IsHandOf tags old) where
   looks_there : (kind : Kind) (found : List (ℕ × ℕ)) → shows.LooksAround (layout_of tags kind) kind found old new
       → LooksAt found (searchers_in old kind) (searchers_in new kind)
   looks_there kind found a = looked_at (agent_of old kind) (agent_of new kind) (layout_of tags kind) found
-      (layout_there kind) a.each a.looks.changed
+      (layout_there tags old own kind) a.each a.looks.changed
 
   pub show_there : (kind : Kind) (shown : Shown) → shows.Shows tags kind shown old new
       → CountsFound kind shown (searchers_in old) (searchers_in new)
   show_there kind shown s = (
     s.found,
-    s.shown_is ∙ ap (λ (l : Layout). shows.shown_of l s.found) (layout_there kind),
+    s.shown_is ∙ ap (λ (l : Layout). shows.shown_of l s.found) (layout_there tags old own kind),
     (looks_there kind s.found s.around, ap searcher_of s.around.looks.other),
   )
 
@@ -219,7 +191,7 @@ module _ (tags : Tags ℕ) (old new : Hand ℕ) (own : IsHandOf tags old) where
   dump_there kind bytes p = (
     p.found,
     (λ tag. p.bits_are tag
-        ∙ ap (λ (l : Layout). cond (nat_lt tag l.depth && is_busy_in l p.found tag) 1 0) (layout_there kind)),
+        ∙ ap (λ (l : Layout). cond (nat_lt tag l.depth && is_busy_in l p.found tag) 1 0) (layout_there tags old own kind)),
     (looks_there kind p.found p.around, ap searcher_of p.around.looks.other),
   )
 
@@ -233,18 +205,18 @@ module _ (tags : Tags ℕ) (old new : Hand ℕ) (own : IsHandOf tags old) (bits 
   -- the reserved set is looked at first, then the ordinary one
   both_looked : (kind : Kind) → LooksAt (found_in kind) (searchers_in old kind) (searchers_in new kind)
   both_looked Ordinary = looked_at old.ordinary new.ordinary (layout_of tags Ordinary) l.ordinary
-      (layout_there tags old new own Ordinary) l.second.each
+      (layout_there tags old own Ordinary) l.second.each
       (subst (λ (a : Agent ℕ). MakesLooks (looks_from 0 l.ordinary) a new.ordinary) l.first.looks.other
       l.second.looks.changed)
   both_looked Reserved = looked_at old.reserved new.reserved (layout_of tags Reserved) l.reserved
-      (layout_there tags old new own Reserved) l.first.each
+      (layout_there tags old own Reserved) l.first.each
       (subst (λ (a : Agent ℕ). MakesLooks (looks_from 0 l.reserved) old.reserved a) (sym l.second.looks.other)
       l.first.looks.changed)
 
   pub busy_there : ListsFound bits (searchers_in old) (searchers_in new)
   busy_there = record {
     found = found_in;
-    bits_are = λ tag low. let split = split_there tags old new own in let layout = layout_there tags old new own in
+    bits_are = λ tag low. let split = split_there tags old own in let layout = layout_there tags old own in
         l.bits_are tag low ∙ (λ j. cond (
         if nat_lt tag (split j) then is_busy_in (layout Reserved j) l.reserved tag
         else (nat_lt tag (split j + (layout Ordinary j).depth)

@@ -1,6 +1,7 @@
 -- The state of a board after a call on one hand.
-use Rattle.std.proofs.Common.{◌≡◌, ◌≢◌, ℕ, ◌+◌, ◌<◌, ◌≤◌, ⊎_elim, List, length, map, get_or, set, refl, sym, ap, ◌∙◌, subst, arith, true, false, is_some, All, get_or-set_other, get_or-set_same, length-set}
-use Rattle.tag_board.proofs.Uses.{dite, ℕ_discrete, both_ways, cases_lt, map-set, set-get_or, get_or-map, Hand, Kind, Ordinary, Reserved, Tags, Shape, number_of, Holds, standing_of, hint_of, HasRoom, IsHandOf, part_of, record_in, terms_of, state_of_all, AreOrdered, IsSpent, Changes, Part, State, idle}
+use Rattle.std.proofs.Common.{◌≡◌, ◌≢◌, ℕ, ◌<◌, List, length, map, get_or, set, refl, sym, ap, ◌∙◌, subst, arith, true, false, is_some, All, get_or-set_other, get_or-set_same, length-set}
+use Rattle.tag_board.proofs.Uses.{dite, ℕ_discrete, both_ways, map-set, set-get_or, get_or-map, Hand, Kind, Ordinary, Reserved, Tags, Shape, number_of, Holds, standing_of, hint_of, HasRoom, IsHandOf, part_of, record_in, terms_of, state_of_all, AreOrdered, IsSpent, Changes, Moves, Part, State, idle}
+use Rattle.tag_board.specs.Searches.{ChangesOne}
 use Rattle.tag_board.proofs.Holdings.{holds_true, true_holds}
 
 -- the caller's hand, among all hands
@@ -30,6 +31,30 @@ pub seat : {R : Type 0} {hands : List (Hand R)} {i : ℕ} {old : Hand R} → Sit
 seat {R} {hands} {i} at new = let long = length-set hands i new in let low = at.within in
     record { within = omega arith; here = sym (get_or-set_same hands i new new low) }
 
+-- what is seen of one caller changed so, and what is seen of any other did not change
+pub moved : {R A : Type 0} (view : Hand R → A) (d : A) {hands : List (Hand R)} {i : ℕ} {old : Hand R}
+    → Sits hands i old → (new : Hand R) → (change : A → A → Type 0) → change (view old) (view new)
+    → Moves i change (λ caller. get_or (map view hands) caller d)
+    (λ caller. get_or (map view (set hands i new)) caller d)
+moved {R} {A} view d {hands} {i} {old} at new change c = record {
+  own = subst (λ (a : A). change a (get_or (map view (set hands i new)) i d)) (sym (seen_here view d at))
+      (subst (λ (a : A). change (view old) a) (sym (seen_here view d (seat at new))) c);
+  others = seen_there view d at new;
+}
+
+-- if one caller is as it was, and no other moved, all are as they were
+pub all_rest : {A : Type 0} {i : ℕ} {old new : ℕ → A} → Moves i (λ a b. b ≡ a) old new → new ≡ old
+all_rest {A} {i} {old} {new} m = λ j. λ caller. dite (ℕ_discrete caller i)
+    (λ (e : caller ≡ i). subst (λ (k : ℕ). new k ≡ old k) (sym e) m.own)
+    (λ (ne : caller ≢ i). m.others caller ne) j
+
+-- and so is what there is for both sets, if that for one is as it was and that for the other too
+pub both_same : {A : Type 0} (kind : Kind) {old new : Kind → A} → ChangesOne kind (λ a b. b ≡ a) old new → new ≡ old
+both_same Ordinary {old} {new} c = let each : (k : Kind) → new k ≡ old k = elim [ Ordinary ↦ c.0 | Reserved ↦ c.1 ] in
+    λ j. λ k. each k j
+both_same Reserved {old} {new} c = let each : (k : Kind) → new k ≡ old k = elim [ Ordinary ↦ c.1 | Reserved ↦ c.0 ] in
+    λ j. λ k. each k j
+
 module _ {R : Type 0} (tags : Tags R) {hands : List (Hand R)} {i : ℕ} {old : Hand R} (at : Sits hands i old) where
   -- a caller's part is that of the hand at its index
   pub part_here : (state_of_all tags hands).part i ≡ part_of old
@@ -51,12 +76,8 @@ module _ {R : Type 0} (tags : Tags R) {hands : List (Hand R)} {i : ℕ} {old : H
   -- the hand's part changed so, and the rest of the state is unchanged
   pub changes : (new : Hand R) (change : Part → Part) → part_of new ≡ change (part_of old)
       → Changes i change (state_of_all tags hands) (state_of_all tags (set hands i new))
-  changes new change e = record {
-    terms = ap (terms_of tags) (length-set hands i new);
-    total = refl;
-    own = seen_here part_of (idle false) (seat at new) ∙ e ∙ ap change (sym part_here);
-    others = seen_there part_of (idle false) at new;
-  }
+  changes new change e = let m = moved part_of (idle false) at new (λ p q. q ≡ change p) e in
+      record { terms = ap (terms_of tags) (length-set hands i new); total = refl; own = m.own; others = m.others }
 
   -- the hands are still in the order of their numbers
   pub ordered : (new : Hand R) → AreOrdered hands → number_of new ≡ number_of old → AreOrdered (set hands i new)
@@ -80,13 +101,9 @@ own_here tags {hands} {i} {old} at own = subst (IsHandOf tags) (sym at.here) (ow
 
 -- a state in which one part was replaced by itself is unchanged
 pub same_state : (old new : State) (i : ℕ) → Changes i (λ (p : Part). p) old new → new ≡ old
-same_state old new i c = λ j. record {
-  terms = c.terms j;
-  total = c.total j;
-  part = λ other. dite (ℕ_discrete other i)
-      (λ (e : other ≡ i). subst (λ (k : ℕ). new.part k ≡ old.part k) (sym e) c.own)
-      (λ (ne : other ≢ i). c.others other ne) j;
-}
+same_state old new i c =
+    let parts : new.part ≡ old.part = all_rest {i = i} (record { own = c.own; others = c.others }) in
+    λ j. record { terms = c.terms j; total = c.total j; part = parts j }
 
 module _ {R : Type 0} (tags : Tags R) {hands : List (Hand R)} {i : ℕ} {old : Hand R} (at : Sits hands i old)
     (own : IsHandOf tags old) where
@@ -101,12 +118,6 @@ module _ {R : Type 0} (tags : Tags R) {hands : List (Hand R)} {i : ℕ} {old : H
   -- a spent hand has no room
   pub spent_here : (kind : Kind) (n : ℕ) → IsSpent (state_of_all tags hands) i kind n → ¬ (HasRoom old kind n)
   spent_here kind n spent room = let life = life_here kind in let won = won_here kind in absurd (omega arith)
-
-  pub room_here : (kind : Kind) (n : ℕ) → ¬ (IsSpent (state_of_all tags hands) i kind n) → HasRoom old kind n
-  room_here kind n unspent = let life = life_here kind in let won = won_here kind in ⊎_elim
-      (λ (less : (record_in old kind).shape.life < (record_in old kind).won + n). absurd (unspent (omega arith)))
-      (λ (fits : (record_in old kind).won + n ≤ (record_in old kind).shape.life). fits)
-      (cases_lt (record_in old kind).shape.life ((record_in old kind).won + n))
 
   pub round_here : ((state_of_all tags hands).part i).round_robin ≡ (hint_of old Ordinary).round_robin
   round_here = ap (λ (p : Part). p.round_robin) (part_here tags at)

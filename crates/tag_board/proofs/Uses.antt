@@ -1,6 +1,6 @@
 -- The names that several proofs use, of the library, the crates below and the definitions here.
 pub use Rattle.std.proofs.Math.Logic.{∥∥₁_elim}
-pub use Rattle.std.proofs.lemmas.Bool.{and_from, and_parts, both_ways, cases_Bool, cases_eq, cases_lt, false_from_ne_true, false≢true, le-leb, le-ltb, leb-true, lt-ltb, ltb-false, ltb-true, not-true, not_from_false, or_cases, or_left, or_right}
+pub use Rattle.std.proofs.lemmas.Bool.{and_from, and_parts, both_ways, cases_Bool, cases_lt, false_from_ne_true, false≢true, le-leb, le-ltb, leb-true, lt-ltb, ltb-false, ltb-true, not-true, not_from_false, or_cases, or_left, or_right}
 pub use Rattle.std.proofs.lemmas.List.{append-nil, drop_all, get_or-map, get_or_past, length-map, map-set, set-get_or, take_at}
 pub use Rattle.std.proofs.lemmas.Nat.{one_shl, pow_pos}
 pub use Rattle.std.proofs.lemmas.Nat.Bits.{bit_at-lt, bit_at-zero, bit_at_above}
@@ -15,8 +15,8 @@ pub use Rattle.sums.proofs.Laws.{count_below-same, le-sum_below, one_if-bit, one
 pub use Rattle.sums.specs.Below.{count_below, one_if, sum_below}
 pub use Rattle.step_ledger.specs.Gather.{HasAll}
 pub use Rattle.step_ledger.specs.History.{total}
-pub use Rattle.tag_layout.proofs.PlaceFacts.{place_of-tag_at, word_bits-le, word_of-below, word_of-tag_at}
-pub use Rattle.tag_layout.specs.Layout.{HasShift, Layout, place_of, tag_at, word_bits, word_depth, word_of, words}
+pub use Rattle.tag_layout.proofs.PlaceFacts.{word_bits-le, word_of-below}
+pub use Rattle.tag_layout.specs.Layout.{HasShift, Layout, place_of, word_bits, word_depth, word_of, words}
 pub use Rattle.tag_core.proofs.Entries.{all_at, entry, entry_or}
 pub use Rattle.tag_core.specs.Callers.{record_of}
 pub use Rattle.tag_core.specs.Records.{record_after, tag_bit}
@@ -27,9 +27,9 @@ pub use Rattle.tag_core.specs.declared.shape.Shape.{Shape}
 pub use Rattle.tag_core.specs.declared.step.Step.{Step}
 pub use Rattle.tag_core.specs.declared.step.Step.TheVariants.{Word}
 pub use Rattle.tag_core.specs.declared.word_step.WordStep.TheVariants.{Give, Look, LookAside}
-pub use Rattle.tag_search.proofs.AloneCallers.{own_found, own_post, own_put, own_take, own_took, place_small, state_after}
+pub use Rattle.tag_search.proofs.AloneCallers.{own_found, place_small, state_after}
 pub use Rattle.tag_search.proofs.Pools.{and_false, and_true, or_false, pool_ext}
-pub use Rattle.tag_search.specs.Alone.{is_posted, IsAlone, pool_left}
+pub use Rattle.tag_search.specs.Alone.{IsAlone}
 pub use Rattle.tag_search.specs.AloneLaws.{cells_left, own_after, words_left}
 pub use Rattle.tag_search.specs.Gains.{count_of, count_of_run}
 pub use Rattle.tag_search.specs.Pool.{free_at, is_busy, Pool, pool_of}
@@ -63,10 +63,10 @@ pub use Rattle.tag_sets.specs.declared.kind.Kind.{Kind}
 pub use Rattle.tag_sets.specs.declared.kind.Kind.TheVariants.{Ordinary, Reserved}
 pub use Rattle.tag_sets.specs.declared.shown.Shown.{Shown}
 pub use Rattle.tag_sets.specs.declared.tags.Tags.{Tags}
-pub use Rattle.tag_board.specs.AloneSets.{AloneBatch, AloneClears, AloneClearsList, AloneDumps, AloneGets, AloneListsBusy, AlonePosts, AloneResizes, AloneSet, AloneSets, AloneShows, AloneTakes, AreUntouched, ChangesSet, ChangesSetOf, Chooses, ChoosesRun, Does, first_in, give_back, is_aside_in, is_busy_in, is_busy_tag, is_named, plain, post_in, put_back, resized, shallow, split_in, take_in, untouched}
+pub use Rattle.tag_board.specs.AloneSets.{AloneBatch, AloneClears, AloneClearsList, AloneDumps, AloneGets, AloneListsBusy, AlonePosts, AloneResizes, AloneSet, AloneSets, AloneShows, AloneTakes, AreUntouched, Chooses, ChoosesRun, Does, give_back, is_aside_in, is_busy_in, is_busy_tag, is_named, plain, post_in, put_back, set_left, sets_left, shallow, take_in, untouched}
 pub use Rattle.tag_board.specs.Boards.{alone_sets_of, searchers_of, state_of, waiters_of}
 pub use Rattle.tag_board.specs.Looks.{depth_of, Dumps, ListsBusy}
-pub use Rattle.tag_board.specs.Parts.{alone_set_of, alone_sets_in, alone_sets_of_all, AreOrdered, has, holds, part_of, record_in, searcher_of, searchers_in, searchers_of_all, state_of_all, terms_of, waiter_of, waiters_of_all}
+pub use Rattle.tag_board.specs.Parts.{alone_sets_of_all, AreOrdered, has, holds, part_of, record_in, searcher_of, searchers_in, searchers_of_all, state_of_all, terms_of, waiter_of, waiters_of_all}
 pub use Rattle.tag_board.specs.Refusals.{AreHeldOnce, AreOrdinary, IsSpent, Miscounts, RefusesBatch, RefusesGet, RefusesLeave, RefusesList, RefusesShallow, RefusesTag, RefusesWait}
 pub use Rattle.tag_board.specs.Replays.{Answers, Changes, cleared, HoldsAll, is_answer, is_in_list, is_in_run, IsOf, joined, left, left as parted, NobodyElseHolds, NobodyHolds, standing, Takes, Wins, won, won_more}
 pub use Rattle.tag_board.specs.Searches.{CountsFound, FindsRun, FindsTag, GivesTags, ListsFound, nobody, PacksFound, plainly, PostsTag, PutsTag, ResizesSets, Searcher, Searchers, shallowly, TriesTag}

@@ -1,6 +1,6 @@
 -- Each refusal has its cause, and there is no other refusal.
-use Rattle.std.proofs.Common.{◌≡◌, ◌≢◌, ◌⊎◌, ℕ, ◌+◌, ◌<◌, ◌≤◌, ◌↔◌, true, false, inl, inr, ⊎_elim, Result, Ok, Err, IfOk, OnErr, IsOk, refl, subst, arith, List, sym}
-use Rattle.tag_board.proofs.Uses.{Kind, cases_lt, cases_Bool, cases_eq, TagFault, NoSuchTag, NoReserved, NotHeld, BadCount, TooShallow, Spent, NotWaiting, CountsTags, Ordinary, Reserved, State, IsSpent, RefusesGet, RefusesShallow, RefusesBatch, RefusesTag, RefusesList, RefusesWait, RefusesLeave, Miscounts, AreOrdinary, AreHeldOnce, Answers}
+use Rattle.std.proofs.Common.{◌≡◌, ◌⊎◌, ℕ, ◌<◌, ◌≤◌, ◌↔◌, true, false, inl, inr, ⊎_elim, Result, Ok, Err, IfOk, OnErr, IsOk, refl, subst, arith, List, sym}
+use Rattle.tag_board.proofs.Uses.{cases_lt, cases_Bool, TagFault, NoSuchTag, NoReserved, NotHeld, BadCount, TooShallow, Spent, NotWaiting, CountsTags, Ordinary, Reserved, State, IsSpent, RefusesGet, RefusesShallow, RefusesBatch, RefusesTag, RefusesList, RefusesWait, RefusesLeave, Miscounts, AreOrdinary, AreHeldOnce, Answers}
 use Rattle.tag_sets.specs.declared.fault.TagFault.TheVariants.{Waiting}
 
 -- the result is a fault whose cause holds, or a value and no cause holds
@@ -34,11 +34,6 @@ by_cause {A} refuses r each (inr ok) = inr (
   λ fault cause. let P : Result A TagFault → Type 0 = λ x. IsOk x in
       let wrong = subst P (each fault cause) ok in cc,
 )
-
-spent_or_not : (s : State) (caller : ℕ) (kind : Kind) (n : ℕ) → IsSpent s caller kind n ⊎ (¬ (IsSpent s caller kind n))
-spent_or_not s caller kind n = ⊎_elim (λ (less : s.terms.life kind < (s.part caller).won kind + n). inl less)
-    (λ (fits : (s.part caller).won kind + n ≤ s.terms.life kind). inr (λ less. absurd (omega arith)))
-    (cases_lt (s.terms.life kind) ((s.part caller).won kind + n))
 
 module _ {A : Type 0} (s : State) (caller : ℕ) where
   pub tag_verdict : (r : Result A TagFault) (tag : ℕ) → (s.total ≤ tag → r ≡ Err NoSuchTag)
@@ -74,71 +69,6 @@ module _ {A : Type 0} (s : State) (caller : ℕ) where
       each NotWaiting h = refused h
       each _ h = absurd h
 
-  pub get_verdict : (r : Result A TagFault) → (IsSpent s caller Ordinary 1 → r ≡ Err Spent)
-      → (¬ (IsSpent s caller Ordinary 1) → IsOk r)
-      → IsVerdict (RefusesGet s caller Ordinary) r
-  get_verdict r spent room = by_cause (RefusesGet s caller Ordinary) r each
-      (⊎_elim (λ less. inl (Spent, less)) (λ fits. inr (room fits)) (spent_or_not s caller Ordinary 1))
-    where
-      each : (fault : TagFault) → RefusesGet s caller Ordinary fault → r ≡ Err fault
-      each Spent h = spent h
-      each _ h = absurd h
-
-  pub reserved_verdict : (r : Result A TagFault) → (s.terms.reserved ≡ 0 → r ≡ Err NoReserved)
-      → (1 ≤ s.terms.reserved → IsSpent s caller Reserved 1 → r ≡ Err Spent)
-      → (1 ≤ s.terms.reserved → ¬ (IsSpent s caller Reserved 1) → IsOk r)
-      → IsVerdict (RefusesGet s caller Reserved) r
-  reserved_verdict r none spent room = by_cause (RefusesGet s caller Reserved) r each (⊎_elim
-      (λ (zero_is : s.terms.reserved ≡ 0). inl (NoReserved, zero_is))
-      (λ (ne : s.terms.reserved ≢ 0). let some : 1 ≤ s.terms.reserved = omega arith in
-      ⊎_elim (λ less. inl (Spent, (some, less))) (λ fits. inr (room some fits)) (spent_or_not s caller Reserved 1))
-      (cases_eq s.terms.reserved 0))
-    where
-      each : (fault : TagFault) → RefusesGet s caller Reserved fault → r ≡ Err fault
-      each NoReserved h = none h
-      each Spent h = spent h.0 h.1
-      each _ h = absurd h
-
-  pub shallow_verdict : (depth : ℕ) (r : Result A TagFault) → (depth < s.terms.least → r ≡ Err TooShallow)
-      → (s.terms.least ≤ depth → IsSpent s caller Ordinary 1 → r ≡ Err Spent)
-      → (s.terms.least ≤ depth → ¬ (IsSpent s caller Ordinary 1) → IsOk r)
-      → IsVerdict (RefusesShallow s caller depth) r
-  shallow_verdict depth r shallow spent room = by_cause (RefusesShallow s caller depth) r each (⊎_elim
-      (λ (low : depth < s.terms.least). inl (TooShallow, low))
-      (λ (deep : s.terms.least ≤ depth). ⊎_elim (λ less. inl (Spent, (deep, less))) (λ fits. inr (room deep fits))
-      (spent_or_not s caller Ordinary 1)) (cases_lt depth s.terms.least))
-    where
-      each : (fault : TagFault) → RefusesShallow s caller depth fault → r ≡ Err fault
-      each TooShallow h = shallow h
-      each Spent h = spent h.0 h.1
-      each _ h = absurd h
-
-  module _ (n : ℕ) (r : Result A TagFault) (miscounts : Miscounts s n → r ≡ Err BadCount)
-      (around : ¬ (Miscounts s n) → (s.part caller).round_robin ≡ true → IsOk r)
-      (spent : ¬ (Miscounts s n) → (s.part caller).round_robin ≡ false → IsSpent s caller Ordinary n → r ≡ Err Spent)
-      (room : ¬ (Miscounts s n) → ¬ (IsSpent s caller Ordinary n) → IsOk r) where
-    each_told : (fault : TagFault) → RefusesBatch s caller n fault → r ≡ Err fault
-    each_told BadCount h = miscounts h
-    each_told Spent h = spent h.0 h.1 h.2
-    each_told _ h = absurd h
-
-    counted : ¬ (Miscounts s n) → ((fault : TagFault) × RefusesBatch s caller n fault) ⊎ IsOk r
-    counted fits = ⊎_elim
-        (λ (t : (s.part caller).round_robin ≡ true). inr (around fits t))
-        (λ (f : (s.part caller).round_robin ≡ false).
-        ⊎_elim (λ less. inl (Spent, (fits, f, less))) (λ some. inr (room fits some)) (spent_or_not s caller Ordinary n))
-        (cases_Bool (s.part caller).round_robin)
-
-    pub batch_verdict : IsVerdict (RefusesBatch s caller n) r
-    batch_verdict = by_cause (RefusesBatch s caller n) r each_told (⊎_elim
-        (λ (none : n ≡ 0). inl (BadCount, inl none))
-        (λ (some : n ≢ 0). ⊎_elim
-        (λ (wide : s.terms.bits Ordinary < n). inl (BadCount, inr wide))
-        (λ (fits : n ≤ s.terms.bits Ordinary). counted
-        (⊎_elim (λ (none : n ≡ 0). some none) (λ (wide : s.terms.bits Ordinary < n). absurd (omega arith))))
-        (cases_lt (s.terms.bits Ordinary) n))
-        (cases_eq n 0))
-
   module _ (tags : List ℕ) (r : Result A TagFault) (bad : (r ≡ Err BadCount) ↔ ¬ (CountsTags tags))
       (none : (r ≡ Err NoSuchTag) ↔ (CountsTags tags × ¬ (AreOrdinary s tags)))
       (free : (r ≡ Err NotHeld) ↔ (CountsTags tags × AreOrdinary s tags × ¬ (AreHeldOnce s caller tags)))
@@ -170,3 +100,28 @@ module _ {A : Type 0} (s : State) (caller : ℕ) where
 
     pub list_verdict : IsVerdict (RefusesList s caller tags) r
     list_verdict = by_answer (RefusesList s caller tags) r list_good list_bad
+
+-- no cause refuses a get whose caller has room, and no cause that comes first
+module _ (s : State) (caller : ℕ) where
+  pub may_get : ¬ (IsSpent s caller Ordinary 1) → (fault : TagFault) → ¬ (RefusesGet s caller Ordinary fault)
+  may_get room Spent h = room h
+  may_get room _ h = h
+
+  pub may_get_reserved : 1 ≤ s.terms.reserved → ¬ (IsSpent s caller Reserved 1) → (fault : TagFault)
+      → ¬ (RefusesGet s caller Reserved fault)
+  may_get_reserved some room NoReserved h = absurd (omega arith)
+  may_get_reserved some room Spent h = room h.1
+  may_get_reserved some room _ h = h
+
+  pub may_get_shallow : (depth : ℕ) → s.terms.least ≤ depth → ¬ (IsSpent s caller Ordinary 1) → (fault : TagFault)
+      → ¬ (RefusesShallow s caller depth fault)
+  may_get_shallow depth deep room TooShallow h = absurd (omega arith)
+  may_get_shallow depth deep room Spent h = room h.1
+  may_get_shallow depth deep room _ h = h
+
+  pub may_get_batch : (n : ℕ) → ¬ (Miscounts s n)
+      → ((s.part caller).round_robin ≡ false → ¬ (IsSpent s caller Ordinary n)) → (fault : TagFault)
+      → ¬ (RefusesBatch s caller n fault)
+  may_get_batch n fits room BadCount h = fits h
+  may_get_batch n fits room Spent h = room h.1 h.2
+  may_get_batch n fits room _ h = h

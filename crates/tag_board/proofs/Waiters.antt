@@ -1,6 +1,6 @@
 -- What a call on one hand is for its caller as it waits and wakes others.
-use Rattle.std.proofs.Common.{◌≡◌, ℕ, ◌+◌, ◌<◌, ⊎_elim, inl, inr, List, set, sym, ap, subst, arith}
-use Rattle.tag_board.proofs.Uses.{total, GroupStep, Charge, Full, Below, Won, Busy, moved_by, Queue, Hand, Kind, Ordinary, Reserved, Tags, agent_of, book_steps, group_steps, other_kind, waiter_of, waiters_of_all, Waiter, newcomer, Moves, GrantsFor, GrantsForTag, reserved_of, kind_of, reserved_below, ordinary_above, terms_of}
+use Rattle.std.proofs.Common.{◌≡◌, ℕ, ◌+◌, ◌<◌, ⊎_elim, inl, inr, List, ap, subst, arith}
+use Rattle.tag_board.proofs.Uses.{total, GroupStep, Charge, Full, Below, Won, Busy, moved_by, Queue, Hand, Kind, Ordinary, Reserved, Tags, agent_of, book_steps, group_steps, other_kind, waiter_of, GrantsFor, GrantsForTag, reserved_of, kind_of, reserved_below, ordinary_above, terms_of}
 use Rattle.wake_book.specs.Book as book
 use Rattle.wake_book.specs.Charges.{added}
 use Rattle.wake_book.specs.Groups as groups
@@ -8,17 +8,6 @@ use Rattle.tag_queue.specs.Agents as queue
 use Rattle.tag_queue.specs.Clears as queue_clears
 use Rattle.tag_sets.specs.Clears as clears
 use Rattle.tag_board.proofs.Charging.{charge_adds, walk_grants}
-use Rattle.tag_board.proofs.Seats.{Sits, seat, seen_here, seen_there}
-
--- one caller changed so, and no other did
-pub waiters_move : {R : Type 0} {hands : List (Hand R)} {i : ℕ} {old : Hand R} → Sits hands i old → (new : Hand R)
-    → (change : Waiter → Waiter → Type 0) → change (waiter_of old) (waiter_of new)
-    → Moves i change (waiters_of_all hands) (waiters_of_all (set hands i new))
-waiters_move {R} {hands} {i} {old} at new change c = record {
-  own = subst (λ (w : Waiter). change w (waiters_of_all (set hands i new) i)) (sym (seen_here waiter_of newcomer at))
-      (subst (λ (w : Waiter). change (waiter_of old) w) (sym (seen_here waiter_of newcomer (seat at new))) c);
-  others = seen_there waiter_of newcomer at new;
-}
 
 module _ {R : Type 0} (old new : Hand R) where
   -- a hand whose ordinary agent counts and waits as before

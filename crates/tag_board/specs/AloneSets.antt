@@ -4,11 +4,12 @@ use Rattle.std.specs.List.{list_any}
 use Rattle.sums.specs.Below.{count_below}
 use Rattle.tag_layout.specs.Layout.{Layout, word_of, place_of}
 use Rattle.tag_search.specs.declared.hint.Hint.{Hint}
+use Rattle.tag_search.specs.AloneLaws.{cells_left, words_left}
 use Rattle.tag_search.specs.Batch.{batch_words}
 use Rattle.tag_search.specs.Choice.{IsChoice, IsBatchChoice}
 use Rattle.tag_search.specs.Follows.{HintFollows, BatchFollows}
 use Rattle.tag_search.specs.Hints.{reduced}
-use Rattle.tag_search.specs.Pool.{Pool, is_busy, set_aside}
+use Rattle.tag_search.specs.Pool.{Pool, pool_of, is_busy, set_aside}
 use Rattle.tag_search.specs.Search.{Visit}
 use Rattle.tag_search.specs.Visits.{plain_visits, shallow_visits}
 use Rattle.tag_sets.specs.declared.fault.TagFault.{TagFault}
@@ -21,7 +22,8 @@ use Rattle.tag_sets.specs.declared.kind.Kind.TheVariants.{Ordinary, Reserved}
 use Rattle.tag_sets.specs.declared.shown.Shown.{Shown}
 use Rattle.tag_sets.specs.Bits.{bit_in}
 use Rattle.tag_sets.specs.Gets.{whole, whole_run}
-use Rattle.tag_sets.specs.Sets.{kind_of, number_in_set, other_kind}
+use Rattle.tag_sets.specs.Sets.{kind_of, number_in_set}
+use Rattle.tag_board.specs.Searches.{Searcher, Searchers, first_of, ChangesOne, ChangesOneOf}
 
 -- a set with one caller: its layout, which places are free and which set aside, which tags are posted, and where the
 -- next get begins
@@ -44,23 +46,22 @@ untouched layout round_robin = record {
 abbrev pub AloneSets : Type 0
 AloneSets = Kind → AloneSet
 
+-- a set, as the steps of its only caller determine it
+abbrev pub set_left : Searcher → AloneSet
+set_left s = record {
+  layout = s.layout;
+  pool = pool_of (words_left s.steps);
+  posted = λ tag. nat_eq ((cells_left s.steps).state tag) 1;
+  hint = s.hint;
+}
+
+-- both sets, as the steps of their only caller determine them
+abbrev pub sets_left : Searchers → AloneSets
+sets_left s = λ kind. set_left (s kind)
+
 -- the number of reserved tags, which are the lowest of the range
 abbrev pub split_in : AloneSets → ℕ
 split_in sets = (sets Reserved).layout.depth
-
--- the first tag of a set
-abbrev pub first_in : AloneSets → Kind → ℕ
-first_in sets Ordinary = split_in sets
-first_in sets Reserved = 0
-
--- one set changed so, and the other is unchanged
-abbrev pub ChangesSet : Kind → (AloneSet → AloneSet → Type 0) → AloneSets → AloneSets → Type 0
-ChangesSet kind change old new = change (old kind) (new kind) × (new (other_kind kind) ≡ old (other_kind kind))
-
--- the set of this tag changed so, for the tag's number in that set
-abbrev pub ChangesSetOf : ℕ → (ℕ → AloneSet → AloneSet → Type 0) → AloneSets → AloneSets → Type 0
-ChangesSetOf tag change old new = ChangesSet (kind_of (split_in old) tag) (change (number_in_set (split_in old) tag))
-    old new
 
 -- a refused command leaves both sets unchanged, and any other changes them so
 abbrev pub Does : {A : Type 0} → (A → AloneSets → AloneSets → Type 0) → AloneSets → Result A TagFault → AloneSets → Type 0
@@ -92,15 +93,15 @@ pub record ChoosesRun (n : ℕ) (answer : Option (ℕ × ℕ)) (old new : AloneS
 
 -- the tag answered is the choice of its set
 abbrev pub AloneGets : Kind → (AloneSet → List Visit) → Option ℕ → AloneSets → AloneSets → Type 0
-AloneGets kind visits answer old new = (number : Option ℕ) × (answer ≡ whole (first_in old kind) number)
-    × ChangesSet kind (Chooses visits number) old new
+AloneGets kind visits answer old new = (number : Option ℕ) × (answer ≡ whole (first_of (split_in old) kind) number)
+    × ChangesOne kind (Chooses visits number) old new
 
 -- the tags answered are the choice of the ordinary set; under round robin there are none, and nothing changes
 pub record AloneBatch (n : ℕ) (answer : Option (ℕ × ℕ)) (old new : AloneSets) : Type 0 where
   pub around : (old Ordinary).hint.round_robin ≡ true → (answer ≡ None) × (new ≡ old)
   pub choice : (old Ordinary).hint.round_robin ≡ false
       → (number : Option (ℕ × ℕ)) × (answer ≡ whole_run (split_in old) number)
-      × ChangesSet Ordinary (ChoosesRun n number) old new
+      × ChangesOne Ordinary (ChoosesRun n number) old new
 
 -- the hint after a clear of this tag, which leaves it alone under round robin
 abbrev pub hint_at : ℕ → Hint → Hint
@@ -140,21 +141,21 @@ is_posted sets tag = (sets (kind_of (split_in sets) tag)).posted (number_in_set 
 
 -- a clear
 abbrev pub AloneClears : ℕ → AloneSets → AloneSets → Type 0
-AloneClears tag = ChangesSetOf tag (λ number old new. new ≡ put_back number old)
+AloneClears tag old = ChangesOneOf (split_in old) tag (λ number before after. after ≡ put_back number before) old
 
 -- a clear of a list of ordinary tags
 abbrev pub AloneClearsList : List ℕ → AloneSets → AloneSets → Type 0
-AloneClearsList tags old = ChangesSet Ordinary
+AloneClearsList tags old = ChangesOne Ordinary
     (λ before after. after ≡ give_back (map (λ tag. tag - split_in old) tags) before) old
 
 -- a post
 abbrev pub AlonePosts : ℕ → AloneSets → AloneSets → Type 0
-AlonePosts tag = ChangesSetOf tag (λ number old new. new ≡ post_in number old)
+AlonePosts tag old = ChangesOneOf (split_in old) tag (λ number before after. after ≡ post_in number before) old
 
 -- a take, which finds the tag exactly if it is posted
 abbrev pub AloneTakes : ℕ → AloneSets → Result (Unit {0}) TagFault → AloneSets → Type 0
 AloneTakes tag old (Ok done) new = (is_posted old tag ≡ true)
-    × ChangesSetOf tag (λ number before after. after ≡ take_in number before) old new
+    × ChangesOneOf (split_in old) tag (λ number before after. after ≡ take_in number before) old new
 AloneTakes tag old (Err NotPosted) new = (is_posted old tag ≡ false) × (new ≡ old)
 AloneTakes tag old (Err fault) new = new ≡ old
 
@@ -199,6 +200,6 @@ resized depth w = record (untouched (record { depth = depth; shift = w.layout.sh
 
 -- a resize to `total` tags in both sets
 abbrev pub AloneResizes : ℕ → AloneSets → Result (Unit {0}) ResizeCause → AloneSets → Type 0
-AloneResizes total old (Ok done) new = ChangesSet Ordinary
+AloneResizes total old (Ok done) new = ChangesOne Ordinary
     (λ before after. after ≡ resized (total - split_in old) before) old new
 AloneResizes total old (Err cause) new = new ≡ old

@@ -1,7 +1,7 @@
 pub mod States
-pub mod AloneSets
 pub mod Wakeups
 pub mod Searches
+pub mod AloneSets
 pub mod Parts
 pub mod Boards
 pub mod Refusals

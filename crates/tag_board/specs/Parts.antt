@@ -4,7 +4,6 @@ use Rattle.tag_layout.specs.Layout.{word_bits}
 use Rattle.tag_core.specs.declared.record.Record.{Record}
 use Rattle.tag_core.specs.Callers.{record_of}
 use Rattle.tag_core.specs.Records.{tag_bit}
-use Rattle.tag_search.specs.Alone.{pool_left, is_posted}
 use Rattle.tag_queue.specs.declared.agent.Agent.{Agent}
 use Rattle.tag_queue.specs.Agents as queue
 use Rattle.tag_sets.specs.declared.hand.Hand.{Hand}
@@ -14,7 +13,7 @@ use Rattle.tag_sets.specs.declared.tags.Tags.{Tags}
 use Rattle.tag_sets.specs.Sets.{kind_of, number_in_set}
 use Rattle.tag_sets.specs.Hands.{agent_of, queue_of, layout_of, reserved_of, total_of, least_of, split_of, standing_of, hint_of, number_of}
 use Rattle.tag_sets.specs.Hands.{book_steps, group_steps, wait_index_of}
-use Rattle.tag_board.specs.AloneSets.{AloneSet, AloneSets, untouched}
+use Rattle.tag_board.specs.AloneSets.{AloneSets, sets_left}
 use Rattle.tag_board.specs.Searches.{Searcher, Searchers, nobody}
 use Rattle.tag_board.specs.States.{Terms, Part, State, idle}
 use Rattle.tag_board.specs.Wakeups.{Waiter, newcomer}
@@ -64,23 +63,6 @@ state_of_all tags hands = record {
 abbrev pub AreOrdered : {R : Type 0} → List (Hand R) → Type 0
 AreOrdered hands = (n : ℕ) → n < length hands → slice_index (map number_of hands) n ≡ n
 
--- a set, as the steps of its only agent determine it
-abbrev pub alone_set_of : {R : Type 0} → Agent R → AloneSet
-alone_set_of agent = record {
-  layout = (queue.caller_of agent).shape.value.layout;
-  pool = pool_left (queue.caller_of agent);
-  posted = is_posted (queue.caller_of agent);
-  hint = queue.hint_of agent;
-}
-
--- both sets, as the steps of the only hand determine them
-abbrev pub alone_sets_in : {R : Type 0} → Hand R → AloneSets
-alone_sets_in hand = λ kind. alone_set_of (agent_of hand kind)
-
--- both sets, as the steps of the first hand determine them
-abbrev pub alone_sets_of_all : {R : Type 0} → List (Hand R) → AloneSets
-alone_sets_of_all hands = slice_index_or (map alone_sets_in hands) 0 (λ kind. untouched (record { depth = 0; shift = 0 }) false)
-
 -- the hand as it waits and wakes others
 abbrev pub waiter_of : {R : Type 0} → Hand R → Waiter
 waiter_of hand = record {
@@ -109,3 +91,7 @@ searchers_in hand = λ kind. searcher_of (agent_of hand kind)
 -- each caller as it works on both sets: caller n is the hand at index n
 abbrev pub searchers_of_all : List (Hand ℕ) → ℕ → Searchers
 searchers_of_all hands caller = slice_index_or (map searchers_in hands) caller nobody
+
+-- both sets, as the steps of the first hand determine them
+abbrev pub alone_sets_of_all : List (Hand ℕ) → AloneSets
+alone_sets_of_all hands = slice_index_or (map (λ hand. sets_left (searchers_in hand)) hands) 0 (sets_left nobody)

@@ -51,19 +51,18 @@ nobody kind = record {
 abbrev pub reserved_known : Searchers → ℕ
 reserved_known s = (s Reserved).layout.depth
 
--- the first tag of a set
-abbrev pub first_known : Searchers → Kind → ℕ
-first_known s Ordinary = reserved_known s
-first_known s Reserved = 0
+-- the first tag of a set, if the first `split` tags are reserved
+abbrev pub first_of : ℕ → Kind → ℕ
+first_of split Ordinary = split
+first_of split Reserved = 0
 
--- one set changed so, and the other is unchanged
-abbrev pub ChangesOne : Kind → (Searcher → Searcher → Type 0) → Searchers → Searchers → Type 0
+-- of what there is for each set, that for one changed so, and that for the other is unchanged
+abbrev pub ChangesOne : {A : Type 0} → Kind → (A → A → Type 0) → (Kind → A) → (Kind → A) → Type 0
 ChangesOne kind change old new = change (old kind) (new kind) × (new (other_kind kind) ≡ old (other_kind kind))
 
--- the set of this tag changed so, for the tag's number in that set
-abbrev pub ChangesOneOf : ℕ → (ℕ → Searcher → Searcher → Type 0) → Searchers → Searchers → Type 0
-ChangesOneOf tag change old new = ChangesOne (kind_of (reserved_known old) tag)
-    (change (number_in_set (reserved_known old) tag)) old new
+-- the same for the set of this tag, and the tag's number in it, if the first `split` tags are reserved
+abbrev pub ChangesOneOf : {A : Type 0} → ℕ → ℕ → (ℕ → A → A → Type 0) → (Kind → A) → (Kind → A) → Type 0
+ChangesOneOf split tag change = ChangesOne (kind_of split tag) (change (number_in_set split tag))
 
 -- the caller made this step, and nothing else of it changed
 abbrev pub Makes : Step ℕ → Searcher → Searcher → Type 0
@@ -97,7 +96,7 @@ pub record SearchesRun (n : ℕ) (answer : Option (ℕ × ℕ)) (old new : Searc
 
 -- a get from a set answers what its search of the set found
 abbrev pub FindsTag : Kind → (Searcher → List Visit) → Option ℕ → Searchers → Searchers → Type 0
-FindsTag kind visits answer old new = (number : Option ℕ) × (answer ≡ whole (first_known old kind) number)
+FindsTag kind visits answer old new = (number : Option ℕ) × (answer ≡ whole (first_of (reserved_known old) kind) number)
     × ChangesOne kind (Searches visits number) old new
 
 -- a batch get answers what its search found; under round robin it makes no step and answers none
@@ -129,7 +128,7 @@ pub record Gives (numbers : List ℕ) (old new : Searcher) : Type 0 where
 
 -- a clear puts its tag
 abbrev pub PutsTag : ℕ → Searchers → Searchers → Type 0
-PutsTag tag = ChangesOneOf tag Puts
+PutsTag tag old = ChangesOneOf (reserved_known old) tag Puts old
 
 -- a clear of a list gives its tags, all of them ordinary
 abbrev pub GivesTags : List ℕ → Searchers → Searchers → Type 0
@@ -137,13 +136,15 @@ GivesTags tags old new = ChangesOne Ordinary (Gives (map (λ tag. tag - reserved
 
 -- a post of the tag, with the value of its slot
 abbrev pub PostsTag : ℕ → Searchers → Searchers → Type 0
-PostsTag tag = ChangesOneOf tag (λ number old new. (value : ℕ) × Makes (Post number value) old new)
+PostsTag tag old = ChangesOneOf (reserved_known old) tag
+    (λ number before after. (value : ℕ) × Makes (Post number value) before after) old
 
 -- a take of a tag in range makes one exchange: the tag is taken if that found 1, and not posted exactly if it found 0
 abbrev pub TriesTag : ℕ → Result (Unit {0}) TagFault → Searchers → Searchers → Type 0
-TriesTag tag (Ok done) = ChangesOneOf tag (λ number old new. (value : ℕ) × Makes (Take number 1 (Some value)) old new)
-TriesTag tag (Err NotPosted) = ChangesOneOf tag (λ number. Makes (Take number 0 None))
-TriesTag tag (Err fault) = λ old new. new ≡ old
+TriesTag tag (Ok done) old new = ChangesOneOf (reserved_known old) tag
+    (λ number before after. (value : ℕ) × Makes (Take number 1 (Some value)) before after) old new
+TriesTag tag (Err NotPosted) old new = ChangesOneOf (reserved_known old) tag (λ number. Makes (Take number 0 None)) old new
+TriesTag tag (Err fault) old new = new ≡ old
 
 -- the caller looked once at each word of the set, in order, and found these
 pub record LooksAt (found : List (ℕ × ℕ)) (old new : Searcher) : Type 0 where

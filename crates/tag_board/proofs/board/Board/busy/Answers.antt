@@ -4,6 +4,7 @@ use Rattle.tag_board.proofs.Uses.{div_ceil, AloneListsBusy, ListsFound, state_of
 use Rattle.tag_board.specs.Boards.{IsAlone}
 use Rattle.tag_board.proofs.Lookings.{busy_there, whole_list}
 use Rattle.tag_board.proofs.Commands.{Seen, all_rest, effect_on, seated, seen, busy_does, held_here, own_here, same_state, sits}
+use Rattle.tag_board.proofs.AloneCalls as alone
 use Rattle.tag_board.proofs.board.Board.busy.Goals as goal
 
 pub invariant_of-self : goal.invariant_of-self
@@ -18,7 +19,7 @@ returns c =
     let b = c.args.self.now in let at = sits c.requires c.index_mut.ensures.value in let old = c.index_mut.result.now in
     let new = c.busy.new.hand in let e = c.busy.ensures in let i : ℕ = c.args.caller in let into = c.busy.new.into in
     let bits = c.in_ok-bits.bits in let now : Seen = seen b.tags (set b.hands.items i new) in
-    let k = effect_on b at new (busy_does b.tags old new (own_here b.tags at b.own) into c.busy.result e.lists) in
+    let k = effect_on b at new e.hand (alone.lists into) (busy_does b.tags old new (own_here b.tags at b.own) into c.busy.result e.lists) in
     let long : length into ≡ bits.len = let room = e.room in let f = ap length c.deref_mut.ensures.value in
     let g = bits.ok in omega arith in
     let P : List ℕ → Type 0 = λ x. ListsBusy i (state_of b) x now.state

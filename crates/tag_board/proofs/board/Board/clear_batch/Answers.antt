@@ -1,7 +1,8 @@
 -- The hand loses the listed tags and counts them.
 use Rattle.std.proofs.Common.{ℕ, length, arith}
-use Rattle.tag_board.proofs.Uses.{AloneClearsList, GivesTags, state_of, RefusesList, Changes, cleared, is_in_list, GrantsFor}
+use Rattle.tag_board.proofs.Uses.{state_of, RefusesList, Changes, cleared, is_in_list, GrantsFor}
 use Rattle.tag_board.proofs.Commands.{kept, replies, seated, list_does, both_ok, both_on, list_verdict, held_here, here_held, own_here, sits}
+use Rattle.tag_board.proofs.AloneCalls as alone
 use Rattle.tag_board.proofs.board.Board.clear_batch.Goals as goal
 
 pub invariant_of-self : goal.invariant_of-self
@@ -16,9 +17,9 @@ returns c =
     let b = c.args.self.now in let at = sits c.requires c.index_mut.ensures.value in let old = c.index_mut.result.now in
     let new = c.clear_batch.new.hand in let e = c.clear_batch.ensures in let r = c.clear_batch.result in
     let i : ℕ = c.args.caller in let tags = c.args.tags.now in let s = state_of b in
-    let k = replies b at new {refuses = RefusesList s i tags} (λ woken. cleared (is_in_list tags) (length tags))
+    let k = replies b at new e.hand {refuses = RefusesList s i tags} (λ woken. cleared (is_in_list tags) (length tags))
     (λ (woken : ℕ). Changes i (cleared (is_in_list tags) (length tags)) s)
-    (λ woken. AloneClearsList tags) (GrantsFor s.terms.cap (length tags)) (λ woken. GivesTags tags) r
+    (GrantsFor s.terms.cap (length tags)) (λ woken. alone.gives tags) r
     (list_verdict s i tags r e.bad_count e.no_such_tag (
       (λ x. let h = e.not_held.0 x in
           (h.0, h.1, λ m. h.2 (λ k d l. held_here b.tags at _ (m.0 k d l), m.1))),

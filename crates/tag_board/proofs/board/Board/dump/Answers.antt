@@ -4,6 +4,7 @@ use Rattle.tag_board.proofs.Uses.{div_ceil, AloneDumps, PacksFound, state_of, al
 use Rattle.tag_board.specs.Boards.{IsAlone}
 use Rattle.tag_board.proofs.Lookings.{dump_there, depth_is, filled}
 use Rattle.tag_board.proofs.Commands.{Seen, all_rest, effect_on, seated, seen, dump_does, own_here, same_state, sits}
+use Rattle.tag_board.proofs.AloneCalls as alone
 use Rattle.tag_board.proofs.board.Board.dump.Goals as goal
 
 pub invariant_of-self : goal.invariant_of-self
@@ -18,7 +19,7 @@ returns c =
     let b = c.args.self.now in let at = sits c.requires c.index_mut.ensures.value in let old = c.index_mut.result.now in
     let new = c.dump.new.hand in let d = c.dump.ensures.dumps in let i : ℕ = c.args.caller in let kind = c.args.kind in
     let bytes = c.in_ok-bytes.bytes in let now : Seen = seen b.tags (set b.hands.items i new) in
-    let k = effect_on b at new (dump_does b.tags old new (own_here b.tags at b.own) kind d.bytes d.packed) in
+    let k = effect_on b at new c.dump.ensures.hand (alone.packs kind d.bytes) (dump_does b.tags old new (own_here b.tags at b.own) kind d.bytes d.packed) in
     let few = c.in_ok-bytes.ensures.len in let count = c.div_ceil.ensures in
     let depth = ap (λ (n : ℕ). div_ceil n 8) c.depth-depth.ensures in
     let is = ap (λ (n : ℕ). div_ceil n 8) (depth_is b.tags b.hands.items kind) in

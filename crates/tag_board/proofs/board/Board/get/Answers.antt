@@ -1,7 +1,8 @@
 -- The hand did not hold the tag before, and no other caller holds it now, so no caller held it.
 use Rattle.std.proofs.Common.{ℕ, Option, Ok, refl, ap, arith}
-use Rattle.tag_board.proofs.Uses.{count_of, Ordinary, AloneGets, plain, FindsTag, plainly, state_of, RefusesGet, Wins, is_answer}
-use Rattle.tag_board.proofs.Commands.{got, holds_gained, kept, none_moved, seated, seen_of, get_gains, ok_map, err_same, get_verdict, own_here, sits, spent_here}
+use Rattle.tag_board.proofs.Uses.{count_of, Ordinary, plain, state_of, RefusesGet, Wins, is_answer}
+use Rattle.tag_board.proofs.Commands.{got, holds_gained, kept, none_moved, seated, seen_of, get_gains, ok_map, err_same, may_get, own_here, sits, spent_here}
+use Rattle.tag_board.proofs.AloneCalls as alone
 use Rattle.tag_board.proofs.board.Board.get.Goals as goal
 
 pub invariant_of-self : goal.invariant_of-self
@@ -25,10 +26,9 @@ returns c =
     let new = c.get_freed.new.hand in let a : Option ℕ = c.in_ok-answer.field-0.answer in let e = c.in_ok-answer.ensures in
     let i : ℕ = c.args.caller in let s = state_of b in let own = own_here b.tags at b.own in
     let k = got b at new {refuses = RefusesGet s i Ordinary}
-    (λ (o : Option ℕ). Wins i Ordinary (is_answer o) (count_of o) s) (AloneGets Ordinary plain)
-    (FindsTag Ordinary plainly) a
+    (λ (o : Option ℕ). Wins i Ordinary (is_answer o) (count_of o) s) (alone.finds Ordinary plain)
+    c.get_freed.ensures.hand a
     (seen_of c.tell_free.new.self) (ap seen_of c.tell_free.ensures.same)
     (get_gains b.tags old new own b.hands.items a e.gets) c.tell_free.ensures.alone
-    (get_verdict s i (Ok a) (λ spent. absurd (spent_here b.tags at own Ordinary 1 spent (e.room.0 refl)))
-    (λ unspent. refl)) (λ w. w) in
+    (may_get s i (λ spent. spent_here b.tags at own Ordinary 1 spent (e.room.0 refl))) (λ w. w) in
     record { answers = k.answers; alone = k.alone; waiters = none_moved i (Ok a) k.waiters; searches = k.searches }

@@ -1,7 +1,8 @@
 -- The hand did not hold the tags before, and no other caller holds one now, so no caller held one.
 use Rattle.std.proofs.Common.{◌≡◌, ℕ, true, Option, None, Ok, refl, sym, ap, ◌∙◌, arith}
-use Rattle.tag_board.proofs.Uses.{count_of_run, Ordinary, AloneBatch, FindsRun, state_of, RefusesBatch, Wins, is_in_run, State}
-use Rattle.tag_board.proofs.Commands.{got, holds_gained, kept, none_moved, seated, seen_of, batch_gains, batch_number, none_around, batch_verdict, own_here, round_here, sits, spent_here}
+use Rattle.tag_board.proofs.Uses.{count_of_run, Ordinary, state_of, RefusesBatch, Miscounts, Wins, is_in_run, State}
+use Rattle.tag_board.proofs.Commands.{got, holds_gained, kept, none_moved, seated, seen_of, batch_gains, batch_number, none_around, may_get_batch, own_here, round_here, sits, spent_here}
+use Rattle.tag_board.proofs.AloneCalls as alone
 use Rattle.tag_board.proofs.board.Board.get_batch.Goals as goal
 
 pub invariant_of-self : goal.invariant_of-self
@@ -27,16 +28,14 @@ returns c =
     let e = c.in_ok-answer.ensures in let i : ℕ = c.args.caller in let s = state_of b in
     let own = own_here b.tags at b.own in let n : ℕ = c.args.n in let round = round_here b.tags at own in
     let around = none_around b.tags old new n (Ok c.in_ok-answer.field-0) c.in_ok-answer.field-0 refl e.bad_count e.round_robin in
+    let fits : ¬ (Miscounts s n) = λ bad. let wrong = e.bad_count.1 bad in cc in
     let k = got b at new {refuses = RefusesBatch s i n}
     (λ (o : Option (ℕ × ℕ)) (t : State). ((s.part i).round_robin ≡ true → o ≡ None)
-    × Wins i Ordinary (is_in_run o) (count_of_run o) s t) (AloneBatch n)
-    (FindsRun n) a
+    × Wins i Ordinary (is_in_run o) (count_of_run o) s t) (alone.finds_run n)
+    c.get_batch_freed.ensures.hand a
     (seen_of c.tell_run_free.new.self) (ap seen_of c.tell_run_free.ensures.same)
     (batch_gains b.tags old new own b.hands.items n a around e.gets) c.tell_run_free.ensures.alone
-    (batch_verdict s i n (Ok a) (λ bad. let wrong = e.bad_count.1 bad in absurd cc)
-    (λ fits round. refl)
-    (λ fits straight spent. let wrong = e.spent.1 (fits, sym round ∙ straight, spent_here b.tags at own Ordinary n spent) in
-    absurd cc)
-    (λ fits unspent. refl))
+    (may_get_batch s i n fits
+    (λ straight spent. let wrong = e.spent.1 (fits, sym round ∙ straight, spent_here b.tags at own Ordinary n spent) in cc))
     (λ w. ((λ t. (around (sym round ∙ t)).0), w)) in
     record { answers = k.answers; alone = k.alone; waiters = none_moved i (Ok a) k.waiters; searches = k.searches }

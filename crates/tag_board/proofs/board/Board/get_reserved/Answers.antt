@@ -1,7 +1,8 @@
 -- The hand did not hold the tag before, and no other caller holds it now, so no caller held it.
-use Rattle.std.proofs.Common.{ℕ, Option, Ok, ap, arith}
-use Rattle.tag_board.proofs.Uses.{count_of, Reserved, AloneGets, plain, FindsTag, plainly, state_of, RefusesGet, Wins, is_answer}
-use Rattle.tag_board.proofs.Commands.{got, holds_gained, kept, none_moved, seated, seen_of, reserved_gains, ok_map, reserved_verdict, own_here, room_here, sits, spent_here}
+use Rattle.std.proofs.Common.{ℕ, Option, Ok, refl, ap, arith}
+use Rattle.tag_board.proofs.Uses.{count_of, Reserved, plain, state_of, RefusesGet, Wins, is_answer}
+use Rattle.tag_board.proofs.Commands.{got, holds_gained, kept, none_moved, seated, seen_of, reserved_gains, ok_map, may_get_reserved, own_here, sits, spent_here}
+use Rattle.tag_board.proofs.AloneCalls as alone
 use Rattle.tag_board.proofs.board.Board.get_reserved.Goals as goal
 
 pub invariant_of-self : goal.invariant_of-self
@@ -24,12 +25,11 @@ returns c =
     let b = c.args.self.now in let at = sits c.requires c.index_mut.ensures.value in let old = c.index_mut.result.now in
     let new = c.get_reserved.new.hand in let a : Option ℕ = c.in_ok-answer.answer in let e = c.in_ok-answer.ensures in
     let i : ℕ = c.args.caller in let s = state_of b in let own = own_here b.tags at b.own in
+    let room = e.succeeds.0 refl in
     let k = got b at new {refuses = RefusesGet s i Reserved}
-    (λ (o : Option ℕ). Wins i Reserved (is_answer o) (count_of o) s) (AloneGets Reserved plain)
-    (FindsTag Reserved plainly) a
+    (λ (o : Option ℕ). Wins i Reserved (is_answer o) (count_of o) s) (alone.finds Reserved plain)
+    c.get_reserved.ensures.hand a
     (seen_of c.tell_free.new.self) (ap seen_of c.tell_free.ensures.same)
     (reserved_gains b.tags old new own b.hands.items a e.gets) c.tell_free.ensures.alone
-    (reserved_verdict s i (Ok a) e.no_reserved.1
-    (λ some spent. e.spent.1 (some, spent_here b.tags at own Reserved 1 spent))
-    (λ some unspent. e.succeeds.1 (some, room_here b.tags at own Reserved 1 unspent))) (λ w. w) in
+    (may_get_reserved s i room.0 (λ spent. spent_here b.tags at own Reserved 1 spent room.1)) (λ w. w) in
     record { answers = k.answers; alone = k.alone; waiters = none_moved i (Ok a) k.waiters; searches = k.searches }

@@ -1,7 +1,8 @@
 -- The hand did not hold the tag before, and no other caller holds it now, so no caller held it.
 use Rattle.std.proofs.Common.{ℕ, Option, Ok, refl, ap, arith}
-use Rattle.tag_board.proofs.Uses.{count_of, Ordinary, AloneGets, shallow, FindsTag, shallowly, state_of, RefusesShallow, Wins, is_answer}
-use Rattle.tag_board.proofs.Commands.{got, holds_gained, kept, none_moved, seated, seen_of, shallow_gains, ok_map, shallow_verdict, own_here, sits, spent_here}
+use Rattle.tag_board.proofs.Uses.{count_of, Ordinary, shallow, state_of, RefusesShallow, Wins, is_answer}
+use Rattle.tag_board.proofs.Commands.{got, holds_gained, kept, none_moved, seated, seen_of, shallow_gains, ok_map, may_get_shallow, own_here, sits, spent_here}
+use Rattle.tag_board.proofs.AloneCalls as alone
 use Rattle.tag_board.proofs.board.Board.get_shallow.Goals as goal
 
 pub invariant_of-self : goal.invariant_of-self
@@ -24,12 +25,11 @@ returns c =
     let b = c.args.self.now in let at = sits c.requires c.index_mut.ensures.value in let old = c.index_mut.result.now in
     let new = c.get_shallow_freed.new.hand in let a : Option ℕ = c.in_ok-answer.field-0.answer in let e = c.in_ok-answer.ensures in
     let i : ℕ = c.args.caller in let s = state_of b in let own = own_here b.tags at b.own in
+    let room = e.succeeds.0 refl in
     let k = got b at new {refuses = RefusesShallow s i c.args.depth}
-    (λ (o : Option ℕ). Wins i Ordinary (is_answer o) (count_of o) s) (AloneGets Ordinary (shallow c.args.depth))
-    (FindsTag Ordinary (shallowly c.args.depth)) a
+    (λ (o : Option ℕ). Wins i Ordinary (is_answer o) (count_of o) s) (alone.finds Ordinary (shallow c.args.depth))
+    c.get_shallow_freed.ensures.hand a
     (seen_of c.tell_free.new.self) (ap seen_of c.tell_free.ensures.same)
     (shallow_gains b.tags old new own b.hands.items c.args.depth a e.gets) c.tell_free.ensures.alone
-    (shallow_verdict s i c.args.depth (Ok a) (λ low. let wrong = e.too_shallow.1 low in absurd cc)
-    (λ deep spent. let wrong = e.spent.1 (deep, spent_here b.tags at own Ordinary 1 spent) in absurd cc)
-    (λ deep unspent. refl)) (λ w. w) in
+    (may_get_shallow s i c.args.depth room.0 (λ spent. spent_here b.tags at own Ordinary 1 spent room.1)) (λ w. w) in
     record { answers = k.answers; alone = k.alone; waiters = none_moved i (Ok a) k.waiters; searches = k.searches }

@@ -1,7 +1,8 @@
 -- The hand loses the tag and counts nothing.
 use Rattle.std.proofs.Common.{ℕ, nat_eq, arith}
-use Rattle.tag_board.proofs.Uses.{AlonePosts, PostsTag, state_of, RefusesTag, Changes, left}
+use Rattle.tag_board.proofs.Uses.{state_of, RefusesTag, Changes, left}
 use Rattle.tag_board.proofs.Commands.{kept, none_moved, replies, seated, AsBefore, post_does, on_map, tag_verdict, held_here, none_here, own_here, sits}
+use Rattle.tag_board.proofs.AloneCalls as alone
 use Rattle.tag_board.proofs.board.Board.post.Goals as goal
 
 pub invariant_of-self : goal.invariant_of-self
@@ -16,9 +17,8 @@ returns c =
     let b = c.args.self.now in let at = sits c.requires c.index_mut.ensures.value in let old = c.index_mut.result.now in
     let new = c.post.new.hand in let e = c.post.ensures in let r = c.post.result in let i : ℕ = c.args.caller in
     let tag : ℕ = c.args.tag in let s = state_of b in
-    let k = replies b at new {refuses = RefusesTag s i tag} (λ done. left (nat_eq tag))
-    (λ done. Changes i (left (nat_eq tag)) s)
-    (λ done. AlonePosts tag) (λ done. AsBefore) (λ done. PostsTag tag) r
+    let k = replies b at new e.hand {refuses = RefusesTag s i tag} (λ done. left (nat_eq tag))
+    (λ done. Changes i (left (nat_eq tag)) s) (λ done. AsBefore) (λ done. alone.posts tag) r
     (tag_verdict s i r tag e.no_such_tag.1 (λ low none. e.not_held.1 (low, none_here b.tags at tag none))
     (λ held. e.succeeds (held_here b.tags at tag held)))
     (on_map _ r e.posts (λ p. (post_does b.tags old new (own_here b.tags at b.own) tag p, (λ to. to)))) e.err in

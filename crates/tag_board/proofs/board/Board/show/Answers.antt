@@ -3,6 +3,7 @@ use Rattle.std.proofs.Common.{ap, arith}
 use Rattle.tag_board.proofs.Uses.{state_of}
 use Rattle.tag_board.proofs.Lookings.{show_depth, show_words, show_few}
 use Rattle.tag_board.proofs.Commands.{all_rest, effect_on, seated, show_does, own_here, same_state, sits}
+use Rattle.tag_board.proofs.AloneCalls as alone
 use Rattle.tag_board.proofs.board.Board.show.Goals as goal
 
 pub invariant_of-self : goal.invariant_of-self
@@ -16,7 +17,7 @@ pub returns : goal.returns
 returns c =
     let b = c.args.self.now in let at = sits c.requires c.index_mut.ensures.value in let old = c.index_mut.result.now in
     let new = c.show.new.hand in let hands = b.hands.items in let s = c.show.ensures.shows in
-    let k = effect_on b at new
+    let k = effect_on b at new c.show.ensures.hand (alone.counts c.args.kind c.show.result)
     (show_does b.tags old new (own_here b.tags at b.own) c.args.kind c.show.result s) in record {
       answers = record {
         depth = show_depth b.tags hands old new c.args.kind c.show.result s;

@@ -5,6 +5,7 @@ use Rattle.tag_sets.specs.Gets.{IsAnswer}
 use Rattle.tag_board.proofs.Postings.{take_number, cause_of_take, err_is, refused_take}
 use Rattle.tag_board.proofs.Ranges.{tag_low}
 use Rattle.tag_board.proofs.Commands.{EffectOn, Seen, all_rest, effect_on, free_before, holds_gained, seated, seen, seen_of, AsBefore, names_answer, names_one, refused_does, take_does, own_here, same_state, sits}
+use Rattle.tag_board.proofs.AloneCalls as alone
 use Rattle.tag_board.proofs.board.Board.take.Goals as goal
 
 pub invariant_of-self : goal.invariant_of-self
@@ -26,7 +27,7 @@ returns c =
     let b = c.args.self.now in let at = sits c.requires c.index_mut.ensures.value in let old = c.index_mut.result.now in
     let new = c.take.new.hand in let i : ℕ = c.args.caller in let tag : ℕ = c.args.tag in
     let takes = c.in_ok-take.ensures.takes in let answer : Option ℕ = Some tag in
-    let k = effect_on b at new (take_does b.tags old new (own_here b.tags at b.own) tag takes) in
+    let k = effect_on b at new c.take.ensures.hand (alone.tries tag (Ok tt)) (take_does b.tags old new (own_here b.tags at b.own) tag takes) in
     let free = free_before b at new (is_answer answer) (IsAnswer answer) (names_answer answer) takes.more k.changes
     c.tell_free.ensures.alone in
     let t = subst (λ (x : Seen). Takes tag i (state_of b) (Ok tt) x.state
@@ -49,7 +50,7 @@ returns-in_err-take c =
     let told : IfErr r (λ f. f ≡ fault) = search rules in
     let is = err_is r fault c.from_residual.ensures.0 told in
     let now : Seen = seen b.tags (set b.hands.items i new) in
-    let k = effect_on b at new (refused_does b.tags old new (own_here b.tags at b.own) tag fault e.refuses) in record {
+    let k = effect_on b at new c.take.ensures.hand (alone.tries tag (Err fault)) (refused_does b.tags old new (own_here b.tags at b.own) tag fault e.refuses) in record {
       answers = subst (λ (x : Result (Unit {0}) TagFault). Takes tag i (state_of b) x now.state) (sym is)
           (refused_take tag i fault (state_of b) now.state (same_state (state_of b) now.state i k.changes)
           (cause_of_take b.tags old new tag _ fault (λ f. e.no_such_tag.0 (ap Err f))
