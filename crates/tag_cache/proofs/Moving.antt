@@ -36,11 +36,12 @@ only_from tag old mid new s o = record {
 -- it may be kept in any cache on the same terms, whose window has it if it has to be there
 pub can_also : {R : Type 0} (tag : ℕ) (old new : Cache R) → SameTerms old new → reused_of new ≡ reused_of old
     → (keeping_of old ≡ WhileHolding → IsWithin old tag → IsWithin new tag) → CanBeKept tag old → CanBeKept tag new
-can_also tag old new terms reused window c = let most = terms.most in let some = c.some in let alive = c.alive in record {
-  some = omega arith;
-  alive = omega arith;
-  within = λ w. let careful = sym terms.keeping ∙ w in window careful (c.within careful);
-}
+can_also tag old new terms reused window c = let most = terms.most in let some = c.some in
+    let alive = c.alive in record {
+      some = omega arith;
+      alive = omega arith;
+      within = λ w. let careful = sym terms.keeping ∙ w in window careful (c.within careful);
+    }
 
 module _ {R : Type 0} (tags : Tags R) (tag woken : ℕ) (old mid new : Cache R) (u : SameHand old mid)
     (moved : KeepsNone old ⊎ (mid ≡ old)) (careful : keeping_of old ≡ WhileHolding → mid ≡ old) where

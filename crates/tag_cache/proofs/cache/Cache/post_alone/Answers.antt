@@ -10,7 +10,8 @@ use Rattle.tag_cache.proofs.cache.Cache.post_alone.Goals as goal
 
 pub post-requires : goal.post-requires
 post-requires g c = record {
-  hand = subst (λ (h : Hand g.row.R.Denot). IsHandOf c.args.tags.now h) (sym c.forget.ensures.same.hand) c.requires.cache;
+  hand = subst (λ (h : Hand g.row.R.Denot). IsHandOf c.args.tags.now h) (sym c.forget.ensures.same.hand)
+      c.requires.cache;
 }
 
 pub unreachable-requires : goal.unreachable-requires

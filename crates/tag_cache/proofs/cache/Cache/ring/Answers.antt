@@ -13,7 +13,7 @@ returns-clause-same g c = same_tags c.args.self.now _ (search rules) (search rul
     (stays_rests _ _ c.ring.ensures.same)
 
 pub returns-clause-hand : goal.returns-clause-hand
-returns-clause-hand g c = record { steps = c.ring.ensures.steps; counts = c.ring.ensures.counts; stays = c.ring.ensures.same }
+returns-clause-hand g c = let e = c.ring.ensures in record { steps = e.steps; counts = e.counts; stays = e.same }
 
 pub returns-clause-none : goal.returns-clause-none
 returns-clause-none g c = λ zero. let some = c.if-grants-eq0.false in absurd (omega arith)

@@ -10,4 +10,5 @@ invariant_of-self g c = let cache = c.args.self.now in let call = c.get_blocking
     (λ tag gets other h. (gets.more.kept other h).0))
 
 pub lend-requires-clause-held : goal.lend-requires-clause-held
-lend-requires-clause-held g c = let won = c.in_ok-tag in (won.ensures.gets.more.joined won.tag refl, c.requires.none won.tag)
+lend-requires-clause-held g c = let won = c.in_ok-tag in
+    (won.ensures.gets.more.joined won.tag refl, c.requires.none won.tag)
