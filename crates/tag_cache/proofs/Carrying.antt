@@ -1,8 +1,8 @@
 -- What a change of the hand, or of the kept tags, is for the user of a cache.
-use Rattle.std.specs.Prelude.{IsTrue, IsOk, count_ones}
+use Rattle.std.specs.Prelude.{◌+◌, ◌^◌, ◌<◌, IsTrue, IsOk, count_ones}
 use mathlib.Core.Bool.{not}
 use Rattle.std.proofs.lemmas.Bool.{false≢true}
-use Rattle.std.proofs.Common.{Bool, true, false, ◌↔◌, Option, Result, Ok, Err, OnOk, OnErr, IfOk, IfErr, ◌≡◌, ℕ, ◌≤◌, inl, inr, refl, sym, ap, ◌∙◌, subst, ⊎_elim}
+use Rattle.std.proofs.Common.{Bool, true, false, ◌↔◌, Result, Ok, Err, OnOk, OnErr, IfOk, IfErr, ◌≡◌, ◌≢◌, ℕ, ◌≤◌, inl, inr, refl, sym, ap, ◌∙◌, subst, ⊎_elim}
 use Rattle.tag_sets.specs.declared.fault.TagFault.{TagFault}
 use Rattle.tag_sets.specs.declared.fault.TagFault.TheVariants.{NoSuchTag, NotPosted}
 use Rattle.tag_sets.specs.declared.hand.Hand.{Hand}
@@ -10,12 +10,12 @@ use Rattle.tag_sets.specs.declared.tags.Tags.{Tags}
 use Rattle.tag_sets.specs.Hands as hands
 use Rattle.tag_sets.specs.Holding as hand_holding
 use Rattle.tag_sets.specs.Slots as hand_slots
-use Rattle.tag_sets.specs.Gets as hand_gets
-use Rattle.tag_sets.specs.Gets.{IsAnswer, IsOrdinaryTag}
 use Rattle.tag_cache.specs.declared.cache.Cache.{Cache}
+use Rattle.tag_cache.specs.declared.cache.TheConstants.{MOST_REUSED}
+use Rattle.tag_cache.specs.declared.keeping.Keeping.TheVariants.{WhileHolding}
 use Rattle.tag_cache.specs.Windows.{IsIn, AreOwn}
-use Rattle.tag_cache.specs.Caches.{IsKept, KeepsNone, Holds}
-use Rattle.tag_cache.specs.Changes.{KeepsSame, SameHand}
+use Rattle.tag_cache.specs.Caches.{IsKept, IsLent, KeepsNone}
+use Rattle.tag_cache.specs.Changes.{KeepsSame, SameHand, SameTerms}
 use Rattle.tag_cache.specs.Holding.{HoldsMore, HoldsLess, HoldsSame, Writes, IsLeftWith}
 
 -- what a test that failed says
@@ -32,11 +32,6 @@ pub not_ok : {T : Type 0} (r : Result T TagFault) (fault : TagFault) → r ≡ E
 not_ok (Ok v) fault e ok = cc
 not_ok (Err f) fault e ok = false≢true ok
 
--- a fact that holds whatever a call answered
-pub on_any : (r : Result (Unit {0}) TagFault) (P : Type 0) → P → OnOk r P
-on_any (Ok u) P p = p
-on_any (Err e) P p = tt
-
 module _ {R : Type 0} where
   -- kept tags that the hand still holds are still the cache's own
   pub own_after : (tags : Tags R) (first mask : ℕ) (a b : Hand R) → hands.IsHandOf tags a → hands.IsHandOf tags b
@@ -47,23 +42,66 @@ module _ {R : Type 0} where
     subst (λ (s : ℕ). s ≤ tag) (ha.2 ∙ sym hb.2) (own tag i).1,
   )
 
-  -- a call that may have taken the named tags from the hand leaves the others
-  pub less_still : (named : ℕ → Type 0) (a b : Hand R) {T : Type 0} (r : Result T TagFault) (P : Type 0)
-      → (P → hand_holding.HoldsLess named a b) → OnOk r P → OnErr r (b ≡ a)
-      → (other : ℕ) → ¬ (named other) → hands.Holds a other → hands.Holds b other
-  less_still named a b (Ok v) P f p e other n h = ((f p).kept other n h).0
-  less_still named a b (Err v) P f p e other n h = subst (λ (x : Hand R). hands.Holds x other) (sym e) h
+  -- what a cache owes of its own tags, with this hand
+  abbrev pub Owns : Cache R → Hand R → Type 0
+  Owns cache hand = record {
+    own : AreOwn hand cache.first cache.kept;
+    loans : AreOwn hand cache.first cache.lent;
+    apart : (tag : ℕ) → IsIn cache.first cache.kept tag → ¬ (IsIn cache.first cache.lent tag);
+    wide : (cache.kept < 2 ^ 64) × (cache.lent < 2 ^ 64);
+    low : cache.first < 2 ^ 31;
+    few : (cache.room + count_ones cache.kept ≡ cache.most) × (cache.most ≤ 64);
+    alive : cache.reused + count_ones cache.kept ≤ MOST_REUSED + 64;
+    careful : cache.keeping ≡ WhileHolding → 0 < cache.kept → 0 < cache.lent;
+  }
 
-  -- a call that won the named tags, or was refused, leaves the hand what it had
-  pub more_still : {A : Type 0} (a b : Hand R) (r : Result A TagFault) (named : A → ℕ → Type 0)
-      → IfOk r (λ v. hand_holding.HoldsMore (named v) a b) → OnErr r (b ≡ a)
+  with_own : (cache : Cache R) (b : Hand R) → AreOwn b cache.first cache.kept → AreOwn b cache.first cache.lent
+      → Owns cache b
+  with_own cache b own loans = record {
+    own = own;
+    loans = loans;
+    apart = cache.apart;
+    wide = cache.wide;
+    low = cache.low;
+    few = cache.few;
+    alive = cache.alive;
+    careful = cache.careful;
+  }
+
+  pub owns_unchanged : (cache : Cache R) (b : Hand R) → b ≡ cache.hand → Owns cache b
+  owns_unchanged cache b e = with_own cache b
+      (subst (λ (x : Hand R). AreOwn x cache.first cache.kept) (sym e) cache.own)
+      (subst (λ (x : Hand R). AreOwn x cache.first cache.lent) (sym e) cache.loans)
+
+  -- another hand of the tags does, if it holds what the former one did
+  module _ (tags : Tags R) (cache : Cache R) (b : Hand R) (ha : hands.IsHandOf tags cache.hand)
+      (hb : hands.IsHandOf tags b) where
+    pub owns : ((tag : ℕ) → hands.Holds cache.hand tag → hands.Holds b tag) → Owns cache b
+    owns still = with_own cache b
+        (own_after tags cache.first cache.kept cache.hand b ha hb cache.own (λ tag h k. still tag h))
+        (own_after tags cache.first cache.lent cache.hand b ha hb cache.loans (λ tag h l. still tag h))
+
+    -- but for a tag that is neither kept nor known to be the user's
+    pub owns_but : (tag : ℕ) → ¬ (IsKept cache tag) → ¬ (IsLent cache tag)
+        → ((other : ℕ) → other ≢ tag → hands.Holds cache.hand other → hands.Holds b other) → Owns cache b
+    owns_but tag unkept unlent still = with_own cache b
+        (own_after tags cache.first cache.kept cache.hand b ha hb cache.own
+        (λ other h k. still other (λ e. unkept (subst (λ (t : ℕ). IsKept cache t) e k)) h))
+        (own_after tags cache.first cache.lent cache.hand b ha hb cache.loans
+        (λ other h l. still other (λ e. unlent (subst (λ (t : ℕ). IsLent cache t) e l)) h))
+
+  -- a call that may have posted a tag leaves the hand the others
+  pub post_still : (tag : ℕ) (a b : Hand R) (r : Result (Unit {0}) TagFault) → OnOk r (hand_slots.Posts tag a b)
+      → OnErr r (b ≡ a) → (other : ℕ) → other ≢ tag → hands.Holds a other → hands.Holds b other
+  post_still tag a b (Ok u) p e other n h = (p.less.kept other n h).0
+  post_still tag a b (Err x) p e other n h = subst (λ (y : Hand R). hands.Holds y other) (sym e) h
+
+  -- a call that was refused, or did what leaves the hand its tags, leaves it them
+  pub still_on : {A : Type 0} (a b : Hand R) (r : Result A TagFault) (P : A → Type 0) → IfOk r P → OnErr r (b ≡ a)
+      → ((v : A) → P v → (tag : ℕ) → hands.Holds a tag → hands.Holds b tag)
       → (tag : ℕ) → hands.Holds a tag → hands.Holds b tag
-  more_still a b (Ok v) named m e tag h = (m.kept tag h).0
-  more_still a b (Err f) named m e tag h = subst (λ (x : Hand R). hands.Holds x tag) (sym e) h
-
-  -- what the test answers
-  pub not_kept : (cache : Cache R) (tag : ℕ) (b : Bool) → (IsTrue b ↔ IsKept cache tag) → b ≡ false → ¬ (IsKept cache tag)
-  not_kept cache tag b says f k = false≢true (sym f ∙ says.1 k)
+  still_on a b (Ok v) P p e does tag h = does v p tag h
+  still_on a b (Err f) P p e does tag h = subst (λ (x : Hand R). hands.Holds x tag) (sym e) h
 
   unchanged_hand : (a b : Hand R) → b ≡ a → hand_holding.HoldsSame a b
   unchanged_hand a b e = subst (λ (x : Hand R). hand_holding.HoldsSame a x) (sym e)
@@ -107,12 +145,6 @@ module _ {R : Type 0} where
     }
 
     -- the same for what calls answer
-    pub more_ok : (r : Result (Option ℕ) TagFault) (P : Option ℕ → Type 0)
-        → ((answer : Option ℕ) → P answer → hand_holding.HoldsMore (IsAnswer answer) old.hand new.hand) → IfOk r P
-        → IfOk r (λ answer. HoldsMore (IsAnswer answer) old new)
-    more_ok (Ok answer) P h p = more (IsAnswer answer) (h answer p)
-    more_ok (Err e) P h p = tt
-
     pub more_on : (tag : ℕ) (r : Result (Unit {0}) TagFault) → OnOk r (hand_slots.Takes tag old.hand new.hand)
         → OnOk r (HoldsMore (λ other. other ≡ tag) old new)
     more_on tag (Ok u) p = more (λ other. other ≡ tag) p.more
@@ -130,22 +162,6 @@ module _ {R : Type 0} where
     same_on tag (Ok v) p = same p.same
     same_on tag (Err e) p = tt
 
-    pub writes_on : (tag : ℕ) (value : R) (r : Result R TagFault)
-        → OnOk r (hand_slots.Writes tag value old.hand new.hand) → OnOk r (Writes tag value old new)
-    writes_on tag value (Ok v) p = writes tag value p
-    writes_on tag value (Err e) p = tt
-
-    pub blocking_on : (tags : Tags R) (r : Result ℕ TagFault)
-        → IfOk r (λ tag. hand_gets.BlockingGets tags tag old.hand new.hand)
-        → IfOk r (λ tag. HoldsMore (λ other. other ≡ tag) old new)
-    blocking_on tags (Ok tag) p = more (λ other. other ≡ tag) p.more
-    blocking_on tags (Err e) p = tt
-
-    pub posts_on : (tag : ℕ) (r : Result (Unit {0}) TagFault) → OnOk r (hand_slots.Posts tag old.hand new.hand)
-        → OnOk r (HoldsLess (λ other. other ≡ tag) old new)
-    posts_on tag (Ok v) p = less (λ other. other ≡ tag) p.less
-    posts_on tag (Err e) p = tt
-
   -- one change after another
   pub same_then_less : (a b c : Cache R) (named : ℕ → Type 0) → HoldsSame a b → HoldsLess named b c
       → HoldsLess named a c
@@ -160,16 +176,6 @@ module _ {R : Type 0} where
     kept = λ tag h. let x = s.kept tag h in let y = t.kept tag x.0 in (y.0, y.1 ∙ x.1);
     none_else = λ tag h. s.none_else tag (t.none_else tag h);
   }
-
-  pub unchanged : (a : Cache R) → HoldsSame a a
-  unchanged a = record { kept = λ tag h. (h, refl); none_else = λ tag h. h }
-
-  pub blocking_after : (tags : Tags R) (old mid new : Cache R) → mid ≡ old → KeepsSame mid new
-      → (r : Result ℕ TagFault) → IfOk r (λ tag. hand_gets.BlockingGets tags tag mid.hand new.hand)
-      → IfOk r (λ tag. HoldsMore (λ other. other ≡ tag) old new)
-  blocking_after tags old mid new e keeps r g =
-      subst (λ (s : Cache R). IfOk r (λ tag. HoldsMore (λ other. other ≡ tag) s new)) e
-      (blocking_on mid new keeps tags r g)
 
   -- the hand of a cache that keeps nothing holds what the user holds
   pub left_with : (old new : Cache R) → HoldsSame old new → KeepsNone new → IsLeftWith old new.hand
@@ -186,31 +192,15 @@ module _ {R : Type 0} where
   pub same_user : (old new : Cache R) → SameHand old new → HoldsSame old new
   same_user old new u = same old new u.kept (unchanged_hand old.hand new.hand u.hand)
 
-  pub same_then_more : (a b c : Cache R) (named : ℕ → Type 0) → HoldsSame a b → HoldsMore named b c
-      → HoldsMore named a c
-  same_then_more a b c named s m = record {
-    fresh = λ tag n h. m.fresh tag n (s.kept tag h).0;
-    joined = m.joined;
-    kept = λ tag h. let x = s.kept tag h in let y = m.kept tag x.0 in (y.0, y.1 ∙ x.1);
-    none_else = λ tag h. ⊎_elim (λ (o : Holds b tag). inl (s.none_else tag o)) (λ (n : named tag). inr n)
-        (m.none_else tag h);
-  }
-
-  pub more_then_same : (a b c : Cache R) (named : ℕ → Type 0) → HoldsMore named a b → HoldsSame b c
-      → HoldsMore named a c
-  more_then_same a b c named m s = record {
-    fresh = m.fresh;
-    joined = λ tag n. (s.kept tag (m.joined tag n)).0;
-    kept = λ tag h. let x = m.kept tag h in let y = s.kept tag x.0 in (y.0, y.1 ∙ x.1);
-    none_else = λ tag h. m.none_else tag (s.none_else tag h);
-  }
+  pub terms_twice : {a b c : Cache R} → SameTerms a b → SameTerms b c → SameTerms a c
+  terms_twice s t = record { most = t.most ∙ s.most; keeping = t.keeping ∙ s.keeping }
 
   -- one change of the kept tags after another
   pub keeps_twice : (a b c : Cache R) → KeepsSame a b → KeepsSame b c → KeepsSame a c
   keeps_twice a b c s t = record {
     kept = λ tag. ((λ k. (s.kept tag).0 ((t.kept tag).0 k)), (λ k. (t.kept tag).1 ((s.kept tag).1 k)));
     count = t.count ∙ s.count;
-    terms = record { most = t.terms.most ∙ s.terms.most; keeping = t.terms.keeping ∙ s.terms.keeping };
+    terms = terms_twice s.terms t.terms;
     reused = t.reused ∙ s.reused;
   }
 
@@ -228,19 +218,7 @@ module _ {R : Type 0} where
     reused = reused;
   }
 
-  -- calls after which the hand holds what it held
-  pub read_still : (tag : ℕ) (a b : Hand R) (r : Result R TagFault)
-      → IfOk r (λ value. hand_slots.Reads tag value a b) → OnErr r (b ≡ a)
-      → (other : ℕ) → hands.Holds a other → hands.Holds b other
-  read_still tag a b (Ok v) p e other h = (p.same.kept other h).0
-  read_still tag a b (Err x) p e other h = subst (λ (y : Hand R). hands.Holds y other) (sym e) h
-
-  pub write_still : (tag : ℕ) (value : R) (a b : Hand R) (r : Result R TagFault)
-      → OnOk r (hand_slots.Writes tag value a b) → OnErr r (b ≡ a)
-      → (other : ℕ) → hands.Holds a other → hands.Holds b other
-  write_still tag value a b (Ok v) p e other h = p.kept other h
-  write_still tag value a b (Err x) p e other h = subst (λ (y : Hand R). hands.Holds y other) (sym e) h
-
+  -- a take leaves the hand what it had, also where it is refused
   pub take_still : (tag : ℕ) (a b : Hand R) (r : Result (Unit {0}) TagFault) → OnOk r (hand_slots.Takes tag a b)
       → IfErr r (λ fault. hand_slots.RefusesTake tag fault a b)
       → (other : ℕ) → hands.Holds a other → hands.Holds b other
@@ -248,9 +226,3 @@ module _ {R : Type 0} where
   take_still tag a b (Err x) p e other h = ⊎_elim
       (λ (u : (x ≡ NoSuchTag) × (b ≡ a)). subst (λ (y : Hand R). hands.Holds y other) (sym u.1) h)
       (λ (m : (x ≡ NotPosted) × hand_slots.Misses tag a b). (m.1.same.kept other h).0) e
-
-  pub blocking_still : (tags : Tags R) (a b : Hand R) (r : Result ℕ TagFault)
-      → IfOk r (λ tag. hand_gets.BlockingGets tags tag a b) → OnErr r (b ≡ a)
-      → (other : ℕ) → hands.Holds a other → hands.Holds b other
-  blocking_still tags a b (Ok tag) p e other h = (p.more.kept other h).0
-  blocking_still tags a b (Err x) p e other h = subst (λ (y : Hand R). hands.Holds y other) (sym e) h

@@ -1,18 +1,14 @@
 -- A tag that is kept where no other is, after all kept tags went back.
-use Rattle.std.proofs.Common.{arith, Bool, true, false, ◌≡◌, ◌⊎◌, ℕ, ◌≤◌, sym, ap, ◌∙◌, subst, ⊎_elim}
-use Rattle.std.specs.Prelude.{count_ones}
-use Rattle.std.proofs.lemmas.Nat.{ones_le_self}
+use Rattle.std.proofs.Common.{arith, Bool, true, false, ◌≡◌, ◌⊎◌, ℕ, ◌≤◌, sym, ◌∙◌, subst, ⊎_elim}
 use Rattle.tag_cache.specs.declared.cache.Cache.{Cache}
 use Rattle.tag_cache.specs.Caches.{IsKept, IsLast, IsWithin, IsFixed, KeepsNone, CanBeKept, HasNoPlace, count_of, reused_of}
 use Rattle.tag_cache.specs.Changes.{SameHand, KeepsOnly, MayKeep, SameTerms, LendsLess}
+use Rattle.tag_cache.proofs.Carrying.{terms_twice}
 use Rattle.tag_cache.proofs.Looking.{same_loans}
-use Rattle.tag_cache.proofs.Reusing.{none_kept}
+use Rattle.tag_cache.proofs.Moving.{can_also}
+use Rattle.tag_cache.proofs.Reusing.{no_count}
 
 module _ {R : Type 0} where
-  none_counted : (cache : Cache R) → KeepsNone cache → count_of cache ≡ 0
-  none_counted cache none = let same : count_of cache ≡ count_ones 0 = ap count_ones (none_kept cache none) in
-      let zero = ones_le_self 0 in omega arith
-
   module _ (tag : ℕ) (old mid new : Cache R) (u : SameHand old mid) (none : KeepsNone old) (can : CanBeKept tag old)
       (aimed : IsWithin mid tag ⊎ ((mid ≡ old) × IsFixed old)) where
     -- the window is at the tag
@@ -23,7 +19,7 @@ module _ {R : Type 0} where
 
     -- so there is a place for the tag
     has_place : ¬ (MayKeep tag false mid new)
-    has_place k = let zero = none_counted old none in let count = u.kept.count in let most = u.kept.terms.most in
+    has_place k = let zero = no_count old none in let count = u.kept.count in let most = u.kept.terms.most in
         let reused = u.kept.reused in let some = can.some in let alive = can.alive in ⊎_elim
         (λ (full : HasNoPlace tag mid). ⊎_elim (λ (m : mid.most ≤ count_of mid). absurd (omega arith))
         (λ o. absurd (o.0 within)) full)
@@ -39,7 +35,7 @@ module _ {R : Type 0} where
     less_after e false k = absurd (has_place k)
 
     pub only_after : (kept : Bool) → MayKeep tag kept mid new → KeepsOnly tag old new
-    only_after true k = let zero = none_counted old none in let count = u.kept.count in
+    only_after true k = let zero = no_count old none in let count = u.kept.count in
         let more = k.0.also.more in record {
           only = λ other. (
             (λ i. ⊎_elim (λ (o : IsKept mid other). absurd (none other ((u.kept.kept other).0 o))) (λ (e : other ≡ tag). e)
@@ -47,10 +43,7 @@ module _ {R : Type 0} where
             (λ e. subst (λ (t : ℕ). IsKept new t) (sym e) k.0.also.now),
           );
           one = omega arith;
-          terms = record {
-            most = k.0.also.terms.most ∙ u.kept.terms.most;
-            keeping = k.0.also.terms.keeping ∙ u.kept.terms.keeping;
-          };
+          terms = terms_twice u.kept.terms k.0.also.terms;
           reused = k.0.also.reused ∙ u.kept.reused;
         }
     only_after false k = absurd (has_place k)
@@ -59,12 +52,8 @@ module _ {R : Type 0} where
       (first : mid.first ≡ old.first) where
     -- the kept tags went back, and the window stayed
     pub can_still : CanBeKept tag old → CanBeKept tag mid
-    can_still c = let most = terms.most in let some = c.some in let alive = c.alive in record {
-      some = omega arith;
-      alive = omega arith;
-      within = λ w. let in_window = c.within (sym terms.keeping ∙ w) in let low = in_window.0 in
-          let high = in_window.1 in (omega arith, omega arith);
-    }
+    can_still = can_also tag old mid terms reused
+        (λ careful w. let low = w.0 in let high = w.1 in (omega arith, omega arith))
 
     pub last_back : mid.lent ≡ old.lent → IsLast tag mid → IsLast tag old
     last_back lent l = (sym terms.keeping ∙ l.0, λ other i. l.1 other ((same_loans old mid first lent other).1 i))
@@ -73,6 +62,6 @@ module _ {R : Type 0} where
     only_back new o = record {
       only = o.only;
       one = o.one;
-      terms = record { most = o.terms.most ∙ terms.most; keeping = o.terms.keeping ∙ terms.keeping };
+      terms = terms_twice terms o.terms;
       reused = o.reused ∙ reused;
     }

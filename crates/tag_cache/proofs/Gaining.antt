@@ -7,7 +7,7 @@ use Rattle.tag_search.specs.declared.found.Found.{Found}
 use Rattle.tag_search.specs.Gains.{count_of, count_of_run}
 use Rattle.tag_queue.specs.declared.agent.Agent.{Agent}
 use Rattle.tag_sets.specs.declared.fault.TagFault.{TagFault}
-use Rattle.tag_sets.specs.declared.fault.TagFault.TheVariants.{BadCount}
+use Rattle.tag_sets.specs.declared.fault.TagFault.TheVariants.{BadCount, Spent}
 use Rattle.tag_queue.specs.Gets as queue_gets
 use Rattle.tag_sets.specs.declared.hand.Hand.{Hand}
 use Rattle.tag_sets.specs.declared.kind.Kind.TheVariants.{Ordinary}
@@ -16,35 +16,35 @@ use Rattle.tag_sets.specs.Hands as hands
 use Rattle.tag_sets.specs.Hands.{layout_of}
 use Rattle.tag_sets.specs.Freed.{GetsAndLooks}
 use Rattle.tag_sets.specs.Gets as hand_gets
-use Rattle.tag_sets.specs.Gets.{IsAnswer, IsInRun, whole, whole_run}
+use Rattle.tag_sets.specs.Gets.{IsAnswer, IsInRun, IsOrdinaryTag, whole, whole_run}
 use Rattle.tag_sets.specs.Holding as hand_holding
 use Rattle.tag_cache.specs.declared.cache.Cache.{Cache}
 use Rattle.tag_cache.specs.Batches.{answered_run}
-use Rattle.tag_cache.specs.Windows.{IsIn}
+use Rattle.tag_cache.specs.Caches.{IsKept, KeepsNone}
 use Rattle.tag_cache.specs.Changes.{KeepsSame}
 use Rattle.tag_cache.specs.Holding.{HoldsMore}
 use Rattle.tag_cache.specs.Tallies.{Tallies, answered}
-use Rattle.tag_cache.proofs.Carrying.{more, more_still}
+use Rattle.tag_cache.proofs.Carrying.{more, still_on}
 use Rattle.tag_cache.proofs.Steady.{looked_rests, rests_unchanged}
-use Rattle.tag_cache.proofs.Tallying.{Moves, MovesAgent, moves_in, gets_moves}
+use Rattle.tag_cache.proofs.Tallying.{Moves, MovesAgent, as_many, moves_in, gets_moves, reserved_moves, moves_tallies}
 
 -- the hand gained the named tags, which are that many, and gave nothing back
 pub record Gains {R : Type 0} (named : ℕ → Type 0) (count : ℕ) (old new : Hand R) : Type 0 where
   pub more : hand_holding.HoldsMore named old new
   pub moves : Moves count 0 old new
 
+-- the hand gained the tags that a call answered, or is as it was if the call was refused
+pub record Gain {R : Type 0} {A : Type 0} (r : Result A TagFault) (named : A → ℕ → Type 0) (count : A → ℕ)
+    (old new : Hand R) : Type 0 where
+  pub gains : IfOk r (λ v. Gains (named v) (count v) old new)
+  pub refused : OnErr r (new ≡ old)
+
 -- a refusal that leaves the hand as it is
-pub spent_same : {A : Type 0} (X : Type 0) (f : TagFault) (r : Result A TagFault) → IfErr r (λ fault. (fault ≡ f) × X)
-    → OnErr r X
-spent_same X f (Ok v) e = tt
-spent_same X f (Err fault) e = e.1
+spent_same : {A : Type 0} (X : Type 0) (r : Result A TagFault) → IfErr r (λ fault. (fault ≡ Spent) × X) → OnErr r X
+spent_same X (Ok v) e = tt
+spent_same X (Err fault) e = e.1
 
--- as many tags as the number in the set answers
-as_many : (reserved : ℕ) (answer number : Option ℕ) → answer ≡ whole reserved number
-    → count_of number ≡ answered answer
-as_many reserved answer None e = sym (ap answered e)
-as_many reserved answer (Some number) e = sym (ap answered e)
-
+-- as many tags as the run in the set has
 as_many_run : (reserved : ℕ) (answer number : Option (ℕ × ℕ)) → answer ≡ whole_run reserved number
     → count_of_run number ≡ answered_run answer
 as_many_run reserved answer None e = sym (ap answered_run e)
@@ -111,80 +111,117 @@ module _ {R : Type 0} where
         moves = record { won_is = omega arith; back_is = omega arith };
       }
 
+  pub get_gains : (tags : Tags R) (answer : Option ℕ) (a b : Hand R) → GetsAndLooks (hand_gets.Gets tags answer) a b
+      → Gains (IsAnswer answer) (answered answer) a b
+  get_gains tags answer a b = looked_gains (IsAnswer answer) (answered answer) (hand_gets.Gets tags answer) a b
+      (λ x. plain_gains tags answer a x)
+
   -- the same of what calls answer
   pub get_call : (tags : Tags R) (a b : Hand R) (r : Result (Option ℕ) TagFault)
       → IfOk r (λ answer. GetsAndLooks (hand_gets.Gets tags answer) a b)
-      → IfOk r (λ answer. Gains (IsAnswer answer) (answered answer) a b)
-  get_call tags a b r = IfOk-weaker r _ _ (λ answer. looked_gains (IsAnswer answer) (answered answer)
-      (hand_gets.Gets tags answer) a b (λ x. plain_gains tags answer a x))
+      → IfErr r (λ fault. (fault ≡ Spent) × (b ≡ a))
+      → Gain r (λ answer. IsAnswer answer) (λ answer. answered answer) a b
+  get_call tags a b r gets err = record {
+    gains = IfOk-weaker r _ _ (λ answer. get_gains tags answer a b) gets;
+    refused = spent_same _ r err;
+  }
 
   pub get_freed_call : (tags : Tags R) (a b : Hand R) (r : Result (Found ℕ) TagFault)
-      → IfOk r (λ found. hand_gets.Gets tags found.answer a b)
-      → IfOk r (λ found. Gains (IsAnswer found.answer) (answered found.answer) a b)
-  get_freed_call tags a b r = IfOk-weaker r _ _ (λ found. plain_gains tags found.answer a b)
+      → IfOk r (λ found. hand_gets.Gets tags found.answer a b) → IfErr r (λ fault. (fault ≡ Spent) × (b ≡ a))
+      → Gain r (λ found. IsAnswer found.answer) (λ found. answered found.answer) a b
+  get_freed_call tags a b r gets err = record {
+    gains = IfOk-weaker r _ _ (λ found. plain_gains tags found.answer a b) gets;
+    refused = spent_same _ r err;
+  }
 
   pub shallow_call : (tags : Tags R) (depth : ℕ) (a b : Hand R) (r : Result (Option ℕ) TagFault)
-      → IfOk r (λ answer. GetsAndLooks (hand_gets.GetsShallow tags depth answer) a b)
-      → IfOk r (λ answer. Gains (IsAnswer answer) (answered answer) a b)
-  shallow_call tags depth a b r = IfOk-weaker r _ _ (λ answer. looked_gains (IsAnswer answer) (answered answer)
-      (hand_gets.GetsShallow tags depth answer) a b (λ x. shallow_gains tags depth answer a x))
+      → IfOk r (λ answer. GetsAndLooks (hand_gets.GetsShallow tags depth answer) a b) → OnErr r (b ≡ a)
+      → Gain r (λ answer. IsAnswer answer) (λ answer. answered answer) a b
+  shallow_call tags depth a b r gets err = record {
+    gains = IfOk-weaker r _ _ (λ answer. looked_gains (IsAnswer answer) (answered answer)
+        (hand_gets.GetsShallow tags depth answer) a b (λ x. shallow_gains tags depth answer a x)) gets;
+    refused = err;
+  }
 
   pub shallow_freed_call : (tags : Tags R) (depth : ℕ) (a b : Hand R) (r : Result (Found ℕ) TagFault)
-      → IfOk r (λ found. hand_gets.GetsShallow tags depth found.answer a b)
-      → IfOk r (λ found. Gains (IsAnswer found.answer) (answered found.answer) a b)
-  shallow_freed_call tags depth a b r = IfOk-weaker r _ _ (λ found. shallow_gains tags depth found.answer a b)
+      → IfOk r (λ found. hand_gets.GetsShallow tags depth found.answer a b) → OnErr r (b ≡ a)
+      → Gain r (λ found. IsAnswer found.answer) (λ found. answered found.answer) a b
+  shallow_freed_call tags depth a b r gets err = record {
+    gains = IfOk-weaker r _ _ (λ found. shallow_gains tags depth found.answer a b) gets;
+    refused = err;
+  }
+
+  pub reserved_call : (tags : Tags R) (a b : Hand R) (r : Result (Option ℕ) TagFault)
+      → IfOk r (λ answer. hand_gets.GetsReserved tags answer a b) → OnErr r (b ≡ a)
+      → Gain r (λ answer. IsAnswer answer) (λ answer. answered answer) a b
+  reserved_call tags a b r gets err = record {
+    gains = IfOk-weaker r _ _ (λ answer (x : hand_gets.GetsReserved tags answer a b).
+        record { more = x.more; moves = reserved_moves tags answer a b x }) gets;
+    refused = err;
+  }
 
   -- under round robin a batch get answers no tag and changes nothing
   pub batch_call : (tags : Tags R) (n : ℕ) (robin : Bool) (miscounts : Type 0) (a b : Hand R)
       (r : Result (Option (ℕ × ℕ)) TagFault) → (r ≡ Err BadCount) ↔ miscounts
       → (¬ miscounts → IsTrue robin → (r ≡ Ok None) × (b ≡ a))
-      → (robin ≡ false → IfOk r (λ answer. GetsAndLooks (hand_gets.GetsBatch tags n answer) a b))
-      → IfOk r (λ answer. Gains (IsInRun answer) (answered_run answer) a b)
-  batch_call tags n false miscounts a b r bad robin gets = IfOk-weaker r _ _ (λ answer. looked_gains (IsInRun answer)
-      (answered_run answer) (hand_gets.GetsBatch tags n answer) a b (λ x. batch_gains tags n answer a x)) (gets refl)
-  batch_call tags n true miscounts a b (Ok None) bad robin gets =
-      gains_none a b (robin (λ m. let e = bad.1 m in cc) refl).1
-  batch_call tags n true miscounts a b (Ok (Some won)) bad robin gets =
+      → (robin ≡ false → IfOk r (λ answer. GetsAndLooks (hand_gets.GetsBatch tags n answer) a b)) → OnErr r (b ≡ a)
+      → Gain r (λ answer. IsInRun answer) (λ answer. answered_run answer) a b
+  batch_call tags n false miscounts a b r bad robin gets err = record {
+    gains = IfOk-weaker r _ _ (λ answer. looked_gains (IsInRun answer) (answered_run answer)
+        (hand_gets.GetsBatch tags n answer) a b (λ x. batch_gains tags n answer a x)) (gets refl);
+    refused = err;
+  }
+  batch_call tags n true miscounts a b (Ok None) bad robin gets err =
+      record { gains = gains_none a b (robin (λ m. let e = bad.1 m in cc) refl).1; refused = tt }
+  batch_call tags n true miscounts a b (Ok (Some won)) bad robin gets err =
       let e = (robin (λ m. let x = bad.1 m in cc) refl).0 in cc
-  batch_call tags n true miscounts a b (Err e) bad robin gets = tt
+  batch_call tags n true miscounts a b (Err e) bad robin gets err = record { gains = tt; refused = err }
 
   pub batch_freed_call : (tags : Tags R) (n : ℕ) (robin : Bool) (miscounts : Type 0) (a b : Hand R)
       (r : Result (Found (ℕ × ℕ)) TagFault) → (r ≡ Err BadCount) ↔ miscounts
       → (¬ miscounts → IsTrue robin → IsOkAnd r (λ found. found.answer ≡ None) × (b ≡ a))
-      → (robin ≡ false → IfOk r (λ found. hand_gets.GetsBatch tags n found.answer a b))
-      → IfOk r (λ found. Gains (IsInRun found.answer) (answered_run found.answer) a b)
-  batch_freed_call tags n false miscounts a b r bad robin gets = IfOk-weaker r _ _
-      (λ found. batch_gains tags n found.answer a b) (gets refl)
-  batch_freed_call tags n true miscounts a b (Ok found) bad robin gets =
-      let same = robin (λ m. let e = bad.1 m in cc) refl in
-      subst (λ (answer : Option (ℕ × ℕ)). Gains (IsInRun answer) (answered_run answer) a b) (sym same.0)
-      (gains_none a b same.1)
-  batch_freed_call tags n true miscounts a b (Err e) bad robin gets = tt
+      → (robin ≡ false → IfOk r (λ found. hand_gets.GetsBatch tags n found.answer a b)) → OnErr r (b ≡ a)
+      → Gain r (λ found. IsInRun found.answer) (λ found. answered_run found.answer) a b
+  batch_freed_call tags n false miscounts a b r bad robin gets err = record {
+    gains = IfOk-weaker r _ _ (λ found. batch_gains tags n found.answer a b) (gets refl);
+    refused = err;
+  }
+  batch_freed_call tags n true miscounts a b (Ok found) bad robin gets err =
+      let same = robin (λ m. let e = bad.1 m in cc) refl in record {
+        gains = subst (λ (answer : Option (ℕ × ℕ)). Gains (IsInRun answer) (answered_run answer) a b) (sym same.0)
+            (gains_none a b same.1);
+        refused = tt;
+      }
+  batch_freed_call tags n true miscounts a b (Err e) bad robin gets err = record { gains = tt; refused = err }
 
   -- the hand still has what it had
-  pub gained_still : {A : Type 0} (a b : Hand R) (r : Result A TagFault) (named : A → ℕ → Type 0) (count : A → ℕ)
-      → IfOk r (λ v. Gains (named v) (count v) a b) → OnErr r (b ≡ a) → (tag : ℕ) → hands.Holds a tag → hands.Holds b tag
-  gained_still a b r named count gains = more_still a b r named (IfOk-weaker r _ _ (λ v g. g.more) gains)
+  pub gained_still : {A : Type 0} {r : Result A TagFault} {named : A → ℕ → Type 0} {count : A → ℕ} {a b : Hand R}
+      → Gain r named count a b → (tag : ℕ) → hands.Holds a tag → hands.Holds b tag
+  gained_still {A} {r} {named} {count} {a} {b} g =
+      still_on a b r _ g.gains g.refused (λ v gains tag h. (gains.more.kept tag h).0)
 
-  -- the tag won is the user's, since the hand did not hold it and so it was not kept
-  pub won_held : (cache : Cache R) (b : Hand R) (tag : ℕ) → hand_holding.HoldsMore (IsAnswer (Some tag)) cache.hand b
-      → hands.Holds b tag × ¬ (IsIn cache.first cache.kept tag)
-  won_held cache b tag m = (m.joined tag refl, λ k. m.fresh tag refl (cache.own tag k).0)
+  -- where nothing is kept, the tag won is the user's, and an ordinary one
+  pub won : (tags : Tags R) (cache : Cache R) (b : Hand R) (tag : ℕ) (answer : Option ℕ) → answer ≡ Some tag
+      → hands.IsHandOf tags b → KeepsNone cache → hand_holding.HoldsMore (IsAnswer answer) cache.hand b
+      → ((t : ℕ) → IsAnswer answer t → IsOrdinaryTag tags t) → record {
+        held : hands.Holds b tag × ¬ (IsKept cache tag);
+        ordinary : hands.split_of b ≤ tag;
+        low : tag < 2 ^ 31;
+        none : KeepsNone cache;
+      }
+  won tags cache b tag None is own none more ordinary = absurd (cc)
+  won tags cache b tag (Some t) is own none more ordinary = let same : tag ≡ t = cc in let there = ordinary tag same in
+      let low = there.1 in let fits = tags.fits in record {
+        held = (more.joined tag same, none tag);
+        ordinary = subst (λ (s : ℕ). s ≤ tag) (sym own.2) there.0;
+        low = omega arith;
+        none = none;
+      }
 
-  -- it is an ordinary tag
-  pub won_ordinary : (tags : Tags R) (a b : Hand R) (tag : ℕ) → hand_gets.Gets tags (Some tag) a b
-      → (hands.reserved_of tags ≤ tag) × (tag < 2 ^ 31)
-  won_ordinary tags a b tag gets = let there = gets.ordinary tag refl in let low = there.1 in let fits = tags.fits in
-      (there.0, omega arith)
+  module _ (old new : Cache R) (keeps : KeepsSame old new) {A : Type 0} {r : Result A TagFault}
+      {named : A → ℕ → Type 0} {count : A → ℕ} (g : Gain r named count old.hand new.hand) where
+    pub more_of : IfOk r (λ v. HoldsMore (named v) old new)
+    more_of = IfOk-weaker r _ _ (λ v x. more old new keeps (named v) x.more) g.gains
 
-  module _ (old new : Cache R) (keeps : KeepsSame old new) where
-    pub more_of : {A : Type 0} (r : Result A TagFault) (named : A → ℕ → Type 0) (count : A → ℕ)
-        → IfOk r (λ v. Gains (named v) (count v) old.hand new.hand) → IfOk r (λ v. HoldsMore (named v) old new)
-    more_of (Ok v) named count g = more old new keeps (named v) g.more
-    more_of (Err e) named count g = tt
-
-    pub tally_of : {A : Type 0} (r : Result A TagFault) (named : A → ℕ → Type 0) (count : A → ℕ)
-        → IfOk r (λ v. Gains (named v) (count v) old.hand new.hand) → IfOk r (λ v. Tallies (count v) 0 old new)
-    tally_of (Ok v) named count g = let w = g.moves.won_is in let k = g.moves.back_is in let again = keeps.reused in
-        let kept = keeps.count in record { handed = omega arith; taken = omega arith }
-    tally_of (Err e) named count g = tt
+    pub tally_of : IfOk r (λ v. Tallies (count v) 0 old new)
+    tally_of = IfOk-weaker r _ _ (λ v x. moves_tallies (count v) 0 old new keeps x.moves) g.gains

@@ -4,7 +4,6 @@ use Rattle.std.specs.Prelude.{All, Contains, count_ones}
 use Rattle.std.proofs.lemmas.List.Elements.{Contains-get_or}
 use mathlib.Core.Logic.{dite}
 use native.Mathlib.Decide.{ℕ_discrete}
-use Rattle.std.proofs.lemmas.Nat.{ones_le_self}
 use Rattle.tag_core.specs.declared.record.Record.{Record}
 use Rattle.tag_core.specs.Callers.{record_of}
 use Rattle.wake_book.specs.declared.charge.Charge.{Charge}
@@ -23,7 +22,7 @@ use Rattle.tag_sets.specs.Hands as hands
 use Rattle.tag_sets.specs.Holding as hand_holding
 use Rattle.tag_sets.specs.Batches.{AreOrdinary, GivesBack}
 use Rattle.tag_sets.specs.Clears as hand_clears
-use Rattle.tag_sets.specs.Tallies.{won_of, won_in_both, back_in_both}
+use Rattle.tag_sets.specs.Tallies.{won_of}
 use Rattle.tag_cache.specs.declared.cache.Cache.{Cache}
 use Rattle.tag_cache.specs.Windows.{IsIn}
 use Rattle.tag_cache.specs.Caches.{IsKept, KeepsNone, kept_tags, count_of, reused_of}
@@ -32,7 +31,8 @@ use Rattle.tag_cache.specs.Tallies.{Tallies}
 use Rattle.tag_cache.specs.Clears.{GivesOne, GivesList, GivesKept}
 use Rattle.tag_queue.specs.Masks.{tags_in}
 use Rattle.tag_cache.proofs.Below.{held_below}
-use Rattle.tag_cache.proofs.Reusing.{none_kept}
+use Rattle.tag_cache.proofs.Reusing.{no_count, none_kept}
+use Rattle.tag_cache.proofs.Steady.{rests_unchanged}
 use Rattle.tag_cache.proofs.Windows.{none_in}
 use Rattle.tag_cache.proofs.Tallying.{Moves, clears_moves, rests as rests_agent}
 
@@ -77,11 +77,6 @@ module _ {R : Type 0} (tags : Tags R) where
   pub gives_moves : (tag woken : ℕ) (a b : Hand R) → GivesOne tags tag woken a b → Moves 0 1 a b
   gives_moves tag woken a b g = clears_moves tags tag a b g.clears
 
-  -- a hand that is as it was
-  rests : (a b : Hand R) → b ≡ a → Moves 0 0 a b
-  rests a b e = let w = ap (λ (x : Hand R). won_in_both x) e in let k = ap (λ (x : Hand R). back_in_both x) e in
-      record { won_is = omega arith; back_is = omega arith }
-
   pub list_moves : (list : List ℕ) (woken : ℕ) (a b : Hand R) → GivesList tags list woken a b
       → Moves 0 (length list) a b
   list_moves list woken a b g = let known = g.gives.set.changed.gives.known in
@@ -101,11 +96,6 @@ module _ {R : Type 0} (tags : Tags R) where
     counts = subst (λ (n : ℕ). hand_clears.Counts tags Ordinary n a b woken) (sym count) counts;
   }
 
-  -- nothing is kept, so none is counted
-  pub no_count : (cache : Cache R) → KeepsNone cache → count_of cache ≡ 0
-  no_count cache none = let same : count_of cache ≡ count_ones 0 = ap count_ones (none_kept cache none) in
-      let zero = ones_le_self 0 in omega arith
-
   -- the kept tags are in the list of them, and no others
   pub kept_in : (cache : Cache R) (tag : ℕ) → Contains (kept_tags cache) tag ↔ IsKept cache tag
   kept_in cache tag = listed_in cache.first cache.kept cache.wide.0 tag
@@ -122,15 +112,11 @@ module _ {R : Type 0} (tags : Tags R) where
       let rest = g.none empty in none empty rest.0 rest.1)
       (λ (ne : cache.kept ≢ 0). some (g.some (λ n. ne (none_kept cache n))))
 
-  pub kept_few : (woken : ℕ) (cache : Cache R) (a b : Hand R) → GivesKept tags woken cache a b → woken ≤ 8
-  kept_few woken cache a b g = by_kept (woken ≤ 8) woken cache a b g (λ none same zero. omega arith)
-      (λ l. list_few (kept_tags cache) woken a b l)
-
   -- as many tags were given back as were kept, and none won
   pub kept_moves : (woken : ℕ) (cache : Cache R) (a b : Hand R) → GivesKept tags woken cache a b
       → Moves 0 (count_of cache) a b
   kept_moves woken cache a b g = by_kept (Moves 0 (count_of cache) a b) woken cache a b g
-      (λ none same zero. subst (λ (n : ℕ). Moves 0 n a b) (sym (no_count cache none)) (rests a b same))
+      (λ none same zero. subst (λ (n : ℕ). Moves 0 n a b) (sym (no_count cache none)) (rests_unchanged a b same).moves)
       (λ l. subst (λ (n : ℕ). Moves 0 n a b) (kept_count cache) (list_moves (kept_tags cache) woken a b l))
 
   -- the hand holds the kept tags no more, and keeps all others

@@ -10,9 +10,9 @@ use Rattle.tag_cache.specs.Holding.{HoldsLess}
 use Rattle.tag_cache.specs.Tallies.{Tallies}
 use Rattle.tag_cache.specs.Clears.{LooksOnce, GivesKept, KeptUnseen, KeptInstead, GoesAlone, GoesWithKept, GoesWithAll, GoesLast, GoesReserved, GoesOrdinary, Goes}
 use Rattle.tag_cache.proofs.Carrying.{less}
-use Rattle.tag_cache.proofs.Reusing.{keeping}
+use Rattle.tag_cache.proofs.Reusing.{keeping, no_count}
 use Rattle.tag_cache.proofs.Tallying.{stays_moves}
-use Rattle.tag_cache.proofs.Giving.{kept_less, kept_moves, gives_moves, no_count}
+use Rattle.tag_cache.proofs.Giving.{kept_less, kept_moves, gives_moves}
 
 module _ {R : Type 0} (tags : Tags R) where
   -- the hand looked, and then gave the tag back
@@ -84,7 +84,7 @@ module _ {R : Type 0} (tags : Tags R) where
       let m = gives_moves tags tag g.gives.later g.gives.between new.hand g.gives.gives in
       let sw = s.won_is in let sb = s.back_is in let kw = k.won_is in let kb = k.back_is in
       let mw = m.won_is in let mb = m.back_is in
-      let zero = no_count tags new g.none in let reused = g.reused in
+      let zero = no_count new g.none in let reused = g.reused in
       record { handed = omega arith; taken = omega arith }
 
   instead_tallies : (tag woken : ℕ) (old new : Cache R) → KeptInstead tags tag woken old new → Tallies 0 1 old new

@@ -43,12 +43,6 @@ module _ {R : Type 0} where
       → AreGrantsOf grants (group_steps a) (group_steps c)
   before_same grants a b c e g = subst (λ (x : Hand R). AreGrantsOf grants (group_steps x) (group_steps c)) e g
 
-  -- nobody was granted a wakeup by a hand that is as it was
-  pub none_since : (grants : Grants) (a b : Hand R) → AreGrantsOf grants (group_steps a) (group_steps b) → b ≡ a
-      → grants.woken ≡ 0
-  none_since grants a b g e = let all = g.all in let same = ap (λ (x : Hand R). total moved_by (group_steps x)) e in
-      omega arith
-
   -- a hand that then enters a wait group
   pub then_enters : (grants : Grants) (group : ℕ) (a b c : Hand R) → AreGrantsOf grants (group_steps a) (group_steps b)
       → Enters group b c → AreGrantsOf grants (group_steps a) (group_steps c)

@@ -21,3 +21,4 @@ pub mod Passing
 pub mod Getting
 pub mod Ringing
 pub mod Rung
+pub mod Joining

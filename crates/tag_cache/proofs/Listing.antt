@@ -14,9 +14,10 @@ use Rattle.tag_cache.specs.Changes.{KeepsSame}
 use Rattle.tag_cache.specs.Clears.{GivesList}
 use Rattle.tag_cache.specs.Holding.{HoldsLess, HoldsSame}
 use Rattle.tag_cache.specs.Tallies.{Tallies}
-use Rattle.tag_cache.proofs.Carrying.{less, same, keeps_twice, none_after}
-use Rattle.tag_cache.proofs.Giving.{kept_less, kept_moves, list_moves, no_count}
+use Rattle.tag_cache.proofs.Carrying.{less, same, keeps_twice, none_after, terms_twice}
+use Rattle.tag_cache.proofs.Giving.{kept_less, kept_moves, list_moves}
 use Rattle.tag_cache.proofs.Going.{looks_less, both_less}
+use Rattle.tag_cache.proofs.Reusing.{no_count}
 use Rattle.tag_cache.proofs.Tallying.{stays_moves}
 use Rattle.tag_cache.proofs.Windows.{none_in, emptied}
 
@@ -112,7 +113,7 @@ module _ {R : Type 0} (tags : Tags R) (list : List ℕ) (left : ℕ) (old : Cach
         gives = gives;
         woken_is = sum;
         none = none_after mid new e.none k;
-        terms = record { most = k.terms.most ∙ e.terms.most; keeping = k.terms.keeping ∙ e.terms.keeping };
+        terms = terms_twice e.terms k.terms;
         reused = k.reused ∙ e.reused;
       })) g
 
@@ -137,5 +138,5 @@ module _ {R : Type 0} (tags : Tags R) where
       let e = kept_moves tags w.sooner old w.between w.flushed w.kept in
       let m = list_moves tags list w.later w.flushed new.hand w.gives in
       let sw = s.won_is in let sb = s.back_is in let ew = e.won_is in let eb = e.back_is in
-      let mw = m.won_is in let mb = m.back_is in let zero = no_count tags new w.none in
+      let mw = m.won_is in let mb = m.back_is in let zero = no_count new w.none in
       let reused = w.reused in record { handed = omega arith; taken = omega arith }) g

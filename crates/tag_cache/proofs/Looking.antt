@@ -9,7 +9,7 @@ use Rattle.tag_cache.specs.Caches.{IsLent, KeepsNone, HasNoPlace, HasPlace, CanB
 use Rattle.tag_cache.specs.Changes.{KeepsSame, Keeps, SameTerms, SameWindow, LendsLess}
 use Rattle.tag_cache.specs.Clears.{LooksOnce, GivesList, GivesKept, GivesWith, KeptUnseen, KeptInstead, GoesAlone, GoesWithKept, MakesRoom}
 use Rattle.tag_cache.proofs.Carrying.{same_fields, keeps_twice}
-use Rattle.tag_cache.proofs.Moving.{also_from, only_from}
+use Rattle.tag_cache.proofs.Moving.{also_from, can_also, only_from}
 
 -- the fields that say what is kept, and what may be, are as before
 pub record SameFields {R : Type 0} (old mid : Cache R) : Type 0 where
@@ -35,13 +35,12 @@ module _ {R : Type 0} (tags : Tags R) (tag : ℕ) (old mid : Cache R) (s : SameF
       (λ o. inr ((λ w. let low = w.0 in let high = w.1 in o.0 (omega arith, omega arith)), λ n. o.1 (none_from n))) full
 
   can_from : CanBeKept tag mid → CanBeKept tag old
-  can_from c = let first = s.first in let most = s.most in let reused = s.reused in let some = c.some in
-      let alive = c.alive in record {
-        some = omega arith;
-        alive = omega arith;
-        within = λ w. let in_window = c.within (s.keeping ∙ w) in let low = in_window.0 in let high = in_window.1 in
-            (omega arith, omega arith);
-      }
+  can_from = let first = s.first in can_also tag mid old (record { most = sym s.most; keeping = sym s.keeping })
+      (sym s.reused) (λ careful w. let low = w.0 in let high = w.1 in (omega arith, omega arith))
+
+  can_to : CanBeKept tag old → CanBeKept tag mid
+  can_to = let first = s.first in can_also tag old mid (record { most = s.most; keeping = s.keeping }) s.reused
+      (λ careful w. let low = w.0 in let high = w.1 in (omega arith, omega arith))
 
   pub kept_same : (woken : ℕ) (a b : Hand R) → GivesKept tags woken mid a b → GivesKept tags woken old a b
   kept_same woken a b g = record {
@@ -83,13 +82,7 @@ module _ {R : Type 0} (tags : Tags R) (tag : ℕ) (old mid : Cache R) (s : SameF
 
   pub kept_at_once : (new : Cache R) → LooksOnce 0 old.hand mid.hand → HasPlace tag old → Keeps tag mid new
       → KeptUnseen tag 0 old new
-  kept_at_once new looked p k = record {
-    looked = subst (λ (h : Hand R). LooksOnce 0 old.hand h) (sym k.hand) looked;
-    place = p.place;
-    can = p.can;
-    also = also_from tag old mid new same k.also;
-    none = refl;
-  }
+  kept_at_once new looked p k = kept_unseen new looked p.place (can_to p.can) k
 
   -- there was no place for the tag, or it may not be kept
   pub room_goes : (woken : ℕ) (before new : Cache R) → LooksOnce 0 old.hand mid.hand → before ≡ mid
@@ -98,15 +91,6 @@ module _ {R : Type 0} (tags : Tags R) (tag : ℕ) (old mid : Cache R) (s : SameF
   room_goes woken before new looked e full g =
       on (subst (λ (x : Cache R). MakesRoom tags tag woken x new) e g)
     where
-      to_can : CanBeKept tag old → CanBeKept tag mid
-      to_can c = let first = s.first in let most = s.most in let reused = s.reused in let some = c.some in
-          let alive = c.alive in record {
-            some = omega arith;
-            alive = omega arith;
-            within = λ w. let in_window = c.within (sym s.keeping ∙ w) in let low = in_window.0 in
-                let high = in_window.1 in (omega arith, omega arith);
-          }
-
       on : MakesRoom tags tag woken mid new → KeptInstead tags tag woken old new ⊎ GoesAlone tags tag woken old new
       on g = ⊎_elim
           (λ i. inl (record {
@@ -120,7 +104,7 @@ module _ {R : Type 0} (tags : Tags R) (tag : ℕ) (old mid : Cache R) (s : SameF
           (λ a. inr (record {
             between = mid.hand;
             looked = looked;
-            never = λ c. a.0 (to_can c);
+            never = λ c. a.0 (can_to c);
             gives = a.1;
             kept = keeps_twice old mid new same a.2;
           })) g

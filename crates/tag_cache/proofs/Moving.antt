@@ -1,13 +1,13 @@
 -- What became of a tag that is cleared after the window moved, or did not.
-use Rattle.std.proofs.Common.{arith, ◌≡◌, ◌⊎◌, ℕ, ◌+◌, ◌<◌, ◌≤◌, inl, inr, sym, ◌∙◌, subst, ⊎_elim}
+use Rattle.std.proofs.Common.{arith, ◌≡◌, ◌⊎◌, ℕ, ◌≤◌, inl, inr, sym, ◌∙◌, subst, ⊎_elim}
 use Rattle.tag_sets.specs.declared.hand.Hand.{Hand}
 use Rattle.tag_sets.specs.declared.tags.Tags.{Tags}
 use Rattle.tag_cache.specs.declared.cache.Cache.{Cache}
 use Rattle.tag_cache.specs.declared.keeping.Keeping.TheVariants.{WhileHolding}
-use Rattle.tag_cache.specs.Caches.{IsKept, IsLast, KeepsNone, HasNoPlace, CanBeKept, keeping_of}
-use Rattle.tag_cache.specs.Changes.{KeepsSame, KeepsAlso, KeepsOnly, SameHand}
+use Rattle.tag_cache.specs.Caches.{IsKept, IsLast, IsWithin, KeepsNone, HasNoPlace, CanBeKept, keeping_of, reused_of}
+use Rattle.tag_cache.specs.Changes.{KeepsSame, KeepsAlso, KeepsOnly, SameHand, SameTerms}
 use Rattle.tag_cache.specs.Clears.{LooksOnce, KeptUnseen, KeptInstead, GoesAlone, GoesWithKept, GoesWithAll, GoesLast, GoesOrdinary}
-use Rattle.tag_cache.proofs.Carrying.{keeps_twice}
+use Rattle.tag_cache.proofs.Carrying.{keeps_twice, terms_twice}
 use Rattle.tag_cache.proofs.Giving.{kept_from}
 
 -- a tag is kept besides the tags of a cache that keeps the same
@@ -19,7 +19,7 @@ also_from tag old mid new s a = let more = a.more in let count = s.count in reco
   none_else = λ other k. ⊎_elim (λ (o : IsKept mid other). inl ((s.kept other).0 o))
       (λ (e : other ≡ tag). inr e) (a.none_else other k);
   more = omega arith;
-  terms = record { most = a.terms.most ∙ s.terms.most; keeping = a.terms.keeping ∙ s.terms.keeping };
+  terms = terms_twice s.terms a.terms;
   reused = a.reused ∙ s.reused;
 }
 
@@ -29,9 +29,19 @@ pub only_from : {R : Type 0} (tag : ℕ) (old mid new : Cache R) → KeepsSame o
 only_from tag old mid new s o = record {
   only = o.only;
   one = o.one;
-  terms = record { most = o.terms.most ∙ s.terms.most; keeping = o.terms.keeping ∙ s.terms.keeping };
+  terms = terms_twice s.terms o.terms;
   reused = o.reused ∙ s.reused;
 }
+
+-- it may be kept in any cache on the same terms, whose window has it if it has to be there
+pub can_also : {R : Type 0} (tag : ℕ) (old new : Cache R) → SameTerms old new → reused_of new ≡ reused_of old
+    → (keeping_of old ≡ WhileHolding → IsWithin old tag → IsWithin new tag) → CanBeKept tag old → CanBeKept tag new
+can_also tag old new terms reused window c = let most = terms.most in let some = c.some in
+    let alive = c.alive in record {
+      some = omega arith;
+      alive = omega arith;
+      within = λ w. let careful = sym terms.keeping ∙ w in window careful (c.within careful);
+    }
 
 module _ {R : Type 0} (tags : Tags R) (tag woken : ℕ) (old mid new : Cache R) (u : SameHand old mid)
     (moved : KeepsNone old ⊎ (mid ≡ old)) (careful : keeping_of old ≡ WhileHolding → mid ≡ old) where
@@ -54,7 +64,7 @@ module _ {R : Type 0} (tags : Tags R) (tag woken : ℕ) (old mid new : Cache R) 
       woken_is = g.gives.woken_is;
     };
     none = g.none;
-    terms = record { most = g.terms.most ∙ u.kept.terms.most; keeping = g.terms.keeping ∙ u.kept.terms.keeping };
+    terms = terms_twice u.kept.terms g.terms;
     reused = g.reused ∙ u.kept.reused;
   }
 
@@ -74,22 +84,13 @@ module _ {R : Type 0} (tags : Tags R) (tag woken : ℕ) (old mid new : Cache R) 
       (λ (e : mid ≡ old). subst (λ (x : Cache R). HasNoPlace tag x) (sym e) full) side
 
   can_from : CanBeKept tag mid → CanBeKept tag old
-  can_from c = let most = u.kept.terms.most in let reused = u.kept.reused in let some = c.some in let alive = c.alive in
-      record {
-        some = omega arith;
-        alive = omega arith;
-        within = λ w. let e = careful w in subst (λ (x : Cache R). (x.first ≤ tag) × (tag < x.first + 64)) e
-            (c.within (u.kept.terms.keeping ∙ w));
-      }
+  can_from = let terms = u.kept.terms in
+      can_also tag mid old (record { most = sym terms.most; keeping = sym terms.keeping })
+      (sym u.kept.reused) (λ w. subst (λ (x : Cache R). IsWithin x tag) (careful (sym terms.keeping ∙ w)))
 
   can_to : CanBeKept tag old → CanBeKept tag mid
-  can_to c = let most = u.kept.terms.most in let reused = u.kept.reused in let some = c.some in let alive = c.alive in
-      record {
-        some = omega arith;
-        alive = omega arith;
-        within = λ w. let was = sym u.kept.terms.keeping ∙ w in let e = careful was in
-            subst (λ (x : Cache R). (x.first ≤ tag) × (tag < x.first + 64)) (sym e) (c.within was);
-      }
+  can_to = can_also tag old mid u.kept.terms u.kept.reused
+      (λ w. subst (λ (x : Cache R). IsWithin x tag) (sym (careful w)))
 
   pub goes_from : GoesOrdinary tags tag woken mid new → GoesOrdinary tags tag woken old new
   goes_from g = ⊎_elim

@@ -1,5 +1,5 @@
 -- A tag that is posted leaves the hand's steps on the wait groups as they are, and what it won and gave back.
-use Rattle.std.proofs.Common.{◌≡◌, ℕ, Result, Ok, Err, OnOk, OnErr, refl, ap}
+use Rattle.std.proofs.Common.{◌≡◌, ℕ, Result, Ok, Err, OnOk, OnErr, refl, ap, subst}
 use Rattle.tag_core.specs.declared.record.Record.{Record}
 use Rattle.wake_book.specs.declared.groups.Waiter.{Waiter}
 use Rattle.wake_book.specs.Groups.{steps_of}
@@ -15,34 +15,31 @@ use Rattle.tag_sets.specs.Sets.{kind_of}
 use Rattle.tag_sets.specs.Hands.{Changes, split_of, group_steps, waiter_of}
 use Rattle.tag_sets.specs.Slots.{Posts}
 use Rattle.tag_cache.specs.declared.cache.Cache.{Cache}
-use Rattle.tag_cache.specs.Caches.{KeepsNone}
-use Rattle.tag_cache.specs.Changes.{KeepsSame}
-use Rattle.tag_cache.specs.Slots.{PostsLast}
+use Rattle.tag_cache.specs.Caches.{IsLast, IsLent, KeepsNone}
+use Rattle.tag_cache.specs.Changes.{Forgets, KeepsSame, SameTerms, SameWindow}
+use Rattle.tag_cache.specs.Holding.{HoldsSame}
+use Rattle.tag_cache.specs.Slots.{Passes, PassesAlone, PostsLast}
 use Rattle.tag_cache.specs.Tallies.{Tallies}
+use Rattle.tag_cache.proofs.Carrying.{keeps_twice, less, none_after, same_then_less, same_user, terms_twice}
+use Rattle.tag_cache.proofs.Looking.{lends_less_then_same, same_then_lends_less, unlent_less}
+use Rattle.tag_cache.proofs.Reusing.{last_unlent}
 use Rattle.tag_cache.proofs.Tallying.{Moves, moves_in, moves_tallies, unchanged_tallies}
 
 module _ {R : Type 0} where
-  -- a change in one set by which the agent made no step on the groups
-  steps_in : (kind : Kind) (change : Agent R → Agent R → Type 0) (a b : Hand R)
-      → ((c d : Agent R) → change c d → queue.group_steps d ≡ queue.group_steps c) → Changes kind change a b
-      → group_steps b ≡ group_steps a
-  steps_in Ordinary change a b same c = same a.ordinary b.ordinary c.changed
-  steps_in Reserved change a b same c = ap (λ (x : Agent R). queue.group_steps x) c.other
-
-  pub posts_steps : (tag : ℕ) (a b : Hand R) → Posts tag a b → group_steps b ≡ group_steps a
-  posts_steps tag a b p = steps_in (kind_of (split_of a) tag) _ a b
-      (λ c d (x : queue_slots.Posts _ c d). ap (λ (w : Waiter). steps_of w) x.same_else.1.1) p.set
-
-  -- nor does it ring
+  -- a change in one set in which the agent leaves its waiter as it is
   waiter_in : (kind : Kind) (change : Agent R → Agent R → Type 0) (a b : Hand R)
       → ((c d : Agent R) → change c d → queue.waiter_of d ≡ queue.waiter_of c) → Changes kind change a b
       → waiter_of b ≡ waiter_of a
   waiter_in Ordinary change a b same c = same a.ordinary b.ordinary c.changed
   waiter_in Reserved change a b same c = ap (λ (x : Agent R). queue.waiter_of x) c.other
 
+  -- a post makes no step on the groups, and rings nobody
   pub posts_waiter : (tag : ℕ) (a b : Hand R) → Posts tag a b → waiter_of b ≡ waiter_of a
   posts_waiter tag a b p = waiter_in (kind_of (split_of a) tag) _ a b
       (λ c d (x : queue_slots.Posts _ c d). x.same_else.1.1) p.set
+
+  pub posts_steps : (tag : ℕ) (a b : Hand R) → Posts tag a b → group_steps b ≡ group_steps a
+  posts_steps tag a b p = ap (λ (w : Waiter). steps_of w) (posts_waiter tag a b p)
 
   pub posts_moves : (tag : ℕ) (a b : Hand R) → Posts tag a b → Moves 0 0 a b
   posts_moves tag a b p = moves_in (kind_of (split_of a) tag) 0 0 _ a b (λ c d (x : queue_slots.Posts _ c d). record {
@@ -50,18 +47,11 @@ module _ {R : Type 0} where
     back_is = ap (λ (r : Record R). r.back) x.step.known;
   }) p.set
 
-  -- the same of what a post answers
-  pub steps_on : (tag : ℕ) (a b : Hand R) (r : Result (Unit {0}) TagFault) → OnOk r (Posts tag a b)
-      → OnOk r (group_steps b ≡ group_steps a)
-  steps_on tag a b (Ok u) p = posts_steps tag a b p
-  steps_on tag a b (Err e) p = tt
-
-  -- and of a cache that keeps the same tags
-  module _ (tag : ℕ) (old new : Cache R) (keeps : KeepsSame old new) where
-    pub posted_tallies : (r : Result (Unit {0}) TagFault) → OnOk r (Posts tag old.hand new.hand)
-        → OnErr r (new.hand ≡ old.hand) → Tallies 0 0 old new
-    posted_tallies (Ok u) p e = moves_tallies 0 0 old new keeps (posts_moves tag old.hand new.hand p)
-    posted_tallies (Err x) p e = unchanged_tallies old new (record { hand = e; kept = keeps })
+  -- the tallies of a cache that keeps the same tags, whatever the post answers
+  pub posted_tallies : (tag : ℕ) (old new : Cache R) → KeepsSame old new → (r : Result (Unit {0}) TagFault)
+      → OnOk r (Posts tag old.hand new.hand) → OnErr r (new.hand ≡ old.hand) → Tallies 0 0 old new
+  posted_tallies tag old new keeps (Ok u) p e = moves_tallies 0 0 old new keeps (posts_moves tag old.hand new.hand p)
+  posted_tallies tag old new keeps (Err x) p e = unchanged_tallies old new (record { hand = e; kept = keeps })
 
   -- where nothing is kept, nothing has to go back first
   pub last_on : (tags : Tags R) (tag : ℕ) (old new : Cache R) → KeepsNone old → (r : Result (Unit {0}) TagFault)
@@ -72,3 +62,50 @@ module _ {R : Type 0} where
     posts = p;
   }
   last_on tags tag old new none (Err e) p = tt
+
+-- what a post is for the user
+module _ {R : Type 0} (tag : ℕ) where
+  -- if the tag may be the last one known only where nothing is kept
+  pub passes : (old new : Cache R) → PassesAlone tag old new → (IsLast tag old → KeepsNone old) → Passes tag old new
+  passes old new a none = record {
+    less = a.less;
+    posts = λ n. a.posts;
+    kept = λ n. a.kept;
+    last = λ l. none_after old new (none l) a.kept;
+    terms = a.kept.terms;
+    loans = a.loans;
+  }
+
+  -- if all kept tags went back before, as the tag is the last one known
+  pub passes_last : (old mid new : Cache R) → IsLast tag old → HoldsSame old mid → KeepsNone mid → SameTerms old mid
+      → SameWindow old mid → PassesAlone tag mid new → Passes tag old new
+  passes_last old mid new last same none terms window a = record {
+    less = same_then_less old mid new (λ other. other ≡ tag) same a.less;
+    posts = λ n. absurd (n last);
+    kept = λ n. absurd (n last);
+    last = λ l. none_after mid new none a.kept;
+    terms = terms_twice terms a.kept.terms;
+    loans = same_then_lends_less tag old mid new window.loans a.loans;
+  }
+
+  -- if it was forgotten before
+  pub forgotten_passes : (old mid new : Cache R) → Forgets tag old mid → KeepsSame mid new → SameWindow mid new
+      → Posts tag mid.hand new.hand → PassesAlone tag old new
+  forgotten_passes old mid new f keeps window p = record {
+    less = same_then_less old mid new (λ other. other ≡ tag) (same_user old mid f.same)
+        (less mid new keeps (λ other. other ≡ tag) p.less);
+    posts = subst (λ (h : Hand R). Posts tag h new.hand) f.same.hand p;
+    kept = keeps_twice old mid new f.same.kept keeps;
+    loans = lends_less_then_same tag old mid new f.loans window.loans;
+  }
+
+  -- if it was not known to be the user's
+  pub unlent_passes : (old new : Cache R) → KeepsSame old new → SameWindow old new → ¬ (IsLent old tag)
+      → (r : Result (Unit {0}) TagFault) → OnOk r (Posts tag old.hand new.hand) → OnOk r (Passes tag old new)
+  unlent_passes old new keeps window out (Ok u) p = passes old new (record {
+    less = less old new keeps (λ other. other ≡ tag) p.less;
+    posts = p;
+    kept = keeps;
+    loans = unlent_less tag old new out window.loans;
+  }) (last_unlent old tag out)
+  unlent_passes old new keeps window out (Err e) p = tt

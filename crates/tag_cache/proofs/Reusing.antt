@@ -2,8 +2,10 @@
 use Rattle.std.proofs.Common.{arith, ◌↔◌, Some, ◌≡◌, ◌≢◌, ℕ, ◌+◌, ◌^◌, ◌<◌, ◌≤◌, inl, inr, refl, sym, ap, subst, ⊎_elim}
 use mathlib.Core.Logic.{dite}
 use native.Mathlib.Decide.{ℕ_discrete}
+use Rattle.std.specs.Prelude.{count_ones}
 use Rattle.std.specs.Int.{trailing_zeros, w64}
 use Rattle.std.proofs.lemmas.Bool.{cases_lt}
+use Rattle.std.proofs.lemmas.Nat.{ones_le_self}
 use Rattle.tag_sets.specs.declared.hand.Hand.{Hand}
 use Rattle.tag_sets.specs.declared.tags.Tags.{Tags}
 use Rattle.tag_sets.specs.Hands as hands
@@ -12,12 +14,12 @@ use Rattle.tag_sets.specs.Gets.{IsOrdinaryTag}
 use Rattle.tag_cache.specs.declared.cache.Cache.{Cache}
 use Rattle.tag_cache.specs.declared.keeping.Keeping.TheVariants.{WhileHolding}
 use Rattle.tag_cache.specs.Windows.{IsIn}
-use Rattle.tag_cache.specs.Caches.{IsKept, IsLent, IsLast, IsWithin, KeepsNone, KeepsWithCare, Holds, split_of}
-use Rattle.tag_cache.specs.Changes.{SameHand, KeepsAlso, TakesLeast, Pops, Reuses}
+use Rattle.tag_cache.specs.Caches.{IsKept, IsLent, IsLast, IsWithin, KeepsNone, KeepsWithCare, Holds, count_of, split_of}
+use Rattle.tag_cache.specs.Changes.{SameHand, KeepsAlso, TakesLeast, Reuses}
 use Rattle.tag_cache.specs.Gets.{GetsBy}
 use Rattle.tag_cache.specs.Holding.{HoldsMore, HoldsLess}
 use Rattle.tag_cache.proofs.Below.{held_below}
-use Rattle.tag_cache.proofs.Windows.{below_end, emptied, none_else, some_in, least_in}
+use Rattle.tag_cache.proofs.Windows.{below_end, emptied, none_else, none_in, some_in, least_in}
 
 module _ {R : Type 0} where
   -- the least kept tag is the user's from then on
@@ -83,9 +85,19 @@ module _ {R : Type 0} where
   pub lent_within : (cache : Cache R) (tag : ℕ) → IsLent cache tag → IsWithin cache tag
   lent_within cache tag l = (l.0, below_end cache.first cache.lent tag cache.wide.1 l)
 
-  -- a cache that keeps no tag has an empty mask
+  -- a cache that keeps no tag has an empty mask, and one that keeps some has none
   pub none_kept : (cache : Cache R) → KeepsNone cache → cache.kept ≡ 0
   none_kept cache none = emptied cache.first cache.kept cache.wide.0 none
+
+  pub some_kept : (cache : Cache R) → ¬ (KeepsNone cache) → 0 < cache.kept
+  some_kept cache some = ⊎_elim
+      (λ (l : cache.kept < 1). absurd (some (λ tag k. none_in cache.first cache.kept tag (omega arith) k)))
+      (λ (h : 1 ≤ cache.kept). omega arith) (cases_lt cache.kept 1)
+
+  -- if none is kept, none is counted
+  pub no_count : (cache : Cache R) → KeepsNone cache → count_of cache ≡ 0
+  no_count cache none = let same : count_of cache ≡ count_ones 0 = ap count_ones (none_kept cache none) in
+      let zero = ones_le_self 0 in omega arith
 
   -- what an unchanged cache has in common with the former one
   pub held_still : (old new : Cache R) (tag : ℕ) → SameHand old new → Holds old tag → Holds new tag
@@ -102,11 +114,6 @@ module _ {R : Type 0} where
       (λ (l : rest < 1). let zero : rest ≡ 0 = omega arith in
       absurd (more (careful, (none_else cache.first cache.lent rest tag fits without).0 zero)))
       (λ (h : 1 ≤ rest). omega arith) (cases_lt rest 1)
-
-  -- a tag that was kept is not known to be the user's
-  pub unlent : (old new : Cache R) (tag : ℕ) → Pops tag old new → ¬ (IsLent new tag)
-  unlent old new tag p l = old.apart tag p.takes.was (subst (λ (m : ℕ). IsIn old.first m tag) p.lent
-      (subst (λ (f : ℕ). IsIn f new.lent tag) p.first l))
 
   -- some tag is lent if the mask of lent ones is not 0
   some_lent : (cache : Cache R) → 0 < cache.lent → IsLent cache (cache.first + trailing_zeros w64 cache.lent)

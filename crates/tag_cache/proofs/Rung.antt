@@ -18,7 +18,7 @@ use Rattle.tag_cache.specs.Holding.{HoldsLess, HoldsSame}
 use Rattle.tag_cache.specs.Rings.{MakesNoStep, RingsGranted}
 use Rattle.tag_cache.specs.Same.{SameTags}
 use Rattle.tag_cache.specs.Waits.{Enters}
-use Rattle.tag_cache.proofs.Carrying.{keeps_twice, same_fields}
+use Rattle.tag_cache.proofs.Carrying.{keeps_twice, same_fields, terms_twice}
 use Rattle.tag_cache.proofs.Looking.{same_window}
 use Rattle.tag_cache.proofs.Steady.{rests_unchanged, same_tags}
 use Rattle.tag_cache.proofs.Ringing.{reserved_woken, one_still, list_still, kept_still, hand_enters_still}
@@ -75,7 +75,7 @@ module _ {R : Type 0} (woken : ℕ) (mid new : Cache R) (r : HasRung woken mid n
   only_still tag old o = let k = r.same.kept in record {
     only = λ other. ((λ i. (o.only other).0 ((k.kept other).0 i)), (λ e. (k.kept other).1 ((o.only other).1 e)));
     one = k.count ∙ o.one;
-    terms = record { most = k.terms.most ∙ o.terms.most; keeping = k.terms.keeping ∙ o.terms.keeping };
+    terms = terms_twice o.terms k.terms;
     reused = k.reused ∙ o.reused;
   }
 
@@ -94,27 +94,8 @@ module _ {R : Type 0} (woken : ℕ) (mid new : Cache R) (r : HasRung woken mid n
     }
 
     module _ (tag : ℕ) (own : IsHandOf tags mid.hand) where
-      with_kept_still : (found : ℕ) → reserved_of tags ≤ tag → GoesWithKept tags tag found woken old mid
-          → GoesWithKept tags tag found woken old new
-      with_kept_still found above g = let k = r.same.kept in record {
-        between = g.between;
-        looked = g.looked;
-        gives = record {
-          between = g.gives.between;
-          sooner = g.gives.sooner;
-          kept = g.gives.kept;
-          later = g.gives.later;
-          gives = one_still tags g.gives.between mid.hand new.hand r.hand tag g.gives.later above
-              (sym g.gives.gives.clears.set.split ∙ own.2) g.gives.gives;
-          woken_is = g.gives.woken_is;
-        };
-        none = none_still g.none;
-        terms = record { most = k.terms.most ∙ g.terms.most; keeping = k.terms.keeping ∙ g.terms.keeping };
-        reused = k.reused ∙ g.reused;
-      }
-
-      pub with_rung : reserved_of tags ≤ tag → GivesWith tags tag woken old old.hand mid.hand
-          → GivesWith tags tag woken old old.hand new.hand
+      pub with_rung : {a : Hand R} → reserved_of tags ≤ tag → GivesWith tags tag woken old a mid.hand
+          → GivesWith tags tag woken old a new.hand
       with_rung above g = record {
         between = g.between;
         sooner = g.sooner;
@@ -123,6 +104,17 @@ module _ {R : Type 0} (woken : ℕ) (mid new : Cache R) (r : HasRung woken mid n
         gives = one_still tags g.between mid.hand new.hand r.hand tag g.later above
             (sym g.gives.clears.set.split ∙ own.2) g.gives;
         woken_is = g.woken_is;
+      }
+
+      with_kept_still : (found : ℕ) → reserved_of tags ≤ tag → GoesWithKept tags tag found woken old mid
+          → GoesWithKept tags tag found woken old new
+      with_kept_still found above g = let k = r.same.kept in record {
+        between = g.between;
+        looked = g.looked;
+        gives = with_rung above g.gives;
+        none = none_still g.none;
+        terms = terms_twice g.terms k.terms;
+        reused = k.reused ∙ g.reused;
       }
 
       ordinary_still : reserved_of tags ≤ tag → 1 ≤ woken → GoesOrdinary tags tag woken old mid
@@ -187,6 +179,6 @@ module _ {R : Type 0} (woken : ℕ) (mid new : Cache R) (r : HasRung woken mid n
           gives = list_still tags w.flushed mid.hand new.hand r.hand list w.later w.gives;
           woken_is = w.woken_is;
           none = none_still w.none;
-          terms = record { most = k.terms.most ∙ w.terms.most; keeping = k.terms.keeping ∙ w.terms.keeping };
+          terms = terms_twice w.terms k.terms;
           reused = k.reused ∙ w.reused;
         })) g

@@ -1,7 +1,6 @@
 -- What a call of the hand leaves as it is that neither wins tags nor gives any back.
 use Rattle.std.proofs.Common.{arith, ◌≡◌, ℕ, suc, ◌+◌, Option, Some, None, List, [], ◌∷◌, Result, Ok, Err, IfOk, IfErr, IfSome, IfNone, refl, sym, ap, ◌∙◌, subst}
 use Rattle.tag_layout.specs.Layout.{Layout}
-use Rattle.tag_core.specs.declared.caller.Caller.{Caller}
 use Rattle.tag_core.specs.declared.record.Record.{Record}
 use Rattle.tag_core.specs.declared.step.Step.TheVariants.{Word}
 use Rattle.tag_core.specs.declared.word_step.WordStep.TheVariants.{Look, LookAside}
@@ -32,8 +31,8 @@ use Rattle.tag_cache.specs.declared.cache.Cache.{Cache}
 use Rattle.tag_cache.specs.Windows.{IsIn, AreOwn}
 use Rattle.tag_cache.specs.Changes.{KeepsSame, SameWindow}
 use Rattle.tag_cache.specs.Same.{SameTags}
-use Rattle.tag_cache.proofs.Carrying.{same, own_after}
-use Rattle.tag_cache.proofs.Tallying.{Moves, MovesAgent, moves_in, stays_moves}
+use Rattle.tag_cache.proofs.Carrying.{Owns, same, own_after, owns}
+use Rattle.tag_cache.proofs.Tallying.{Moves, MovesAgent, caller_rests, moves_in, moves_tallies, record_rests, stays_moves}
 
 -- the hand holds what it held, won nothing and gave nothing back
 pub record Rests {R : Type 0} (old new : Hand R) : Type 0 where
@@ -41,14 +40,6 @@ pub record Rests {R : Type 0} (old new : Hand R) : Type 0 where
   pub moves : Moves 0 0 old new
 
 module _ {R : Type 0} where
-  -- an agent whose record is as it was
-  record_rests : (a b : Agent R) → record_of (queue.caller_of b) ≡ record_of (queue.caller_of a) → MovesAgent 0 0 a b
-  record_rests a b e = let w = ap (λ (r : Record R). r.won) e in let k = ap (λ (r : Record R). r.back) e in
-      record { won_is = omega arith; back_is = omega arith }
-
-  caller_rests : (a b : Agent R) → queue.caller_of b ≡ queue.caller_of a → MovesAgent 0 0 a b
-  caller_rests a b e = record_rests a b (ap (λ (x : Caller R). record_of x) e)
-
   -- one after another
   rests_then : (a b c : Hand R) → Rests a b → Rests b c → Rests a c
   rests_then a b c r s = let rw = r.moves.won_is in let rb = r.moves.back_is in let sw = s.moves.won_is in
@@ -155,15 +146,15 @@ module _ {R : Type 0} where
   own_rests tags first mask a b ha hb own r = own_after tags first mask a b ha hb own
       (λ tag h (i : IsIn first mask tag). (r.held.kept tag h).0)
 
-  pub own_unchanged : (first mask : ℕ) (a b : Hand R) → AreOwn a first mask → b ≡ a → AreOwn b first mask
-  own_unchanged first mask a b own e = subst (λ (x : Hand R). AreOwn x first mask) (sym e) own
+  pub owns_rests : (tags : Tags R) (cache : Cache R) (b : Hand R) → hands.IsHandOf tags cache.hand
+      → hands.IsHandOf tags b → Rests cache.hand b → Owns cache b
+  owns_rests tags cache b ha hb r = owns tags cache b ha hb (λ tag h. (r.held.kept tag h).0)
 
   pub same_tags : (old new : Cache R) → KeepsSame old new → SameWindow old new → Rests old.hand new.hand
       → SameTags old new
-  same_tags old new keeps window r = let w = r.moves.won_is in let k = r.moves.back_is in let again = keeps.reused in
-      let count = keeps.count in record {
-        held = same old new keeps r.held;
-        kept = keeps;
-        window = window;
-        tally = record { handed = omega arith; taken = omega arith };
-      }
+  same_tags old new keeps window r = record {
+    held = same old new keeps r.held;
+    kept = keeps;
+    window = window;
+    tally = moves_tallies 0 0 old new keeps r.moves;
+  }

@@ -1,5 +1,5 @@
 -- What the calls of the hand add to what it won and gave back.
-use Rattle.std.proofs.Common.{arith, ◌≡◌, ℕ, zero, suc, ◌+◌, Option, Some, None, Result, Ok, Err, IfOk, OnOk, refl, sym, ap, subst}
+use Rattle.std.proofs.Common.{arith, ◌≡◌, ℕ, zero, suc, ◌+◌, Option, Some, None, refl, sym, ap, subst}
 use Rattle.tag_layout.specs.Layout.{Layout}
 use Rattle.tag_core.specs.declared.caller.Caller.{Caller}
 use Rattle.tag_core.specs.declared.record.Record.{Record}
@@ -22,8 +22,7 @@ use Rattle.tag_sets.specs.Clears.{Clears}
 use Rattle.tag_sets.specs.Gets as hand_gets
 use Rattle.tag_sets.specs.Gets.{whole}
 use Rattle.tag_sets.specs.Tallies.{won_in_both, back_in_both}
-use Rattle.tag_sets.specs.Waits.{Stays}
-use Rattle.tag_sets.specs.declared.fault.TagFault.{TagFault}
+use Rattle.tag_sets.specs.Waits.{AgentStays, Stays}
 use Rattle.tag_cache.specs.declared.cache.Cache.{Cache}
 use Rattle.tag_cache.specs.Changes.{KeepsSame, SameHand, Reuses}
 use Rattle.tag_cache.specs.Tallies.{Tallies, answered}
@@ -38,9 +37,11 @@ pub record MovesAgent {R : Type 0} (won back : ℕ) (old new : Agent R) : Type 0
   pub won_is : queue_tallies.won_of new ≡ queue_tallies.won_of old + won
   pub back_is : queue_tallies.back_of new ≡ queue_tallies.back_of old + back
 
-as_many : (reserved : ℕ) (answer number : Option ℕ) → answer ≡ whole reserved number → answered answer ≡ won_by number
-as_many reserved answer None e = ap answered e
-as_many reserved answer (Some number) e = ap answered e
+-- as many tags as the number in the set answers
+pub as_many : (reserved : ℕ) (answer number : Option ℕ) → answer ≡ whole reserved number
+    → won_by number ≡ answered answer
+as_many reserved answer None e = sym (ap answered e)
+as_many reserved answer (Some number) e = sym (ap answered e)
 
 as_won : (answer : Option ℕ) → answered answer ≡ won_by answer
 as_won None = refl
@@ -64,14 +65,16 @@ module _ {R : Type 0} where
       let mw = m.won_is in let mb = m.back_is in let sw = s.won_is in let sb = s.back_is in
       record { won_is = omega arith; back_is = omega arith }
 
-  pub stays_moves : (old new : Hand R) → Stays old new → Moves 0 0 old new
-  stays_moves old new s = let e = s.set.changed.0 in
-      let w : queue_tallies.won_of new.ordinary ≡ queue_tallies.won_of old.ordinary =
-      ap (λ (x : Caller R). (record_of x).won) e in
-      let k : queue_tallies.back_of new.ordinary ≡ queue_tallies.back_of old.ordinary =
-      ap (λ (x : Caller R). (record_of x).back) e in
-      let r = rests old.reserved new.reserved s.set.other in let rw = r.won_is in let rb = r.back_is in
+  -- an agent whose record is as it was
+  pub record_rests : (a b : Agent R) → record_of (queue.caller_of b) ≡ record_of (queue.caller_of a) → MovesAgent 0 0 a b
+  record_rests a b e = let w = ap (λ (r : Record R). r.won) e in let k = ap (λ (r : Record R). r.back) e in
       record { won_is = omega arith; back_is = omega arith }
+
+  pub caller_rests : (a b : Agent R) → queue.caller_of b ≡ queue.caller_of a → MovesAgent 0 0 a b
+  caller_rests a b e = record_rests a b (ap (λ (x : Caller R). record_of x) e)
+
+  pub stays_moves : (old new : Hand R) → Stays old new → Moves 0 0 old new
+  stays_moves old new s = moves_in Ordinary 0 0 _ old new (λ a b (x : AgentStays a b). caller_rests a b x.0) s.set
 
   puts_agent : (l : Layout) (number : ℕ) (a b : Agent R) → queue_clears.Puts l number a b → MovesAgent 0 1 a b
   puts_agent l number a b p = record {
@@ -93,7 +96,7 @@ module _ {R : Type 0} where
   pub gets_moves : (tags : Tags R) (answer : Option ℕ) (old new : Hand R) → hand_gets.Gets tags answer old new
       → Moves (answered answer) 0 old new
   gets_moves tags answer old new g = subst (λ (n : ℕ). Moves n 0 old new)
-      (sym (as_many _ answer g.number g.answer_is))
+      (as_many _ answer g.number g.answer_is)
       (moves_in Ordinary (won_by g.number) 0 _ old new
       (λ a b x. gains_agent (layout_of tags Ordinary) g.number a b x) g.set)
 
@@ -139,14 +142,6 @@ module _ {R : Type 0} where
   moves_tallies won back old new s m = let w = m.won_is in let k = m.back_is in let reused = s.reused in
       let count = s.count in record { handed = omega arith; taken = omega arith }
 
-  -- the same of what calls answer
-  pub reserved_tallies : (tags : Tags R) (old new : Cache R) → KeepsSame old new → (r : Result (Option ℕ) TagFault)
-      → IfOk r (λ answer. hand_gets.GetsReserved tags answer old.hand new.hand)
-      → IfOk r (λ answer. Tallies (answered answer) 0 old new)
-  reserved_tallies tags old new s (Ok answer) g = moves_tallies (answered answer) 0 old new s
-      (reserved_moves tags answer old.hand new.hand g)
-  reserved_tallies tags old new s (Err e) g = tt
-
   -- an unchanged cache adds nothing
   pub unchanged_tallies : (old new : Cache R) → SameHand old new → Tallies 0 0 old new
   unchanged_tallies old new u = let w = ap (λ (h : Hand R). won_in_both h) u.hand in
@@ -157,10 +152,3 @@ module _ {R : Type 0} where
   pub tallies_on : (out back : ℕ) (a b c : Cache R) → Tallies out back a b → Tallies 0 0 b c → Tallies out back a c
   tallies_on out back a b c s t = let sh = s.handed in let st = s.taken in let th = t.handed in let more = t.taken in
       record { handed = omega arith; taken = omega arith }
-
-  pub blocking_tallies : (tags : Tags R) (old mid new : Cache R) → mid ≡ old → KeepsSame mid new
-      → (r : Result ℕ TagFault) → IfOk r (λ tag. hand_gets.BlockingGets tags tag mid.hand new.hand)
-      → OnOk r (Tallies 1 0 old new)
-  blocking_tallies tags old mid new e s (Ok tag) g = subst (λ (x : Cache R). Tallies 1 0 x new) e
-      (moves_tallies 1 0 mid new s (blocking_moves tags tag mid.hand new.hand g))
-  blocking_tallies tags old mid new e s (Err x) g = tt

@@ -140,31 +140,6 @@ emptied first mask fits none = ⊎_elim (λ (l : mask < 1). omega arith)
 pub below_end : (first mask tag : ℕ) → mask < 2 ^ 64 → IsIn first mask tag → tag < first + 64
 below_end first mask tag fits i = let low = bit_low mask (tag - first) fits i.1 in let above = i.0 in omega arith
 
--- a tag is in the window by the bit at its offset
-pub at_offset : (first mask tag offset : ℕ) → first + offset ≡ tag → IsIn first mask tag ↔ (bit_at mask offset ≡ 1)
-at_offset first mask tag offset e = let same : tag - first ≡ offset = omega arith in (
-  (λ i. ap (bit_at mask) (sym same) ∙ i.1),
-  (λ b. (omega arith, ap (bit_at mask) same ∙ b)),
-)
-
--- how far a tag is behind the first one of a window, in 32 bits
-module _ (first tag : ℕ) (low : first < 2 ^ 31) (fits : tag < 2 ^ 32) where
-  behind : first ≤ tag → first + (tag + (2 ^ 32 - first)) % 2 ^ 32 ≡ tag
-  behind h = omega arith
-
-  ahead : tag < first → 64 ≤ (tag + (2 ^ 32 - first)) % 2 ^ 32
-  ahead h = omega arith
-
-  pub offset_is : (tag + (2 ^ 32 - first)) % 2 ^ 32 < 64 → first + (tag + (2 ^ 32 - first)) % 2 ^ 32 ≡ tag
-  offset_is small = ⊎_elim (λ (l : tag < first). let far = ahead l in absurd (omega arith))
-      (λ (h : first ≤ tag). behind h) (cases_lt tag first)
-
-  pub offset_within : ((tag + (2 ^ 32 - first)) % 2 ^ 32 < 64) ↔ ((first ≤ tag) × (tag < first + 64))
-  offset_within = (
-    (λ small. let is = offset_is small in (omega arith, omega arith)),
-    (λ w. let above = w.0 in let below = w.1 in let is = behind above in omega arith),
-  )
-
 -- a tag that is not within 64 of the first one is not in the window
 pub not_in : (first mask tag offset : ℕ) → mask < 2 ^ 64 → ((first ≤ tag) × (tag < first + 64) → offset < 64)
     → 64 ≤ offset → ¬ (IsIn first mask tag)

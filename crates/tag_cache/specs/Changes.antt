@@ -60,13 +60,6 @@ pub record TakesLeast {R : Type 0} (tag : ℕ) (old new : Cache R) : Type 0 wher
   pub left : (other : ℕ) → IsKept new other ↔ (IsKept old other × other ≢ tag)
   pub fewer : count_of old ≡ count_of new + 1
 
--- the least kept tag is kept no more, and nothing else changed
-pub record Pops {R : Type 0} (tag : ℕ) (old new : Cache R) : Type 0 where
-  pub takes : TakesLeast tag old new
-  pub first : new.first ≡ old.first
-  pub lent : new.lent ≡ old.lent
-  pub reused : reused_of new ≡ reused_of old
-
 -- the least kept tag is kept no more, but handed to the user, once more than before
 pub record Reuses {R : Type 0} (tag : ℕ) (old new : Cache R) : Type 0 where
   pub takes : TakesLeast tag old new

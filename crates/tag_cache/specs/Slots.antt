@@ -1,14 +1,32 @@
 -- How tags pass on from the users of caches.
-use Rattle.std.specs.Prelude.{ℕ}
+use Rattle.std.specs.Prelude.{◌≡◌, ℕ}
 use Rattle.tag_sets.specs.declared.hand.Hand.{Hand}
 use Rattle.tag_sets.specs.declared.tags.Tags.{Tags}
 use Rattle.tag_sets.specs.Slots as hands
 use Rattle.tag_cache.specs.declared.cache.Cache.{Cache}
-use Rattle.tag_cache.specs.Caches.{hand_of}
+use Rattle.tag_cache.specs.Caches.{IsLast, KeepsNone, hand_of}
+use Rattle.tag_cache.specs.Changes.{KeepsSame, LendsLess, SameTerms}
 use Rattle.tag_cache.specs.Clears.{GivesKept}
+use Rattle.tag_cache.specs.Holding.{HoldsLess}
 
 -- the hand gave all kept tags back together and woke that many waiters, and then posted this tag
 pub record PostsLast {R : Type 0} (tags : Tags R) (tag woken : ℕ) (old new : Cache R) : Type 0 where
   pub between : Hand R
   pub gives : GivesKept tags woken old (hand_of old) between
   pub posts : hands.Posts tag between (hand_of new)
+
+-- the hand posted this tag, which is the user's no more, and the same tags are kept
+pub record PassesAlone {R : Type 0} (tag : ℕ) (old new : Cache R) : Type 0 where
+  pub less : HoldsLess (λ other. other ≡ tag) old new
+  pub posts : hands.Posts tag (hand_of old) (hand_of new)
+  pub kept : KeepsSame old new
+  pub loans : LendsLess tag old new
+
+-- this tag is the user's no more; the hand only posted it, unless it was the last one known, and then none is kept
+pub record Passes {R : Type 0} (tag : ℕ) (old new : Cache R) : Type 0 where
+  pub less : HoldsLess (λ other. other ≡ tag) old new
+  pub posts : ¬ (IsLast tag old) → hands.Posts tag (hand_of old) (hand_of new)
+  pub kept : ¬ (IsLast tag old) → KeepsSame old new
+  pub last : IsLast tag old → KeepsNone new
+  pub terms : SameTerms old new
+  pub loans : LendsLess tag old new

@@ -30,25 +30,26 @@ impl<R: Copy> Cache<R> {
         ensures tally { IfOk result (λ found. Tallies (answered found.answer) 0 self.old self.new) }
         ensures err { IfErr result (λ fault. (fault ≡ TagFault.Spent) × IsUnchanged self.old self.new) }
     {
-        if let Some(tag) = self.reuse() {
-            return Ok(Found {
-                answer: Some(tag),
-                left: 0,
-            });
+        if self.keeps_none() {
+            return self.win_freed(tags);
         }
-        self.win_freed(tags)
+        Ok(Found {
+            answer: Some(self.reuse()),
+            left: 0,
+        })
     }
 
     /// Has the hand get a tag. It is out of line, so that a get is short where a tag is kept.
     #[inline(never)]
     fn win_freed(&mut self, tags: &Tags<R>) -> Result<Found<u32>, TagFault>
-        requires { IsCacheOf tags.now self.old }
+        requires cache { IsCacheOf tags.now self.old }
+        requires none { KeepsNone self.old }
         ensures cache { IsCacheOf tags.now self.new }
         ensures room { IsOk result ↔ HasRoom (hand_of self.old) Ordinary 1 }
         ensures gets { IfOk result (λ found. hands.Gets tags.now found.answer (hand_of self.old) (hand_of self.new)) }
         ensures left { IfOk result (λ found. found.left ≡ left_free (hand_of self.old) (hand_of self.new)) }
         ensures kept { KeepsSame self.old self.new }
-        ensures loans { KeepsNone self.old → IfOk result (λ found. LendsAnswer found.answer self.old self.new) }
+        ensures loans { IfOk result (λ found. LendsAnswer found.answer self.old self.new) }
         ensures err { IfErr result (λ fault. (fault ≡ TagFault.Spent) × IsUnchanged self.old self.new) }
     {
         let Found { answer, left } = tags.get_freed(&mut self.hand)?;
@@ -73,7 +74,8 @@ impl<R: Copy> Cache<R> {
         ensures spent { (result ≡ Err TagFault.Spent)
             ↔ ((least_of tags.now ≤ depth) × ¬ (HasRoom (hand_of self.old) Ordinary 1)) }
         ensures succeeds { IsOk result ↔ ((least_of tags.now ≤ depth) × HasRoom (hand_of self.old) Ordinary 1) }
-        ensures gets { IfOk result (λ found. hands.GetsShallow tags.now depth found.answer (hand_of self.old) (hand_of self.new)) }
+        ensures gets { IfOk result (λ found.
+            hands.GetsShallow tags.now depth found.answer (hand_of self.old) (hand_of self.new)) }
         ensures left { IfOk result (λ found. found.left ≡ left_free (hand_of self.old) (hand_of self.new)) }
         ensures more { IfOk result (λ found. HoldsMore (IsAnswer found.answer) self.old self.new) }
         ensures kept { KeepsSame self.old self.new }

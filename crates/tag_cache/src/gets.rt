@@ -29,21 +29,22 @@ impl<R: Copy> Cache<R> {
         ensures tally { IfOk result (λ answer. Tallies (answered answer) 0 self.old self.new) }
         ensures err { IfErr result (λ fault. (fault ≡ TagFault.Spent) × IsUnchanged self.old self.new) }
     {
-        if let Some(tag) = self.reuse() {
-            return Ok(Some(tag));
+        if self.keeps_none() {
+            return self.win(tags);
         }
-        self.win(tags)
+        Ok(Some(self.reuse()))
     }
 
     /// Has the hand get a tag. It is out of line, so that a get is short where a tag is kept.
     #[inline(never)]
     fn win(&mut self, tags: &Tags<R>) -> Result<Option<u32>, TagFault>
-        requires { IsCacheOf tags.now self.old }
+        requires cache { IsCacheOf tags.now self.old }
+        requires none { KeepsNone self.old }
         ensures cache { IsCacheOf tags.now self.new }
         ensures room { IsOk result ↔ HasRoom (hand_of self.old) Ordinary 1 }
         ensures gets { IfOk result (λ answer. GetsAndLooks (hands.Gets tags.now answer) (hand_of self.old) (hand_of self.new)) }
         ensures kept { KeepsSame self.old self.new }
-        ensures loans { KeepsNone self.old → IfOk result (λ answer. LendsAnswer answer self.old self.new) }
+        ensures loans { IfOk result (λ answer. LendsAnswer answer self.old self.new) }
         ensures err { IfErr result (λ fault. (fault ≡ TagFault.Spent) × IsUnchanged self.old self.new) }
     {
         let Some(tag) = tags.get(&mut self.hand)? else {
@@ -97,16 +98,17 @@ impl<R: Copy> Cache<R> {
         ensures tally { OnOk result (Tallies 1 0 self.old self.new) }
         ensures err { OnErr result (IsUnchanged self.old self.new) }
     {
-        if let Some(tag) = self.reuse() {
-            return Ok(tag);
+        if self.keeps_none() {
+            return self.wait_for(rt, tags);
         }
-        self.wait_for(rt, tags)
+        Ok(self.reuse())
     }
 
     /// Has the hand get a tag and wait as long as it finds none.
     #[inline(never)]
     fn wait_for<W: Wait>(&mut self, rt: &W, tags: &Tags<R>) -> Result<u32, TagFault>
-        requires { IsCacheOf tags.now self.old }
+        requires cache { IsCacheOf tags.now self.old }
+        requires none { KeepsNone self.old }
         ensures cache { IsCacheOf tags.now self.new }
         ensures no_such_tag { (result ≡ Err TagFault.NoSuchTag) ↔ (total_of tags.now ≡ reserved_of tags.now) }
         ensures waiting { (result ≡ Err TagFault.Waiting)
@@ -118,7 +120,7 @@ impl<R: Copy> Cache<R> {
         ensures gets { IfOk result (λ tag. hands.BlockingGets tags.now tag (hand_of self.old) (hand_of self.new)) }
         ensures waits { IfOk result (λ tag. hand_waits.WaitsFor tags.now tag (hand_of self.old) (hand_of self.new)) }
         ensures kept { KeepsSame self.old self.new }
-        ensures loans { KeepsNone self.old → IfOk result (λ tag. Lends tag self.old self.new) }
+        ensures loans { IfOk result (λ tag. Lends tag self.old self.new) }
         ensures err { OnErr result (IsUnchanged self.old self.new) }
     {
         let tag = tags.get_blocking(rt, &mut self.hand)?;

@@ -1,7 +1,7 @@
 //! Which tags are kept.
-ghost use Rattle.std.specs.Prelude.{◌≡◌, ◌+◌, ◌⊎◌, ◌<◌, ◌≤◌, ◌^◌, ◌↔◌, IsTrue, IsFalse, MatchOption};
+ghost use Rattle.std.specs.Prelude.{◌≡◌, ◌+◌, ◌⊎◌, ◌<◌, ◌≤◌, ◌^◌, ◌↔◌, IsTrue, IsFalse};
 ghost use Rattle.tag_cache.specs.Caches.{IsKept, IsWithin, IsFixed, IsLast, HasPlace, KeepsNone, KeepsWithCare, LeavesWindow, CanBeKept, Holds, most_of, count_of, split_of, hand_of};
-ghost use Rattle.tag_cache.specs.Changes.{Pops, Reuses, Keeps, MayKeep, KeepsOnly, LendsLess};
+ghost use Rattle.tag_cache.specs.Changes.{Reuses, Keeps, MayKeep, KeepsOnly, LendsLess};
 
 use crate::cache::{Cache, MOST_REUSED, WINDOW};
 use crate::keeping::Keeping;
@@ -38,31 +38,26 @@ impl<R> Cache<R> {
         self.room == 0
     }
 
-    /// Takes the least kept tag out of the kept ones.
+    /// Returns whether no tag is kept.
     #[inline(always)]
-    pub(crate) fn pop(&mut self) -> Option<u32>
-        ensures { MatchOption result (KeepsNone self.old × (self.new ≡ self.old)) (λ tag. Pops tag self.old self.new) }
+    pub(crate) fn keeps_none(&self) -> bool
+        ensures { IsTrue result ↔ KeepsNone self.now }
     {
-        if self.kept == 0 {
-            return None;
-        }
-        let place = self.kept.trailing_zeros();
-        self.kept &= !(1 << place);
-        self.room += 1;
-        Some(self.first + place)
+        self.kept == 0
     }
 
     /// Hands the least kept tag to the user.
     #[inline(always)]
-    pub(crate) fn reuse(&mut self) -> Option<u32>
-        ensures { MatchOption result (KeepsNone self.old × (self.new ≡ self.old)) (λ tag. Reuses tag self.old self.new) }
+    pub(crate) fn reuse(&mut self) -> u32
+        requires { ¬ (KeepsNone self.old) }
+        ensures { Reuses result self.old self.new }
     {
-        let Some(tag) = self.pop() else {
-            return None;
-        };
-        self.lent |= 1 << (tag - self.first);
+        let place = self.kept.trailing_zeros();
+        self.kept &= !(1 << place);
+        self.lent |= 1 << place;
+        self.room += 1;
         self.reused += 1;
-        Some(tag)
+        self.first + place
     }
 
     /// Returns whether the tag may be kept where no other is.

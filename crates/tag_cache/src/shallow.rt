@@ -26,7 +26,8 @@ impl<R: Copy> Cache<R> {
         ensures spent { (result ≡ Err TagFault.Spent)
             ↔ ((least_of tags.now ≤ depth) × ¬ (HasRoom (hand_of self.old) Ordinary 1)) }
         ensures succeeds { IsOk result ↔ ((least_of tags.now ≤ depth) × HasRoom (hand_of self.old) Ordinary 1) }
-        ensures gets { IfOk result (λ answer. GetsAndLooks (hands.GetsShallow tags.now depth answer) (hand_of self.old) (hand_of self.new)) }
+        ensures gets { IfOk result (λ answer.
+            GetsAndLooks (hands.GetsShallow tags.now depth answer) (hand_of self.old) (hand_of self.new)) }
         ensures more { IfOk result (λ answer. HoldsMore (IsAnswer answer) self.old self.new) }
         ensures kept { KeepsSame self.old self.new }
         ensures window { SameWindow self.old self.new }

@@ -1,15 +1,14 @@
 //! The slots of held tags, and how tags pass from thread to thread.
-ghost use Rattle.std.specs.Prelude.{◌≡◌, ℕ, ◌<◌, ◌≤◌, ◌↔◌, IfOk, IfErr, IsOk, OnOk, OnErr};
+ghost use Rattle.std.specs.Prelude.{◌≡◌, ◌⊎◌, ℕ, ◌<◌, ◌≤◌, ◌↔◌, IfOk, IfErr, IsOk, OnOk, OnErr};
 ghost use mathlib.Core.Option.{some};
 ghost use Rattle.wake_book.specs.Grants.{AreGrantsOf};
 ghost use Rattle.tag_sets.specs.Hands.{total_of, group_steps};
 ghost use Rattle.tag_sets.specs.Slots as hands;
 ghost use Rattle.tag_cache.specs.Caches.{IsCacheOf, IsLast, IsLent, KeepsNone, Holds, slot_of, hand_of};
-ghost use Rattle.tag_cache.specs.Changes.{IsUnchanged, KeepsSame, SameHand, SameTerms, SameWindow, LendsLess};
-ghost use Rattle.tag_cache.specs.Clears.{GivesKept};
+ghost use Rattle.tag_cache.specs.Changes.{IsUnchanged, KeepsSame, SameTerms, SameWindow, LendsLess};
 ghost use Rattle.tag_cache.specs.Holding.{HoldsLess, HoldsMore, HoldsSame, Writes};
 ghost use Rattle.tag_cache.specs.Rings.{RingsGranted};
-ghost use Rattle.tag_cache.specs.Slots.{PostsLast};
+ghost use Rattle.tag_cache.specs.Slots.{Passes, PassesAlone, PostsLast};
 ghost use Rattle.tag_cache.specs.Tallies.{Tallies};
 
 use crate::cache::Cache;
@@ -121,7 +120,8 @@ impl<R: Copy> Cache<R> {
             self.post_lent_and_ring(tags, tag);
             return Ok(());
         }
-        self.post_other(tags, tag)
+        self.post_other(tags, tag)?;
+        Ok(())
     }
 
     /// Like `post`, but wakes no sleeper, and pulls in no code that does. It returns how many waiters the kept tags that
@@ -160,14 +160,9 @@ impl<R: Copy> Cache<R> {
         ensures no_such_tag { (result ≡ Err TagFault.NoSuchTag) ↔ (total_of tags.now ≤ tag) }
         ensures not_held { (result ≡ Err TagFault.NotHeld) ↔ ((tag < total_of tags.now) × ¬ (Holds self.old tag)) }
         ensures succeeds { Holds self.old tag → IsOk result }
-        ensures less { OnOk result (HoldsLess (λ other. other ≡ tag) self.old self.new) }
-        ensures kept { ¬ (IsLast tag self.old) → KeepsSame self.old self.new }
-        ensures posts { ¬ (IsLast tag self.old) → OnOk result (hands.Posts tag (hand_of self.old) (hand_of self.new)) }
-        ensures last { IsLast tag self.old → OnOk result (KeepsNone self.new) }
+        ensures passes { OnOk result (Passes tag self.old self.new) }
         ensures flushes { IsLast tag self.old → OnOk result (PostsLast tags.now tag 0 self.old self.new) }
         ensures steps { OnOk result (group_steps (hand_of self.new) ≡ group_steps (hand_of self.old)) }
-        ensures terms { SameTerms self.old self.new }
-        ensures loans { OnOk result (LendsLess tag self.old self.new) }
         ensures tally { Tallies 0 0 self.old self.new }
         ensures err { OnErr result (IsUnchanged self.old self.new) }
     {
@@ -177,84 +172,57 @@ impl<R: Copy> Cache<R> {
         tags.post(&mut self.hand, tag)
     }
 
-    /// Gives up a tag that the user is known to hold, and wakes whom the kept tags granted a wakeup before it leaves.
+    /// Gives up a tag that the user is known to hold. If it is the last, all kept tags go back first, and whom they
+    /// granted a wakeup is woken before it leaves.
     fn post_lent_and_ring(&mut self, tags: &Tags<R>, tag: u32)
         requires cache { IsCacheOf tags.now self.old }
         requires lent { IsLent self.old tag }
         ensures cache { IsCacheOf tags.now self.new }
-        ensures less { HoldsLess (λ other. other ≡ tag) self.old self.new }
-        ensures kept { ¬ (IsLast tag self.old) → KeepsSame self.old self.new }
-        ensures posts { ¬ (IsLast tag self.old) → hands.Posts tag (hand_of self.old) (hand_of self.new) }
-        ensures last { IsLast tag self.old → KeepsNone self.new }
+        ensures passes { Passes tag self.old self.new }
         ensures flushes { IsLast tag self.old → (woken : ℕ) × PostsLast tags.now tag woken self.old self.new }
         ensures rings { RingsGranted self.old self.new }
-        ensures terms { SameTerms self.old self.new }
-        ensures loans { LendsLess tag self.old self.new }
         ensures tally { Tallies 0 0 self.old self.new }
     {
-        let grants = self.release(tags, tag);
-        self.ring(tags, grants);
-        self.post_released(tags, tag);
+        if self.is_last(tag) {
+            self.flush(tags);
+            self.post_alone(tags, tag);
+            return;
+        }
+        self.post_alone(tags, tag);
     }
 
-    /// Gives up a tag that the user is known to hold.
+    /// Like `post_lent_and_ring`, but wakes nobody, and returns what the kept tags granted.
     fn post_lent(&mut self, tags: &Tags<R>, tag: u32) -> Grants
         requires cache { IsCacheOf tags.now self.old }
         requires lent { IsLent self.old tag }
         ensures cache { IsCacheOf tags.now self.new }
-        ensures less { HoldsLess (λ other. other ≡ tag) self.old self.new }
-        ensures kept { ¬ (IsLast tag self.old) → KeepsSame self.old self.new }
-        ensures posts { ¬ (IsLast tag self.old) → hands.Posts tag (hand_of self.old) (hand_of self.new) }
-        ensures last { IsLast tag self.old → KeepsNone self.new }
+        ensures passes { Passes tag self.old self.new }
         ensures flushes { IsLast tag self.old → PostsLast tags.now tag result.woken self.old self.new }
         ensures grants { AreGrantsOf result (group_steps (hand_of self.old)) (group_steps (hand_of self.new)) }
-        ensures terms { SameTerms self.old self.new }
-        ensures loans { LendsLess tag self.old self.new }
-        ensures tally { Tallies 0 0 self.old self.new }
-    {
-        let grants = self.release(tags, tag);
-        self.post_released(tags, tag);
-        grants
-    }
-
-    /// Gives up a tag that the user holds, but is not known to.
-    fn post_released(&mut self, tags: &Tags<R>, tag: u32)
-        requires cache { IsCacheOf tags.now self.old }
-        requires held { Holds self.old tag }
-        requires unlent { ¬ (IsLent self.old tag) }
-        ensures cache { IsCacheOf tags.now self.new }
-        ensures less { HoldsLess (λ other. other ≡ tag) self.old self.new }
-        ensures posts { hands.Posts tag (hand_of self.old) (hand_of self.new) }
-        ensures kept { KeepsSame self.old self.new }
-        ensures window { SameWindow self.old self.new }
-        ensures tally { Tallies 0 0 self.old self.new }
-    {
-        let Ok(()) = tags.post(&mut self.hand, tag) else {
-            unreachable!()
-        };
-    }
-
-    /// Says that it is no longer known that the user holds the tag, which is about to leave. If it is the last, all kept
-    /// tags go back first.
-    fn release(&mut self, tags: &Tags<R>, tag: u32) -> Grants
-        requires { IsCacheOf tags.now self.old }
-        ensures cache { IsCacheOf tags.now self.new }
-        ensures same { HoldsSame self.old self.new }
-        ensures loans { LendsLess tag self.old self.new }
-        ensures kept { ¬ (IsLast tag self.old) → SameHand self.old self.new }
-        ensures last { IsLast tag self.old → KeepsNone self.new }
-        ensures flushes { IsLast tag self.old → GivesKept tags.now result.woken self.old (hand_of self.old) (hand_of self.new) }
-        ensures grants { AreGrantsOf result (group_steps (hand_of self.old)) (group_steps (hand_of self.new)) }
-        ensures terms { SameTerms self.old self.new }
         ensures tally { Tallies 0 0 self.old self.new }
     {
         if self.is_last(tag) {
             let grants = self.flush_granted(tags);
-            self.forget(tag);
+            self.post_alone(tags, tag);
             return grants;
         }
-        self.forget(tag);
+        self.post_alone(tags, tag);
         NO_GRANTS
+    }
+
+    /// Gives up a tag that the user is known to hold, and no kept tag with it. If it is the last, none is kept.
+    fn post_alone(&mut self, tags: &Tags<R>, tag: u32)
+        requires cache { IsCacheOf tags.now self.old }
+        requires lent { IsLent self.old tag }
+        requires other { KeepsNone self.old ⊎ ¬ (IsLast tag self.old) }
+        ensures cache { IsCacheOf tags.now self.new }
+        ensures passes { PassesAlone tag self.old self.new }
+        ensures tally { Tallies 0 0 self.old self.new }
+    {
+        self.forget(tag);
+        let Ok(()) = tags.post(&mut self.hand, tag) else {
+            unreachable!()
+        };
     }
 
     /// Takes a posted tag with its slot. `NotPosted` leaves what the user holds unchanged. `NoSuchTag` means that the

@@ -97,13 +97,14 @@ impl<R> Cache<R> {
         }
     }
 
-    /// Says that the user holds an ordinary tag, if it is in the window. If nothing is kept, the window moves there first.
+    /// Says that the user holds an ordinary tag, where nothing is kept. The window moves there first.
     pub(crate) fn lend(&mut self, tag: u32)
         requires held { Holds self.old tag }
         requires ordinary { split_of self.old ≤ tag }
         requires low { tag < 2 ^ 31 }
+        requires none { KeepsNone self.old }
         ensures same { SameHand self.old self.new }
-        ensures lends { KeepsNone self.old → Lends tag self.old self.new }
+        ensures lends { Lends tag self.old self.new }
     {
         self.aim(tag);
         self.note(tag);

@@ -1,5 +1,6 @@
 -- An empty window can be moved.
-use Rattle.std.proofs.Common.{arith, ◌*◌, ◌/◌, inl, inr, refl}
+use Rattle.std.proofs.Common.{arith, ℕ, ◌*◌, ◌/◌, inl, inr, refl}
+use Rattle.tag_cache.specs.Caches.{KeepsNone}
 use Rattle.tag_cache.proofs.Reusing.{none_kept}
 use Rattle.tag_cache.proofs.Windows.{none_in}
 use Rattle.tag_cache.proofs.cache.Cache.aim.Goals as goal
@@ -21,35 +22,27 @@ returns-then-self-ne0-clause-aimed g c = let cache = c.args.self.now in
 pub returns-then-offset-lt-WINDOW-clause-aimed : goal.returns-then-offset-lt-WINDOW-clause-aimed
 returns-then-offset-lt-WINDOW-clause-aimed g c = inl (c.offset.ensures.within.0 c.if-offset-lt-WINDOW.true)
 
-pub returns-clause-same : goal.returns-clause-same
-returns-clause-same g c = let cache = c.args.self.now in record {
-  hand = refl;
-  kept = record {
-    kept = λ other. (
-      (λ k. absurd (none_in (c.args.tag / 64 * 64) cache.kept other c.if-self-ne0.false k)),
-      (λ k. absurd (none_in cache.first cache.kept other c.if-self-ne0.false k)),
-    );
-    count = refl;
-    terms = record { most = refl; keeping = refl };
-    reused = refl;
-  };
-}
-
-pub returns-clause-aimed : goal.returns-clause-aimed
-returns-clause-aimed g c = inl (omega arith, omega arith)
-
 pub returns-then-self-ne0-clause-moved : goal.returns-then-self-ne0-clause-moved
 returns-then-self-ne0-clause-moved g c = inr refl
 
 pub returns-then-offset-lt-WINDOW-clause-moved : goal.returns-then-offset-lt-WINDOW-clause-moved
 returns-then-offset-lt-WINDOW-clause-moved g c = inr refl
 
-pub returns-clause-moved : goal.returns-clause-moved
-returns-clause-moved g c = inl (λ tag k. none_in c.args.self.now.first c.args.self.now.kept tag c.if-self-ne0.false k)
-
-pub returns-clause-still : goal.returns-clause-still
-returns-clause-still g c = λ within. let far = c.if-offset-lt-WINDOW.false in let near = c.offset.ensures.within.1
-    (within (λ tag k. none_in c.args.self.now.first c.args.self.now.kept tag c.if-self-ne0.false k)) in absurd (omega arith)
-
-pub returns-clause-loans : goal.returns-clause-loans
-returns-clause-loans g c = λ other l. absurd (none_in (c.args.tag / 64 * 64) 0 other refl l)
+pub returns : goal.returns
+returns g c = let cache = c.args.self.now in let first : ℕ = c.args.tag / 64 * 64 in
+    let none : KeepsNone cache = λ tag k. none_in cache.first cache.kept tag c.if-self-ne0.false k in record {
+      same = record {
+        hand = refl;
+        kept = record {
+          kept = λ tag. ((λ k. absurd (none_in first cache.kept tag c.if-self-ne0.false k)), (λ k. absurd (none tag k)));
+          count = refl;
+          terms = record { most = refl; keeping = refl };
+          reused = refl;
+        };
+      };
+      aimed = inl (omega arith, omega arith);
+      moved = inl none;
+      still = λ within. let far = c.if-offset-lt-WINDOW.false in
+          let near = c.offset.ensures.within.1 (within none) in absurd (omega arith);
+      loans = λ other l. absurd (none_in first 0 other refl l);
+    }

@@ -1,21 +1,12 @@
 -- The hand keeps its tags.
-use Rattle.std.proofs.Common.{refl}
-use Rattle.tag_cache.proofs.Carrying.{same_fields}
-use Rattle.tag_cache.proofs.Looking.{same_window}
-use Rattle.tag_cache.proofs.Steady.{busy_rests, own_rests, same_tags}
+use Rattle.std.proofs.Common.{rules}
+use Rattle.tag_cache.proofs.Steady.{busy_rests, owns_rests, same_tags}
 use Rattle.tag_cache.proofs.cache.Cache.busy.Goals as goal
 
-pub invariant_of-self-clause-own : goal.invariant_of-self-clause-own
-invariant_of-self-clause-own g c = let cache = c.args.self.now in
-    own_rests c.args.tags.now cache.first cache.kept cache.hand c.busy.new.hand c.requires.cache c.busy.ensures.hand
-    cache.own (busy_rests c.args.tags.now _ c.busy.result cache.hand c.busy.new.hand c.busy.ensures.lists)
-
-pub invariant_of-self-clause-loans : goal.invariant_of-self-clause-loans
-invariant_of-self-clause-loans g c = let cache = c.args.self.now in
-    own_rests c.args.tags.now cache.first cache.lent cache.hand c.busy.new.hand c.requires.cache c.busy.ensures.hand
-    cache.loans (busy_rests c.args.tags.now _ c.busy.result cache.hand c.busy.new.hand c.busy.ensures.lists)
+pub invariant_of-self : goal.invariant_of-self
+invariant_of-self g c = owns_rests c.args.tags.now c.args.self.now c.busy.new.hand c.requires.cache c.busy.ensures.hand
+    (busy_rests _ _ _ _ _ c.busy.ensures.lists)
 
 pub returns-clause-same : goal.returns-clause-same
-returns-clause-same g c = let cache = c.args.self.now in same_tags cache _
-    (same_fields cache _ refl refl refl refl refl) (same_window cache _ refl refl)
-    (busy_rests c.args.tags.now _ c.busy.result cache.hand c.busy.new.hand c.busy.ensures.lists)
+returns-clause-same g c = same_tags c.args.self.now _ (search rules) (search rules)
+    (busy_rests _ _ _ _ _ c.busy.ensures.lists)

@@ -1,26 +1,15 @@
 -- The hand keeps its tags.
-use Rattle.std.proofs.Common.{refl}
-use Rattle.tag_cache.proofs.Carrying.{same_fields}
-use Rattle.tag_cache.proofs.Looking.{same_window}
-use Rattle.tag_cache.proofs.Steady.{prepare_rests, own_rests, same_tags}
+use Rattle.std.proofs.Common.{rules}
+use Rattle.tag_cache.proofs.Steady.{prepare_rests, owns_rests, same_tags}
 use Rattle.tag_cache.proofs.cache.Cache.enter.Goals as goal
 
-pub invariant_of-self-clause-own : goal.invariant_of-self-clause-own
-invariant_of-self-clause-own g c = let cache = c.args.self.now in
-    own_rests c.args.tags.now cache.first cache.kept cache.hand c.prepare_wait.new.hand c.requires.cache
-    c.prepare_wait.ensures.hand cache.own
-    (prepare_rests cache.hand c.prepare_wait.new.hand c.prepare_wait.result c.prepare_wait.ensures.enters
-    c.prepare_wait.ensures.err)
-
-pub invariant_of-self-clause-loans : goal.invariant_of-self-clause-loans
-invariant_of-self-clause-loans g c = let cache = c.args.self.now in
-    own_rests c.args.tags.now cache.first cache.lent cache.hand c.prepare_wait.new.hand c.requires.cache
-    c.prepare_wait.ensures.hand cache.loans
-    (prepare_rests cache.hand c.prepare_wait.new.hand c.prepare_wait.result c.prepare_wait.ensures.enters
-    c.prepare_wait.ensures.err)
+pub invariant_of-self : goal.invariant_of-self
+invariant_of-self g c = owns_rests c.args.tags.now c.args.self.now c.prepare_wait.new.hand c.requires.cache
+    c.prepare_wait.ensures.hand
+    (prepare_rests c.args.self.now.hand c.prepare_wait.new.hand c.prepare_wait.result
+    c.prepare_wait.ensures.enters c.prepare_wait.ensures.err)
 
 pub returns-clause-same : goal.returns-clause-same
-returns-clause-same g c = let cache = c.args.self.now in same_tags cache _
-    (same_fields cache _ refl refl refl refl refl) (same_window cache _ refl refl)
-    (prepare_rests cache.hand c.prepare_wait.new.hand c.prepare_wait.result c.prepare_wait.ensures.enters
-    c.prepare_wait.ensures.err)
+returns-clause-same g c = same_tags c.args.self.now _ (search rules) (search rules)
+    (prepare_rests c.args.self.now.hand c.prepare_wait.new.hand c.prepare_wait.result
+    c.prepare_wait.ensures.enters c.prepare_wait.ensures.err)

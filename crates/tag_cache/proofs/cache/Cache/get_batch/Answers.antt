@@ -1,39 +1,21 @@
 -- The tags that the hand gains are the user's.
-use Rattle.std.proofs.Common.{refl}
-use Rattle.tag_cache.proofs.Carrying.{own_after, same_fields}
-use Rattle.tag_sets.specs.Gets.{IsInRun}
-use Rattle.tag_cache.specs.Batches.{answered_run}
+use Rattle.std.proofs.Common.{rules}
+use Rattle.tag_cache.proofs.Carrying.{owns}
 use Rattle.tag_cache.proofs.Gaining.{batch_call, gained_still, more_of, tally_of}
 use Rattle.tag_cache.proofs.cache.Cache.get_batch.Goals as goal
 
-pub invariant_of-self-clause-own : goal.invariant_of-self-clause-own
-invariant_of-self-clause-own g c = let cache = c.args.self.now in own_after c.args.tags.now cache.first cache.kept
-    cache.hand c.get_batch.new.hand c.requires c.get_batch.ensures.hand cache.own
-    (λ other h i. gained_still cache.hand c.get_batch.new.hand c.get_batch.result (λ answer. IsInRun answer)
-    (λ answer. answered_run answer)
-    (batch_call c.args.tags.now c.args.n _ _ cache.hand c.get_batch.new.hand c.get_batch.result
-    c.get_batch.ensures.bad_count c.get_batch.ensures.round_robin c.get_batch.ensures.gets)
-    c.get_batch.ensures.err other h)
-
-pub invariant_of-self-clause-loans : goal.invariant_of-self-clause-loans
-invariant_of-self-clause-loans g c = let cache = c.args.self.now in own_after c.args.tags.now cache.first cache.lent
-    cache.hand c.get_batch.new.hand c.requires c.get_batch.ensures.hand cache.loans
-    (λ other h i. gained_still cache.hand c.get_batch.new.hand c.get_batch.result (λ answer. IsInRun answer)
-    (λ answer. answered_run answer)
-    (batch_call c.args.tags.now c.args.n _ _ cache.hand c.get_batch.new.hand c.get_batch.result
-    c.get_batch.ensures.bad_count c.get_batch.ensures.round_robin c.get_batch.ensures.gets)
-    c.get_batch.ensures.err other h)
+pub invariant_of-self : goal.invariant_of-self
+invariant_of-self g c = let cache = c.args.self.now in let call = c.get_batch in
+    owns c.args.tags.now cache call.new.hand c.requires call.ensures.hand (gained_still
+    (batch_call c.args.tags.now c.args.n _ _ cache.hand call.new.hand call.result
+    call.ensures.bad_count call.ensures.round_robin call.ensures.gets call.ensures.err))
 
 pub returns-clause-more : goal.returns-clause-more
-returns-clause-more g c = let cache = c.args.self.now in more_of cache _
-    (same_fields cache _ refl refl refl refl refl)
-    c.get_batch.result (λ answer. IsInRun answer) (λ answer. answered_run answer)
-    (batch_call c.args.tags.now c.args.n _ _ cache.hand c.get_batch.new.hand c.get_batch.result
-    c.get_batch.ensures.bad_count c.get_batch.ensures.round_robin c.get_batch.ensures.gets)
+returns-clause-more g c = let cache = c.args.self.now in let call = c.get_batch in more_of cache _ (search rules)
+    (batch_call c.args.tags.now c.args.n _ _ cache.hand call.new.hand call.result
+    call.ensures.bad_count call.ensures.round_robin call.ensures.gets call.ensures.err)
 
 pub returns-clause-tally : goal.returns-clause-tally
-returns-clause-tally g c = let cache = c.args.self.now in tally_of cache _
-    (same_fields cache _ refl refl refl refl refl)
-    c.get_batch.result (λ answer. IsInRun answer) (λ answer. answered_run answer)
-    (batch_call c.args.tags.now c.args.n _ _ cache.hand c.get_batch.new.hand c.get_batch.result
-    c.get_batch.ensures.bad_count c.get_batch.ensures.round_robin c.get_batch.ensures.gets)
+returns-clause-tally g c = let cache = c.args.self.now in let call = c.get_batch in tally_of cache _ (search rules)
+    (batch_call c.args.tags.now c.args.n _ _ cache.hand call.new.hand call.result
+    call.ensures.bad_count call.ensures.round_robin call.ensures.gets call.ensures.err)

@@ -1,30 +1,18 @@
 -- The tag that the hand gains is the user's.
-use Rattle.std.proofs.Common.{refl}
-use Rattle.std.proofs.lemmas.Result.{IfOk-weaker}
-use Rattle.tag_sets.specs.Gets.{GetsReserved, IsAnswer}
-use Rattle.tag_cache.proofs.Carrying.{more_ok, more_still, own_after, same_fields}
-use Rattle.tag_cache.proofs.Tallying.{reserved_tallies}
+use Rattle.std.proofs.Common.{rules}
+use Rattle.tag_cache.proofs.Carrying.{owns}
+use Rattle.tag_cache.proofs.Gaining.{reserved_call, gained_still, more_of, tally_of}
 use Rattle.tag_cache.proofs.cache.Cache.get_reserved.Goals as goal
 
-pub invariant_of-self-clause-own : goal.invariant_of-self-clause-own
-invariant_of-self-clause-own g c = let cache = c.args.self.now in own_after c.args.tags.now cache.first cache.kept
-    cache.hand c.get_reserved.new.hand c.requires c.get_reserved.ensures.hand cache.own
-    (λ other h i. more_still cache.hand c.get_reserved.new.hand c.get_reserved.result (λ answer. IsAnswer answer)
-    (IfOk-weaker c.get_reserved.result _ _ (λ answer x. x.more) c.get_reserved.ensures.gets)
-    c.get_reserved.ensures.err other h)
-
-pub invariant_of-self-clause-loans : goal.invariant_of-self-clause-loans
-invariant_of-self-clause-loans g c = let cache = c.args.self.now in own_after c.args.tags.now cache.first cache.lent
-    cache.hand c.get_reserved.new.hand c.requires c.get_reserved.ensures.hand cache.loans
-    (λ other h i. more_still cache.hand c.get_reserved.new.hand c.get_reserved.result (λ answer. IsAnswer answer)
-    (IfOk-weaker c.get_reserved.result _ _ (λ answer x. x.more) c.get_reserved.ensures.gets)
-    c.get_reserved.ensures.err other h)
+pub invariant_of-self : goal.invariant_of-self
+invariant_of-self g c = let cache = c.args.self.now in let call = c.get_reserved in
+    owns c.args.tags.now cache call.new.hand c.requires call.ensures.hand (gained_still
+    (reserved_call c.args.tags.now cache.hand call.new.hand call.result call.ensures.gets call.ensures.err))
 
 pub returns-clause-more : goal.returns-clause-more
-returns-clause-more g c = more_ok c.args.self.now _ (same_fields c.args.self.now _ refl refl refl refl refl)
-    c.get_reserved.result (λ answer. GetsReserved c.args.tags.now answer c.args.self.now.hand c.get_reserved.new.hand)
-    (λ answer x. x.more) c.get_reserved.ensures.gets
+returns-clause-more g c = let cache = c.args.self.now in let call = c.get_reserved in more_of cache _ (search rules)
+    (reserved_call c.args.tags.now cache.hand call.new.hand call.result call.ensures.gets call.ensures.err)
 
 pub returns-clause-tally : goal.returns-clause-tally
-returns-clause-tally g c = reserved_tallies c.args.tags.now c.args.self.now _
-    (same_fields c.args.self.now _ refl refl refl refl refl) c.get_reserved.result c.get_reserved.ensures.gets
+returns-clause-tally g c = let cache = c.args.self.now in let call = c.get_reserved in tally_of cache _ (search rules)
+    (reserved_call c.args.tags.now cache.hand call.new.hand call.result call.ensures.gets call.ensures.err)

@@ -1,39 +1,21 @@
 -- The tag that the hand gains is the user's.
-use Rattle.std.proofs.Common.{refl}
-use Rattle.tag_cache.proofs.Carrying.{own_after, same_fields}
-use Rattle.tag_sets.specs.Gets.{IsAnswer}
-use Rattle.tag_cache.specs.Tallies.{answered}
+use Rattle.std.proofs.Common.{rules}
+use Rattle.tag_cache.proofs.Carrying.{owns}
 use Rattle.tag_cache.proofs.Gaining.{shallow_call, gained_still, more_of, tally_of}
 use Rattle.tag_cache.proofs.cache.Cache.get_shallow.Goals as goal
 
-pub invariant_of-self-clause-own : goal.invariant_of-self-clause-own
-invariant_of-self-clause-own g c = let cache = c.args.self.now in own_after c.args.tags.now cache.first cache.kept
-    cache.hand c.get_shallow.new.hand c.requires c.get_shallow.ensures.hand cache.own
-    (λ other h i. gained_still cache.hand c.get_shallow.new.hand c.get_shallow.result (λ answer. IsAnswer answer)
-    (λ answer. answered answer)
-    (shallow_call c.args.tags.now c.args.depth cache.hand c.get_shallow.new.hand c.get_shallow.result
-    c.get_shallow.ensures.gets)
-    c.get_shallow.ensures.err other h)
-
-pub invariant_of-self-clause-loans : goal.invariant_of-self-clause-loans
-invariant_of-self-clause-loans g c = let cache = c.args.self.now in own_after c.args.tags.now cache.first cache.lent
-    cache.hand c.get_shallow.new.hand c.requires c.get_shallow.ensures.hand cache.loans
-    (λ other h i. gained_still cache.hand c.get_shallow.new.hand c.get_shallow.result (λ answer. IsAnswer answer)
-    (λ answer. answered answer)
-    (shallow_call c.args.tags.now c.args.depth cache.hand c.get_shallow.new.hand c.get_shallow.result
-    c.get_shallow.ensures.gets)
-    c.get_shallow.ensures.err other h)
+pub invariant_of-self : goal.invariant_of-self
+invariant_of-self g c = let cache = c.args.self.now in let call = c.get_shallow in
+    owns c.args.tags.now cache call.new.hand c.requires call.ensures.hand (gained_still
+    (shallow_call c.args.tags.now c.args.depth cache.hand call.new.hand call.result
+    call.ensures.gets call.ensures.err))
 
 pub returns-clause-more : goal.returns-clause-more
-returns-clause-more g c = let cache = c.args.self.now in more_of cache _
-    (same_fields cache _ refl refl refl refl refl)
-    c.get_shallow.result (λ answer. IsAnswer answer) (λ answer. answered answer)
-    (shallow_call c.args.tags.now c.args.depth cache.hand c.get_shallow.new.hand c.get_shallow.result
-    c.get_shallow.ensures.gets)
+returns-clause-more g c = let cache = c.args.self.now in let call = c.get_shallow in more_of cache _ (search rules)
+    (shallow_call c.args.tags.now c.args.depth cache.hand call.new.hand call.result
+    call.ensures.gets call.ensures.err)
 
 pub returns-clause-tally : goal.returns-clause-tally
-returns-clause-tally g c = let cache = c.args.self.now in tally_of cache _
-    (same_fields cache _ refl refl refl refl refl)
-    c.get_shallow.result (λ answer. IsAnswer answer) (λ answer. answered answer)
-    (shallow_call c.args.tags.now c.args.depth cache.hand c.get_shallow.new.hand c.get_shallow.result
-    c.get_shallow.ensures.gets)
+returns-clause-tally g c = let cache = c.args.self.now in let call = c.get_shallow in tally_of cache _ (search rules)
+    (shallow_call c.args.tags.now c.args.depth cache.hand call.new.hand call.result
+    call.ensures.gets call.ensures.err)

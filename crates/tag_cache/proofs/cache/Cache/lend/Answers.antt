@@ -23,7 +23,7 @@ returns-clause-same g c = record {
 }
 
 pub returns-clause-lends : goal.returns-clause-lends
-returns-clause-lends g c = λ none. let mid = c.aim.new.self in
+returns-clause-lends g c = let none = c.requires.none in let mid = c.aim.new.self in
     let in_window = ⊎_elim (λ (w : IsWithin mid c.args.tag). w) (λ e. absurd (e.1 none)) c.aim.ensures.aimed in
     let lends = c.note.ensures.lends in_window in record {
       now = lends.now;

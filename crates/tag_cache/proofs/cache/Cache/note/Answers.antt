@@ -1,41 +1,31 @@
 -- The tag's bit joins the mask of lent tags.
-use Rattle.std.proofs.Common.{arith, ◌≡◌, ◌<◌, ◌≤◌, ◌-◌, ℕ, sym, subst, ⊎_elim}
+use Rattle.std.proofs.Common.{arith, ◌≡◌, ◌≤◌, ◌-◌, ℕ, sym, subst, ⊎_elim}
 use Rattle.tag_sets.specs.Hands as hands
 use Rattle.tag_cache.specs.Windows.{IsIn}
 use Rattle.tag_cache.specs.Caches.{IsKept}
 use Rattle.tag_cache.proofs.Windows.{now_in, still_in, was_in, some_in, joined_fits, with_bit}
 use Rattle.tag_cache.proofs.cache.Cache.note.Goals as goal
 
-pub invariant_of-self-clause-loans : goal.invariant_of-self-clause-loans
-invariant_of-self-clause-loans g c = let cache = c.args.self.now in let tag = c.args.tag in
-    let at = c.offset-offset.result in let low : at < 64 = c.if-offset-ge-WINDOW.false in
+pub invariant_of-self : goal.invariant_of-self
+invariant_of-self g c = let cache = c.args.self.now in let tag = c.args.tag in
+    let at = c.offset-offset.result in let low = c.if-offset-ge-WINDOW.false in
     let is = c.offset-offset.ensures.offset low in let above : cache.first ≤ tag = omega arith in
-    let same : tag - cache.first ≡ at = omega arith in
-    λ other i. ⊎_elim (λ (o : IsIn cache.first cache.lent other). cache.loans other o)
-    (λ (e : other ≡ tag). subst (λ (t : ℕ). hands.Holds cache.hand t × (hands.split_of cache.hand ≤ t)) (sym e)
-    (c.requires.held.0, c.requires.ordinary))
-    (was_in cache.lent at cache.wide.1 low cache.first tag above same other i)
-
-pub invariant_of-self-clause-apart : goal.invariant_of-self-clause-apart
-invariant_of-self-clause-apart g c = let cache = c.args.self.now in let tag = c.args.tag in
-    let at = c.offset-offset.result in let low : at < 64 = c.if-offset-ge-WINDOW.false in
-    let is = c.offset-offset.ensures.offset low in let above : cache.first ≤ tag = omega arith in
-    let same : tag - cache.first ≡ at = omega arith in
-    λ other k i. ⊎_elim (λ (o : IsIn cache.first cache.lent other). cache.apart other k o)
-    (λ (e : other ≡ tag). c.requires.held.1 (subst (λ (t : ℕ). IsKept cache t) e k))
-    (was_in cache.lent at cache.wide.1 low cache.first tag above same other i)
-
-pub invariant_of-self-clause-wide : goal.invariant_of-self-clause-wide
-invariant_of-self-clause-wide g c = let cache = c.args.self.now in
-    (cache.wide.0, joined_fits cache.lent c.offset-offset.result cache.wide.1)
-
-pub invariant_of-self-clause-careful : goal.invariant_of-self-clause-careful
-invariant_of-self-clause-careful g c = let cache = c.args.self.now in let tag = c.args.tag in
-    let at = c.offset-offset.result in let low : at < 64 = c.if-offset-ge-WINDOW.false in
-    let is = c.offset-offset.ensures.offset low in let above : cache.first ≤ tag = omega arith in
-    let same : tag - cache.first ≡ at = omega arith in
-    λ careful some. some_in cache.first (with_bit cache.lent at) tag
-    (now_in cache.lent at cache.wide.1 low cache.first tag above same)
+    let same : tag - cache.first ≡ at = omega arith in record {
+      own = cache.own;
+      loans = λ other l. ⊎_elim (λ (o : IsIn cache.first cache.lent other). cache.loans other o)
+          (λ (e : other ≡ tag). subst (λ (t : ℕ). hands.Holds cache.hand t × (hands.split_of cache.hand ≤ t)) (sym e)
+          (c.requires.held.0, c.requires.ordinary))
+          (was_in cache.lent at cache.wide.1 low cache.first tag above same other l);
+      apart = λ other k l. ⊎_elim (λ (o : IsIn cache.first cache.lent other). cache.apart other k o)
+          (λ (e : other ≡ tag). c.requires.held.1 (subst (λ (t : ℕ). IsKept cache t) e k))
+          (was_in cache.lent at cache.wide.1 low cache.first tag above same other l);
+      wide = (cache.wide.0, joined_fits cache.lent at cache.wide.1);
+      low = cache.low;
+      few = cache.few;
+      alive = cache.alive;
+      careful = λ careful some. some_in cache.first (with_bit cache.lent at) tag
+          (now_in cache.lent at cache.wide.1 low cache.first tag above same);
+    }
 
 pub returns-then-offset-ge-WINDOW-clause-lends : goal.returns-then-offset-ge-WINDOW-clause-lends
 returns-then-offset-ge-WINDOW-clause-lends g c = λ within. let low = c.offset-offset.ensures.within.1 within in
@@ -43,10 +33,10 @@ returns-then-offset-ge-WINDOW-clause-lends g c = λ within. let low = c.offset-o
 
 pub returns-clause-lends : goal.returns-clause-lends
 returns-clause-lends g c = let cache = c.args.self.now in let tag = c.args.tag in
-    let at = c.offset-offset.result in let low : at < 64 = c.if-offset-ge-WINDOW.false in
+    let at = c.offset-offset.result in let low = c.if-offset-ge-WINDOW.false in
     let is = c.offset-offset.ensures.offset low in let above : cache.first ≤ tag = omega arith in
     let same : tag - cache.first ≡ at = omega arith in λ within. record {
       now = now_in cache.lent at cache.wide.1 low cache.first tag above same;
-      still = λ w other l. still_in cache.lent at cache.wide.1 low cache.first tag above same other l;
-      none_else = λ other l. was_in cache.lent at cache.wide.1 low cache.first tag above same other l;
+      still = λ w. still_in cache.lent at cache.wide.1 low cache.first tag above same;
+      none_else = was_in cache.lent at cache.wide.1 low cache.first tag above same;
     }

@@ -1,24 +1,15 @@
 -- The hand keeps its tags.
-use Rattle.std.proofs.Common.{refl}
-use Rattle.tag_cache.proofs.Carrying.{same_fields}
-use Rattle.tag_cache.proofs.Looking.{same_window}
-use Rattle.tag_cache.proofs.Steady.{try_rests, own_rests, same_tags}
+use Rattle.std.proofs.Common.{rules}
+use Rattle.tag_cache.proofs.Steady.{try_rests, owns_rests, same_tags}
 use Rattle.tag_cache.proofs.cache.Cache.try_finish_wait.Goals as goal
 
-pub invariant_of-self-clause-own : goal.invariant_of-self-clause-own
-invariant_of-self-clause-own g c = let cache = c.args.self.now in
-    own_rests c.args.tags.now cache.first cache.kept cache.hand c.try_finish_wait.new.hand c.requires c.try_finish_wait.ensures.hand
-    cache.own (try_rests cache.hand c.try_finish_wait.new.hand c.try_finish_wait.result c.try_finish_wait.ensures.leaves
-    c.try_finish_wait.ensures.stays c.try_finish_wait.ensures.err)
-
-pub invariant_of-self-clause-loans : goal.invariant_of-self-clause-loans
-invariant_of-self-clause-loans g c = let cache = c.args.self.now in
-    own_rests c.args.tags.now cache.first cache.lent cache.hand c.try_finish_wait.new.hand c.requires c.try_finish_wait.ensures.hand
-    cache.loans (try_rests cache.hand c.try_finish_wait.new.hand c.try_finish_wait.result c.try_finish_wait.ensures.leaves
-    c.try_finish_wait.ensures.stays c.try_finish_wait.ensures.err)
+pub invariant_of-self : goal.invariant_of-self
+invariant_of-self g c = owns_rests c.args.tags.now c.args.self.now c.try_finish_wait.new.hand c.requires
+    c.try_finish_wait.ensures.hand
+    (try_rests c.args.self.now.hand c.try_finish_wait.new.hand c.try_finish_wait.result
+    c.try_finish_wait.ensures.leaves c.try_finish_wait.ensures.stays c.try_finish_wait.ensures.err)
 
 pub returns-clause-same : goal.returns-clause-same
-returns-clause-same g c = let cache = c.args.self.now in same_tags cache _
-    (same_fields cache _ refl refl refl refl refl) (same_window cache _ refl refl)
-    (try_rests cache.hand c.try_finish_wait.new.hand c.try_finish_wait.result c.try_finish_wait.ensures.leaves
-    c.try_finish_wait.ensures.stays c.try_finish_wait.ensures.err)
+returns-clause-same g c = same_tags c.args.self.now _ (search rules) (search rules)
+    (try_rests c.args.self.now.hand c.try_finish_wait.new.hand c.try_finish_wait.result
+    c.try_finish_wait.ensures.leaves c.try_finish_wait.ensures.stays c.try_finish_wait.ensures.err)

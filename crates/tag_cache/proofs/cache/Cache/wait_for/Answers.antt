@@ -1,19 +1,14 @@
--- The hand keeps its tags and gains one.
-use Rattle.tag_cache.proofs.Carrying.{own_after, blocking_still}
+-- The hand keeps its tags and gains one, which is not kept, as none is.
+use Rattle.std.proofs.Common.{refl}
+use Rattle.tag_cache.proofs.Carrying.{owns, still_on}
 use Rattle.tag_cache.proofs.cache.Cache.wait_for.Goals as goal
 
-pub invariant_of-self-clause-own : goal.invariant_of-self-clause-own
-invariant_of-self-clause-own g c = let cache = c.args.self.now in own_after c.args.tags.now cache.first cache.kept
-    cache.hand c.get_blocking.new.hand c.requires c.get_blocking.ensures.hand cache.own
-    (λ other h i. blocking_still c.args.tags.now cache.hand c.get_blocking.new.hand c.get_blocking.result
-    c.get_blocking.ensures.gets c.get_blocking.ensures.err other h)
+pub invariant_of-self : goal.invariant_of-self
+invariant_of-self g c = let cache = c.args.self.now in let call = c.get_blocking in
+    owns c.args.tags.now cache call.new.hand c.requires.cache call.ensures.hand
+    (still_on cache.hand call.new.hand call.result _ call.ensures.gets call.ensures.err
+    (λ tag gets other h. (gets.more.kept other h).0))
 
-pub invariant_of-self-clause-loans : goal.invariant_of-self-clause-loans
-invariant_of-self-clause-loans g c = let cache = c.args.self.now in own_after c.args.tags.now cache.first cache.lent
-    cache.hand c.get_blocking.new.hand c.requires c.get_blocking.ensures.hand cache.loans
-    (λ other h i. blocking_still c.args.tags.now cache.hand c.get_blocking.new.hand c.get_blocking.result
-    c.get_blocking.ensures.gets c.get_blocking.ensures.err other h)
-
-pub returns-clause-loans : goal.returns-clause-loans
-returns-clause-loans g c = λ none. let lends = c.lend.ensures.lends none in
-    record { now = lends.now; still = lends.still; none_else = lends.none_else }
+pub lend-requires-clause-held : goal.lend-requires-clause-held
+lend-requires-clause-held g c = let won = c.in_ok-tag in
+    (won.ensures.gets.more.joined won.tag refl, c.requires.none won.tag)
