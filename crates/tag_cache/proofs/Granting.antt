@@ -1,14 +1,19 @@
 -- Grants of calls that were made one after the other.
-use Rattle.std.proofs.Common.{arith, ◌≡◌, ℕ, zero, suc, ◌+◌, [], ◌∷◌, List, get_or, replicate, sum, refl, sym, ap, ◌∙◌, subst}
+use Rattle.std.proofs.Common.{arith, ◌≡◌, ℕ, zero, suc, ◌+◌, [], ◌∷◌, List, get_or, replicate, sum, refl, sym, ap, ◌∙◌, subst, ◌≤◌, ◌<◌, inl, inr, ⊎_elim}
+use Rattle.std.proofs.lemmas.Bool.{cases_lt}
 use Rattle.std.proofs.lemmas.List.{get_or-replicate}
 use Rattle.std.proofs.lemmas.List.Sums.{sum_by-cons}
 use Rattle.step_ledger.specs.History.{total}
 use Rattle.wake_book.specs.declared.grants.Grants.{Grants}
+use Rattle.wake_book.specs.declared.grants.TheConstants.{NO_GRANTS}
 use Rattle.wake_book.specs.declared.steps.GroupStep.{GroupStep}
 use Rattle.wake_book.specs.declared.steps.GroupStep.TheVariants.{Look}
-use Rattle.wake_book.specs.Grants.{AreGrantsOf, granted_in}
+use Rattle.wake_book.specs.declared.groups.Waiter.{Waiter}
+use Rattle.wake_book.specs.declared.rings.Rung.TheVariants.{Granted}
+use Rattle.wake_book.specs.Grants.{AreGrantsOf, WokenBy, granted_in}
+use Rattle.wake_book.specs.Groups.{RingsGranted, moved_of, rung_of, steps_of}
+use Rattle.tag_queue.proofs.Granted.{look_grants_none}
 use Rattle.wake_book.specs.Waits.{active_at, moved_by}
-use Rattle.tag_queue.specs.Woken.{WokenBy}
 use Rattle.tag_sets.specs.declared.hand.Hand.{Hand}
 use Rattle.tag_sets.specs.Hands.{group_steps}
 use Rattle.tag_sets.specs.Waits.{Enters}
@@ -96,3 +101,36 @@ woken_both sooner later old mid new a b = record {
   };
   all = let p = a.all in let q = b.all in omega arith;
 }
+
+-- a look at the active count before them changes nothing about how many were woken
+pub woken_after : (woken found : ℕ) (old mid new : List GroupStep) → mid ≡ Look active_at found ∷ old
+    → WokenBy woken mid new → WokenBy woken old new
+woken_after woken found old mid new e w =
+    record { grants = w.grants; are = grants_after w.grants found old mid new e w.are; all = w.all }
+
+-- nobody is woken where it is the only step
+pub none_woken : (found : ℕ) (old new : List GroupStep) → new ≡ Look active_at found ∷ old → WokenBy 0 old new
+none_woken found old new e = record { grants = NO_GRANTS; are = look_grants_none found old new e; all = refl }
+
+-- the ring after a walk is for its grants, if it made any
+pub rings_granted : (old walked new : Waiter) (grants : Grants) → AreGrantsOf grants (steps_of old) (steps_of walked)
+    → (1 ≤ grants.woken → rung_of new ≡ Granted grants) → steps_of new ≡ steps_of walked → RingsGranted old new
+rings_granted old walked new grants are rings same = ⊎_elim
+    (λ (some : 0 < grants.woken). inr (
+      grants,
+      rings (omega arith),
+      subst (AreGrantsOf grants (steps_of old)) (sym same) are,
+    ))
+    (λ (none : grants.woken ≤ 0). inl (ap (total moved_by) same ∙ (let all = are.all in omega arith)))
+    (cases_lt 0 grants.woken)
+
+-- a look before it changes nothing about whom a ring was for
+pub rings_looked : (active : ℕ) (old mid new : Waiter) → steps_of mid ≡ Look active_at active ∷ steps_of old
+    → RingsGranted mid new → RingsGranted old new
+rings_looked active old mid new looked = ⊎_elim
+    (λ (same : moved_of new ≡ moved_of mid). inl (let moved = ap (total moved_by) looked in omega arith))
+    (λ (rung : (grants : Grants) × (rung_of new ≡ Granted grants) × AreGrantsOf grants (steps_of mid) (steps_of new)). inr (
+      rung.0,
+      rung.1,
+      grants_after rung.0 active (steps_of old) (steps_of mid) (steps_of new) looked rung.2,
+    ))

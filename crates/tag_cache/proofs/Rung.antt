@@ -5,7 +5,7 @@ use Rattle.wake_book.specs.declared.grants.Grants.{Grants}
 use Rattle.wake_book.specs.declared.rings.Rung.TheVariants.{Granted}
 use Rattle.wake_book.specs.Grants.{AreGrantsOf}
 use Rattle.wake_book.specs.Groups.{rung_of}
-use Rattle.tag_queue.proofs.Ringing.{rings_granted}
+use Rattle.tag_cache.proofs.Granting.{rings_granted}
 use Rattle.tag_sets.specs.declared.hand.Hand.{Hand}
 use Rattle.tag_sets.specs.declared.tags.Tags.{Tags}
 use Rattle.tag_sets.specs.Hands.{IsHandOf, reserved_of, group_steps, waiter_of}

@@ -13,7 +13,7 @@ ghost use Rattle.tag_cache.specs.Tallies.{Tallies};
 
 use crate::cache::{Cache, WINDOW};
 use crate::grants::both;
-use tag_sets::{Grants, TagFault, Tags};
+use tag_sets::{Grants, Report, TagFault, Tags};
 
 impl<R: Copy> Cache<R> {
     /// Clears 1 to 64 ordinary tags that the user holds, as `Tags::clear_batch` does, and returns how many waiters this
@@ -83,7 +83,7 @@ impl<R: Copy> Cache<R> {
     {
         let left = self.lent_without_all(list);
         let sooner = self.go_before(tags, left);
-        let later = tags.clear_batch_held(&mut self.hand, list);
+        let later = tags.clear_batch_held::<Report>(&mut self.hand, list);
         both(sooner, later)
     }
 }

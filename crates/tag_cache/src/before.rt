@@ -1,7 +1,6 @@
 //! What goes back before tags that are cleared together.
 ghost use Rattle.std.specs.Prelude.{◌≡◌, ◌≤◌, ◌↔◌, ℕ, IsTrue};
-ghost use Rattle.wake_book.specs.Grants.{AreGrantsOf};
-ghost use Rattle.tag_queue.specs.Woken.{WokenBy};
+ghost use Rattle.wake_book.specs.Grants.{AreGrantsOf, WokenBy};
 ghost use Rattle.tag_sets.specs.Hands.{group_steps};
 ghost use Rattle.tag_cache.specs.Windows.{IsIn};
 ghost use Rattle.tag_cache.specs.Batches.{GoesBefore, LeavesNone};

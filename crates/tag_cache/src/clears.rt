@@ -11,7 +11,7 @@ ghost use Rattle.tag_cache.specs.Clears.{Goes, GoesOrdinary, MakesRoom, GivesOne
 
 use crate::cache::Cache;
 use crate::grants::both;
-use tag_sets::{Grants, Kind, TagFault, Tags};
+use tag_sets::{Grants, Kind, Report, TagFault, Tags};
 use wake_book::NO_GRANTS;
 
 impl<R: Copy> Cache<R> {
@@ -320,6 +320,6 @@ impl<R: Copy> Cache<R> {
         ensures window { SameWindow self.old self.new }
         ensures few { result.woken ≤ 8 }
     {
-        tags.clear_held(&mut self.hand, tag)
+        tags.clear_held::<Report>(&mut self.hand, tag)
     }
 }

@@ -11,7 +11,7 @@ ghost use Rattle.tag_cache.specs.Tallies.{Tallies};
 ghost use Rattle.tag_cache.specs.Clears.{GivesKept};
 
 use crate::cache::Cache;
-use tag_sets::{Grants, Hand, Tags};
+use tag_sets::{Grants, Hand, Report, Tags};
 use wake_book::NO_GRANTS;
 
 impl<R: Copy> Cache<R> {
@@ -72,7 +72,7 @@ impl<R: Copy> Cache<R> {
         }
         self.kept = 0;
         self.room = self.most;
-        tags.clear_mask_held(&mut self.hand, self.first, kept)
+        tags.clear_mask_held::<Report>(&mut self.hand, self.first, kept)
     }
 
     /// Gives all kept tags back, as `flush` does. Returns the hand, which holds what the user holds, and how many waiters

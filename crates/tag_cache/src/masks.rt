@@ -1,8 +1,7 @@
 //! Clears of the ordinary tags of a mask, as a batch get answers it.
 ghost use Rattle.std.specs.Prelude.{◌≡◌, ◌<◌, ◌≤◌, ◌↔◌, ◌^◌, ℕ, count_ones, All, Contains, IfOk, IsOk, OnOk, OnErr};
-ghost use Rattle.wake_book.specs.Grants.{AreGrantsOf};
+ghost use Rattle.wake_book.specs.Grants.{AreGrantsOf, WokenBy};
 ghost use Rattle.tag_queue.specs.Masks.{tags_in};
-ghost use Rattle.tag_queue.specs.Woken.{WokenBy};
 ghost use Rattle.tag_sets.specs.Batches.{AreOrdinary};
 ghost use Rattle.tag_sets.specs.Hands.{group_steps};
 ghost use Rattle.tag_cache.specs.Windows.{IsIn};
@@ -15,7 +14,7 @@ ghost use Rattle.tag_cache.specs.Tallies.{Tallies};
 
 use crate::cache::{Cache, WINDOW};
 use crate::grants::both;
-use tag_sets::{Grants, TagFault, Tags};
+use tag_sets::{Count, Grants, Report, TagFault, Tags};
 
 impl<R: Copy> Cache<R> {
     /// Clears the ordinary tags of a mask that the user holds, in which bit `i` is tag `first + i` as in the answer of
@@ -138,7 +137,7 @@ impl<R: Copy> Cache<R> {
     {
         let left = self.lent_outside(first, mask);
         let sooner = self.go_before(tags, left);
-        let later = tags.clear_mask_held(&mut self.hand, first, mask);
+        let later = tags.clear_mask_held::<Report>(&mut self.hand, first, mask);
         both(sooner, later)
     }
 
@@ -155,7 +154,7 @@ impl<R: Copy> Cache<R> {
     {
         let left = self.lent_outside(first, mask);
         let sooner = self.go_before_counted(tags, left);
-        let later = tags.clear_mask_held_counted(&mut self.hand, first, mask);
+        let later = tags.clear_mask_held::<Count>(&mut self.hand, first, mask);
         let woken = sooner + later;
         woken
     }

@@ -9,7 +9,7 @@ ghost use Rattle.tag_cache.specs.Rings.{MakesNoStep};
 ghost use Rattle.tag_cache.specs.Same.{SameTags};
 
 use crate::cache::Cache;
-use tag_sets::{Grants, Tags};
+use tag_sets::{Grants, Ring, Tags};
 
 impl<R: Copy> Cache<R> {
     /// Wakes a sleeper for each grant, in its group, and returns how many waiters were granted a wakeup. Grants of a call
@@ -26,7 +26,7 @@ impl<R: Copy> Cache<R> {
         if grants.woken == 0 {
             return 0;
         }
-        tags.ring(&mut self.hand, grants)
+        tags.tell::<Ring>(&mut self.hand, grants)
     }
 
     /// Looks for sleepers and rings them after a get that left this many tags free, as `Tags::look_after` does: for those

@@ -38,7 +38,7 @@ both-requires-clause-few g c = let e = c.clear_batch_held-later.ensures in (
 pub both-requires-clause-sums : goal.both-requires-clause-sums
 both-requires-clause-sums g c = (
   c.go_before-sooner.ensures.grants.sum_is,
-  c.clear_batch_held-later.ensures.grants.sum_is,
+  c.clear_batch_held-later.ensures.tells.sum_is,
 )
 
 pub returns-clause-way : goal.returns-clause-way
@@ -52,7 +52,7 @@ returns-clause-way g c = let mid = c.go_before-sooner.new.self in let e = c.clea
 pub returns-clause-grants : goal.returns-clause-grants
 returns-clause-grants g c = c.both.ensures.grants (group_steps c.args.self.now.hand)
     (group_steps c.go_before-sooner.new.self.hand) (group_steps c.clear_batch_held-later.new.hand)
-    c.go_before-sooner.ensures.grants c.clear_batch_held-later.ensures.grants
+    c.go_before-sooner.ensures.grants c.clear_batch_held-later.ensures.tells
 
 pub returns-clause-loans : goal.returns-clause-loans
 returns-clause-loans g c = λ other. (

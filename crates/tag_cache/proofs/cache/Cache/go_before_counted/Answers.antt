@@ -1,6 +1,6 @@
 -- After the look at the active count the kept tags go back, or the same ones are kept.
 use Rattle.std.proofs.Common.{arith, inl, inr, refl}
-use Rattle.tag_queue.proofs.WokenFacts.{woken_after, none_woken}
+use Rattle.tag_cache.proofs.Granting.{woken_after, none_woken}
 use Rattle.tag_sets.specs.Hands.{group_steps}
 use Rattle.tag_cache.proofs.Looking.{kept_same}
 use Rattle.tag_cache.proofs.cache.Cache.go_before_counted.Goals as goal

@@ -3,7 +3,7 @@ use Rattle.std.proofs.Common.{arith, ◌≡◌, ◌≤◌, ◌+◌, ℕ, inl, in
 use Rattle.step_ledger.specs.History.{total}
 use Rattle.wake_book.specs.Groups.{moved_of}
 use Rattle.wake_book.specs.Waits.{moved_by}
-use Rattle.tag_queue.proofs.Ringing.{rings_looked}
+use Rattle.tag_cache.proofs.Granting.{rings_looked}
 use Rattle.tag_sets.specs.declared.hand.Hand.{Hand}
 use Rattle.tag_sets.specs.Hands.{waiter_of}
 use Rattle.tag_cache.proofs.Going.{found_none}

@@ -5,15 +5,15 @@ use Rattle.tag_cache.proofs.Steady.{stays_rests, owns_rests, same_tags}
 use Rattle.tag_cache.proofs.cache.Cache.ring.Goals as goal
 
 pub invariant_of-self : goal.invariant_of-self
-invariant_of-self g c = owns_rests c.args.tags.now c.args.self.now c.ring.new.hand c.requires c.ring.ensures.hand
-    (stays_rests _ _ c.ring.ensures.same)
+invariant_of-self g c = owns_rests c.args.tags.now c.args.self.now c.tell.new.hand c.requires c.tell.ensures.hand
+    (stays_rests _ _ c.tell.ensures.same)
 
 pub returns-clause-same : goal.returns-clause-same
 returns-clause-same g c = same_tags c.args.self.now _ (search rules) (search rules)
-    (stays_rests _ _ c.ring.ensures.same)
+    (stays_rests _ _ c.tell.ensures.same)
 
 pub returns-clause-hand : goal.returns-clause-hand
-returns-clause-hand g c = let e = c.ring.ensures in record { steps = e.steps; counts = e.counts; stays = e.same }
+returns-clause-hand g c = let e = c.tell.ensures in record { steps = e.steps; counts = e.counts; stays = e.same }
 
 pub returns-clause-none : goal.returns-clause-none
 returns-clause-none g c = λ zero. let some = c.if-grants-eq0.false in absurd (omega arith)
