@@ -19,7 +19,7 @@ use Rattle.loop_device.specs.History.{IsHistory}
 use Rattle.loop_device.specs.Requests.{IsLineOf}
 use Rattle.loop_device.specs.Verdict.{IsPlayFault}
 use Rattle.loop_device.specs.Playing.{IsClean, IsJudged, NamesLine}
-use Rattle.loop_device.specs.Runs.{AreTagsFor, HasRun, IsRun, SaysSeen}
+use Rattle.loop_device.specs.Runs.{AreTagsFor, HasRun, IsRun, IsSeen, SaysSeen}
 use Rattle.loop_device.specs.Working.{clean}
 
 -- a fault of the verdict is that of the play, where no thread ran into another
@@ -76,34 +76,24 @@ clean_is faults is i = record { memory = is.memory i; spurious = is.spurious i }
 
 module _ (setup : Asked) (ios : List Io) (done : List Done) (totals : Totals) (faults : Faults)
     (run : faults.memory ≡ false → IsRun setup ios totals faults) where
+  seen_by : IsHistory done → (fault : PlayFault) → faults.memory ≡ false → IsJudged ios done totals faults fault
+      → IsSeen setup ios fault
+  seen_by lawful fault none is = record {
+    done = done;
+    lawful = lawful;
+    totals = totals;
+    faults = faults;
+    ran = run none;
+    judged = is;
+  }
+
   -- what the play saw is what its fault says
   seen : IsHistory done → (fault : PlayFault) → IsJudged ios done totals faults fault → SaysSeen setup ios fault
   seen lawful Memory is = tt
   seen lawful Setup is = tt
-  seen lawful (Lost line) is = record {
-    done = done;
-    lawful = lawful;
-    totals = totals;
-    faults = faults;
-    ran = run is.0.memory;
-    judged = is;
-  }
-  seen lawful (Twice line) is = record {
-    done = done;
-    lawful = lawful;
-    totals = totals;
-    faults = faults;
-    ran = run is.0.memory;
-    judged = is;
-  }
-  seen lawful Spurious is = record {
-    done = done;
-    lawful = lawful;
-    totals = totals;
-    faults = faults;
-    ran = run is.memory;
-    judged = is;
-  }
+  seen lawful (Lost line) is = seen_by lawful (Lost line) is.0.memory is
+  seen lawful (Twice line) is = seen_by lawful (Twice line) is.0.memory is
+  seen lawful Spurious is = seen_by lawful Spurious is.memory is
 
   pub says_seen : IsHistory done → (r : Result Report PlayFault) → IfErr r (IsJudged ios done totals faults)
       → IfErr r (SaysSeen setup ios)

@@ -1,7 +1,7 @@
 -- How often lines are carried out, item after item.
 use Rattle.std.proofs.Common.{◌≡◌, ◌≢◌, ℕ, ◌<◌, ◌≤◌, ◌+◌, ◌==◌, List, [], ◌∷◌, replicate, length, get_or, set, map, take, refl, sym, ap, ◌∙◌, subst, arith}
-use Rattle.std.specs.List.{All, AllWithin, HoldsAt}
-use Rattle.std.proofs.lemmas.List.{length-map, get_or-map, get_or_default, ext_get_or, get_or-set_same, get_or-set_other}
+use Rattle.std.specs.List.{All, AllWithin, Contains, HoldsAt}
+use Rattle.std.proofs.lemmas.List.{length-map, get_or-map, get_or_default, ext_get_or}
 use Rattle.std.proofs.lemmas.List.Sums.{count_by_more_yes, count_by_more_no, count_by-le-length}
 use Rattle.std.proofs.lemmas.Bool.Decides.{nat_tests}
 use Rattle.std.proofs.lemmas.Grind.{common_steps, get_or_default_zero}
@@ -32,32 +32,20 @@ module _ (done : List Done) (i : ℕ) (d : Done) (low : i < length done) where
       → (counts : List ℕ) → counts ≡ tallied ios (take i done)
       → set counts index (get_or counts index 0 + 1) ≡ tallied ios (take (i + 1) done)
   counted ios ascend index within at counts are =
-      let e = (get_or done i d).io in
-      let before = tallied ios (take i done) in
+      let e = (get_or done i d).io in let before = tallied ios (take i done) in
+      let after = tallied ios (take (i + 1) done) in
       let size : length before ≡ length ios = length-map ios (λ io. times (take i done) io.line) in
-      let old = λ (k : ℕ) (lt : k < length ios). get_or-map (λ (io : Io). times (take i done) io.line) ios k e 0 lt in
-      let new = λ (k : ℕ) (lt : k < length ios). get_or-map (λ (io : Io). times (take (i + 1) done) io.line) ios k e
-      0 lt in
+      let size' : length after ≡ length ios = length-map ios (λ io. times (take (i + 1) done) io.line) in
       let line_here : e.line ≡ (get_or ios index e).line = ap (λ (io : Io). io.line) (sym (at e)) in
-      rw are (ext_get_or 0 _ _ (grind (
-        arith,
-        common_steps,
-        size,
-        length-map ios (λ io. times (take (i + 1) done)
-            io.line),
-      )) (λ k lt.
-      let lt' : k < length ios = grind (arith, common_steps, size) in
-      let here : k ≡ index → get_or (set before index (get_or before index 0 + 1)) k 0 ≡ get_or (tallied ios (take (i
-      + 1) done)) k 0 =
-      λ same. rw same (get_or-set_same before index (get_or before index 0 + 1) 0 (omega (arith, size, within))
-      ∙ ap (λ n. n + 1) (old index within) ∙ sym (times_same (get_or ios index e).line line_here) ∙ sym (new index
-      within)) in
-      let beside : k ≢ index → get_or (set before index (get_or before index 0 + 1)) k 0 ≡ get_or (tallied ios (take
-      (i + 1) done)) k 0 =
-      λ differs. get_or-set_other before index k (get_or before index 0 + 1) 0 differs ∙ old k lt'
-      ∙ sym (times_other (get_or ios k e).line (λ same. differs (same_index ios ascend k index e lt' within (sym same
-      ∙ line_here)))) ∙ sym (new k lt') in
-      grind (arith, here, beside)))
+      rw are (ext_get_or 0 _ _ (grind (arith, common_steps, size, size')) (λ k lt.
+      let within' : k < length ios = grind (arith, common_steps, size) in
+      let line = (get_or ios k e).line in
+      let old : get_or before k 0 ≡ times (take i done) line =
+      get_or-map (λ (io : Io). times (take i done) io.line) ios k e 0 within' in
+      let new : get_or after k 0 ≡ times (take (i + 1) done) line =
+      get_or-map (λ (io : Io). times (take (i + 1) done) io.line) ios k e 0 within' in
+      let alone = same_index ios ascend k index e within' within in
+      grind (arith, common_steps, old, new, line_here, alone, size, times_same line, times_other line)))
 
 zeros : (ios : List Io) → replicate (length ios) 0 ≡ tallied ios []
 zeros [] = refl
@@ -117,18 +105,22 @@ module _ (ios : List Io) (ascend : LinesAscend ios) (done : List Done) (counts :
       let earlier : k < index = line_below k index d e low within less in
       subst P (count_is k d low) (before k 0 (omega arith) earlier)
 
+  -- the line at an index is among the lines
+  among : (index : ℕ) (io : Io) → index < length ios → io ≡ get_or ios index io
+      → Contains (map (λ io. io.line) ios) io.line
+  among index io low is = (
+    index,
+    omega (arith, low, length-map ios (λ (io : Io). io.line)),
+    get_or-map (λ (io : Io). io.line) ios index io io.line low ∙ ap (λ (io : Io). io.line) (sym is),
+  )
+
   -- the line at the index, where its count is above 1 and none before it is
   pub is_twice : AreOfLog ios done → (index : ℕ) (io : Io) → index < length ios → io ≡ get_or ios index io
       → 1 < get_or counts index 0
       → AllWithin (λ n. n ≤ 1) counts 0 index → IsTwice ios done io.line
   is_twice known index io low is twice before = record {
     known = known;
-    among = (
-      index,
-      omega (arith, low, length-map ios (λ (io : Io). io.line)),
-      get_or-map (λ (io : Io). io.line) ios
-          index io io.line low ∙ ap (λ (io : Io). io.line) (sym is),
-    );
+    among = among index io low is;
     twice = let t : get_or counts index 0 ≡ times done io.line = count_is index io low ∙ ap (λ (io : Io). times done
         io.line) (sym is) in omega (arith, t, twice);
     least = subst (λ (e : Io). All (λ io. io.line < e.line → times done io.line ≤ 1) ios) (sym is) (of_counts_before
@@ -142,12 +134,7 @@ module _ (ios : List Io) (ascend : LinesAscend ios) (done : List Done) (counts :
   is_lost known few index io low is lost before = record {
     known = known;
     none_twice = of_counts (λ n. n ≤ 1) few;
-    among = (
-      index,
-      omega (arith, low, length-map ios (λ (io : Io). io.line)),
-      get_or-map (λ (io : Io). io.line) ios
-          index io io.line low ∙ ap (λ (io : Io). io.line) (sym is),
-    );
+    among = among index io low is;
     lost = sym (count_is index io low ∙ ap (λ (io : Io). times done io.line) (sym is)) ∙ lost;
     least = subst (λ (e : Io). All (λ io. io.line < e.line → 0 < times done io.line) ios) (sym is) (of_counts_before
         (λ n. 0 < n) index io low before);

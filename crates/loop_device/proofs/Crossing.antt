@@ -15,9 +15,9 @@ use Rattle.crossbeam_queue.specs.contracts.array_queue.Doing as doing
 use Rattle.loop_device.specs.contracts.device.Device as device
 use Rattle.loop_device.specs.declared.device_queue.Tagged as tagged
 use Rattle.loop_device.specs.contracts.device_queue.Worker as worker
-use Rattle.loop_device.specs.contracts.halving.Stamps as stamps
-use Rattle.loop_device.specs.contracts.halving.Stamps.TheKnot as knot
-use Rattle.loop_device.specs.declared.halving.Stamps.TheBlock.{the_members, member-Stamps}
+use Rattle.loop_device.specs.contracts.segments.Segments as stamps
+use Rattle.loop_device.specs.contracts.segments.Segments.TheKnot as knot
+use Rattle.loop_device.specs.declared.segments.Segments.TheBlock.{the_members, member-Segments}
 use Rattle.tag_sets.proofs.Crossing.{hand_send, tags_field_sync}
 use Rattle.tag_sets.specs.contracts.hand.Hand as hand
 use Rattle.loop_device.specs.contracts.io.Log as log
@@ -30,17 +30,17 @@ pub log_shared : IsSync log.the_row
 log_shared = search (sendable, crosses) depth 60
 
 layer_goes : (i : the_members) → Sends knot.ring i
-layer_goes member-Stamps = record {
+layer_goes member-Segments = record {
   send = λ h all.
-      let s : IsSend (row (declared (knot.type-Stamps (h member-Stamps) (h member-Stamps)))) =
-      variants_send (knot.type-Stamps (h member-Stamps) (h member-Stamps)) (
+      let s : IsSend (row (declared (knot.type-Segments (h member-Segments) (h member-Segments)))) =
+      variants_send (knot.type-Segments (h member-Segments) (h member-Segments)) (
         (search sendable, tt),
         (
           (
             search sendable,
             (
-              search (all member-Stamps, sendable, crosses) depth 40,
-              (search (all member-Stamps, sendable, crosses) depth 40, tt),
+              search (all member-Segments, sendable, crosses) depth 40,
+              (search (all member-Segments, sendable, crosses) depth 40, tt),
             ),
           ),
           tt,
@@ -49,8 +49,8 @@ layer_goes member-Stamps = record {
       record { owned = s.owned; leaving = s.leaving };
 }
 
-hole_goes : IsSend knot.hole-Stamps
-hole_goes = fix_send knot.ring layer_goes member-Stamps
+hole_goes : IsSend knot.hole-Segments
+hole_goes = fix_send knot.ring layer_goes member-Segments
 
 stamps_field_go : IsSend (stamps.the_field).row
 stamps_field_go = search (hole_goes, sendable, crosses) depth 60

@@ -1,11 +1,11 @@
 -- Threads that are started one after another, and joined from the last on.
-use Rattle.std.proofs.Common.{◌≡◌, ℕ, ◌+◌, ◌-◌, ◌≤◌, ⊎_elim, Bool, true, false, not, ◌||◌, IsTrue, rules, List, [], ◌∷◌, ◌++◌, length, map, fold, Option, Some, None, SomeIff, refl, sym, ap, ◌∙◌, subst, arith, append_assoc, length-append}
+use Rattle.std.proofs.Common.{◌≡◌, ℕ, ◌+◌, ◌-◌, ◌≤◌, ⊎_elim, Bool, true, false, not, IsTrue, rules, List, [], ◌∷◌, ◌++◌, length, map, fold, Option, Some, None, SomeIff, refl, sym, ap, ◌∙◌, subst, arith, append_assoc, length-append}
 use Rattle.std.specs.List.{All}
 use Rattle.std.specs.declared.thread.PromisedHandle.{PromisedHandle}
 use Rattle.std.proofs.lemmas.Bool.Decides.{nat_tests}
 use Rattle.std.proofs.lemmas.List.Elements.{All-cons, All-nil}
-use Rattle.std.proofs.lemmas.List.Sums.{fold-append, fold_push}
-use Rattle.std.proofs.lemmas.List.{append-nil, map-append}
+use Rattle.std.proofs.lemmas.List.Sums.{fold-append}
+use Rattle.std.proofs.lemmas.List.{append-nil, map-append, nil_from_length}
 use Rattle.tag_sets.specs.declared.hand.Hand.{Hand}
 use Rattle.tag_sets.specs.declared.tags.Tags.{Tags}
 use Rattle.tag_sets.specs.Hands.{IsHandOf}
@@ -89,14 +89,7 @@ module _ (tags : Tags ℕ) (setup : Asked) (ios : List Io) where
         own = All-cons (IsHandOf tags) worked.hand (map hand_of works) returns.0 before.own;
       }
 
--- one thread more was joined
-pub kept_more : (old mid rest : Handles) (works : List Worked) (last : PromisedHandle Worked Part) (worked : Worked)
-    → KeepInTurn old mid works → mid ≡ rest ++ last ∷ [] → Keeps last.promise worked
-    → KeepInTurn old rest (works ++ worked ∷ [])
-kept_more old mid rest [] last worked same parts keeps = (rest, last, sym same ∙ parts, keeps, refl)
-kept_more old mid rest (w ∷ ws) last worked turn parts keeps =
-    (turn.0, turn.1, turn.2, turn.3, kept_more turn.0 mid rest ws last worked turn.4 parts keeps)
-
+-- threads were joined in two goes
 kept_both : (old mid new : Handles) (works more : List Worked) → KeepInTurn old mid works → KeepInTurn mid new more
     → KeepInTurn old new (works ++ more)
 kept_both old mid new [] more same turn = subst (λ (l : Handles). KeepInTurn l new more) same turn
@@ -108,21 +101,6 @@ pub joined_none : (handles : Handles) (hands : List (Hand ℕ)) (faults : Faults
     → AreJoined handles handles hands hands faults faults
 joined_none handles hands faults =
     record { works = []; kept = refl; back_is = sym (append-nil hands); all_are = refl }
-
--- one thread more
-pub joined_more : (old mid rest : Handles) (last : PromisedHandle Worked Part) (worked : Worked)
-    (hands middle back : List (Hand ℕ)) (faults between all : Faults) → AreJoined old mid hands middle faults between
-    → mid ≡ rest ++ last ∷ [] → Keeps last.promise worked → back ≡ middle ++ worked.hand ∷ []
-    → all ≡ added between worked.faults → AreJoined old rest hands back faults all
-joined_more old mid rest last worked hands middle back faults between all was parts keeps pushed noted = record {
-  works = was.works ++ worked ∷ [];
-  kept = kept_more old mid rest was.works last worked was.kept parts keeps;
-  back_is = pushed ∙ ap (λ (l : List (Hand ℕ)). l ++ worked.hand ∷ []) was.back_is
-      ∙ append_assoc hands (map hand_of was.works) (worked.hand ∷ [])
-      ∙ ap (λ (l : List (Hand ℕ)). hands ++ l) (sym (map-append hand_of was.works (worked ∷ [])));
-  all_are = noted ∙ ap (λ (f : Faults). added f worked.faults) was.all_are
-      ∙ sym (fold_push with_faults faults was.works worked);
-}
 
 -- joined in two goes
 pub joined_both : (old mid new : Handles) (hands middle back : List (Hand ℕ)) (faults between all : Faults)
@@ -138,20 +116,25 @@ joined_both old mid new hands middle back faults between all one other = record 
       ∙ sym (fold-append with_faults faults one.works other.works);
 }
 
-or_left : (a b : Bool) → (a || b) ≡ false → a ≡ false
-or_left true b e = e
-or_left false b e = refl
+-- one thread more
+pub joined_more : (old mid rest : Handles) (last : PromisedHandle Worked Part) (worked : Worked)
+    (hands middle back : List (Hand ℕ)) (faults between all : Faults) → AreJoined old mid hands middle faults between
+    → mid ≡ rest ++ last ∷ [] → Keeps last.promise worked → back ≡ middle ++ worked.hand ∷ []
+    → all ≡ added between worked.faults → AreJoined old rest hands back faults all
+joined_more old mid rest last worked hands middle back faults between all was parts keeps pushed noted =
+    joined_both old mid rest hands middle back faults between all was record {
+      works = worked ∷ [];
+      kept = (rest, last, parts, keeps, refl);
+      back_is = pushed;
+      all_are = noted;
+    }
 
 -- faults that were noted at first are among those of all
 none_first : (faults : Faults) (works : List Worked) → (fold with_faults faults works).memory ≡ false
     → faults.memory ≡ false
 none_first faults [] none = none
 none_first faults (worked ∷ works) none =
-    or_left faults.memory worked.faults.memory (none_first (with_faults faults worked) works none)
-
-no_more : (handles : Handles) → length handles ≡ 0 → handles ≡ []
-no_more [] none = refl
-no_more (handle ∷ rest) none = absurd (omega arith)
+    let either = none_first (with_faults faults worked) works none in grind (arith, nat_tests)
 
 -- all threads are joined in two goes
 module _ (tags : Tags ℕ) (setup : Asked) (ios : List Io) (old mid new : Handles) (hands middle back : List (Hand ℕ))
@@ -162,18 +145,18 @@ module _ (tags : Tags ℕ) (setup : Asked) (ios : List Io) (old mid new : Handle
   done =
       let none : length new ≡ 0 = omega arith in
       subst (λ (z : Handles × List (Hand ℕ)). AreJoined old z.0 z.1 back faults all)
-      (λ i. (no_more new none i, none_yet i))
+      (λ i. (nil_from_length new none i, none_yet i))
       (joined_both old mid new hands middle back faults between all one other)
 
   parts : Joined tags setup ios old [] done.works
   parts = joined_parts tags setup ios old [] done.works done.kept were
 
   -- the hands that came back are hands of the tags
-  pub own_hands : All (IsHandOf tags) back
+  own_hands : All (IsHandOf tags) back
   own_hands = subst (All (IsHandOf tags)) (sym done.back_is) parts.own
 
   -- where none ran out of memory, all threads were started and did their parts
-  pub have_run : (faults.memory ≡ false → (faults ≡ clean) × (length old ≡ setup.completers + setup.submitters))
+  have_run : (faults.memory ≡ false → (faults ≡ clean) × (length old ≡ setup.completers + setup.submitters))
       → all.memory ≡ false → HasRun tags setup ios back all
   have_run started none =
       let first = started (none_first faults done.works (subst (λ (f : Faults). f.memory ≡ false) done.all_are none)) in
@@ -184,6 +167,10 @@ module _ (tags : Tags ℕ) (setup : Asked) (ios : List Io) (old mid new : Handle
         hands_are = done.back_is;
         faults_are = done.all_are ∙ ap (λ (f : Faults). fold with_faults f done.works) first.0;
       }
+
+  pub all_joined : (faults.memory ≡ false → (faults ≡ clean) × (length old ≡ setup.completers + setup.submitters))
+      → All (IsHandOf tags) back × (all.memory ≡ false → HasRun tags setup ios back all)
+  all_joined started = (own_hands, have_run started)
 
 -- a flag that is not unset is set
 pub is_set : (b : Bool) → not b ≡ false → IsTrue b

@@ -2,7 +2,6 @@ pub mod Counting
 pub mod Halves
 pub mod Keeping
 pub mod Indexes
-pub mod Refining
 pub mod LogWords
 pub mod LogFacts
 pub mod QueueMoves

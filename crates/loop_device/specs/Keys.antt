@@ -2,8 +2,8 @@
 use Rattle.std.specs.Prelude.{◌≡◌, ℕ, ◌+◌, ◌*◌, ◌^◌, ◌<◌, true, nat_lt, List, ◌∷◌, ◌++◌, [], if◌then◌else◌}
 use Rattle.loop_device.specs.declared.io.Io.{Io}
 use Rattle.loop_device.specs.declared.io.Done.{Done}
-use Rattle.loop_device.specs.declared.halving.Stamps.{Stamps}
-use Rattle.loop_device.specs.Halving.{stamp_at, is_sound, IsStampedWithin}
+use Rattle.loop_device.specs.declared.segments.Segments.{Segments}
+use Rattle.loop_device.specs.Segments.{stamp_at, is_sound, IsStampedWithin}
 use Rattle.loop_device.specs.History.{first_sector, last_sector, stamp_of, done_of, Answers, IsHistory}
 
 -- the position of a name's sector in the row
@@ -25,24 +25,24 @@ pub record FitsTypes (io : Io) : Type 0 where
   pub length : io.length < 2 ^ 64
 
 -- the row has the stamps of the history
-abbrev pub AreStampsOf : List Done → Stamps → Type 0
+abbrev pub AreStampsOf : List Done → Segments → Type 0
 AreStampsOf history stamps =
     (name sector : ℕ) → name < 2 ^ 32 → sector < 2 ^ 56
     → stamp_at (2 ^ 88) stamps (key name sector) ≡ stamp_of history name sector
 
 -- the invariant of a store
-pub record IsKept (history : List Done) (stamps : Stamps) : Type 0 where
+pub record IsKept (history : List Done) (stamps : Segments) : Type 0 where
   pub sound : is_sound (2 ^ 88) stamps ≡ true
   pub stamps_are : AreStampsOf history stamps
   pub lawful : IsHistory history
 
 -- the sectors that the line covers have its number as their stamp, and the others are unchanged
-abbrev pub LeavesStamp : Stamps → Stamps → Io → Type 0
+abbrev pub LeavesStamp : Segments → Segments → Io → Type 0
 LeavesStamp old new io = IsStampedWithin (stamp_at (2 ^ 88) old) (stamp_at (2 ^ 88) new) (2 ^ 88) (first_key io)
     (end_key io) io.line
 
 -- after any history with the old stamps the line answers this, and the new stamps are those of that history plus it
-pub record CarriesOut (old new : Stamps) (io : Io) (stamp : ℕ) : Type 0 where
+pub record CarriesOut (old new : Segments) (io : Io) (stamp : ℕ) : Type 0 where
   pub sound : is_sound (2 ^ 88) new ≡ true
   pub stamps_are : (history : List Done) → AreStampsOf history old → AreStampsOf (history ++ done_of io stamp ∷ []) new
   pub answers : (history : List Done) → AreStampsOf history old → Answers history io stamp

@@ -1,5 +1,5 @@
 pub mod DeviceQueue
-pub mod Halving
+pub mod Segments
 pub mod History
 pub mod Keys
 pub mod Lines

@@ -35,11 +35,11 @@ name_action action =
 -- the action with this name, among those that take a range of bytes
 abbrev pub range_action : List ℕ → Option RangeAction
 range_action action =
-    if bytes_eq action (codes "read") then Some (ranges.Carry kinds.Read) else
-    (if bytes_eq action (codes "write") then Some (ranges.Carry kinds.Write) else
-    (if bytes_eq action (codes "trim") then Some (ranges.Carry kinds.Trim) else
-    (if bytes_eq action (codes "sync") then Some (ranges.Carry kinds.Sync) else
-    (if bytes_eq action (codes "datasync") then Some (ranges.Carry kinds.Datasync) else
+    if bytes_eq action (codes "read") then Some (ranges.Io kinds.Read) else
+    (if bytes_eq action (codes "write") then Some (ranges.Io kinds.Write) else
+    (if bytes_eq action (codes "trim") then Some (ranges.Io kinds.Trim) else
+    (if bytes_eq action (codes "sync") then Some (ranges.Io kinds.Sync) else
+    (if bytes_eq action (codes "datasync") then Some (ranges.Io kinds.Datasync) else
     (if bytes_eq action (codes "wait") then Some ranges.Wait else None)))))
 
 -- the line has neither two words nor four
@@ -61,9 +61,9 @@ name_entry (Some Close) None count = Err UnknownName
 -- an I/O line needs a known name and stores its index; a wait needs none
 abbrev pub io_entry : ℕ → RangeAction → ℕ → ℕ → Option ℕ → Result Entry LogCause
 io_entry line ranges.Wait offset length index = Ok entries.Wait
-io_entry line (ranges.Carry kind) offset length None = Err UnknownName
-io_entry line (ranges.Carry kind) offset length (Some index) =
-    Ok (entries.Carry (record { line = line; kind = kind; name = index; offset = offset; length = length }))
+io_entry line (ranges.Io kind) offset length None = Err UnknownName
+io_entry line (ranges.Io kind) offset length (Some index) =
+    Ok (entries.Io (record { line = line; kind = kind; name = index; offset = offset; length = length }))
 
 -- an unknown action is reported before a bad number, and a bad number before an unknown name
 abbrev pub range_entry : ℕ → Option RangeAction → Option ℕ → Option ℕ → Option ℕ → Result Entry LogCause
@@ -105,7 +105,7 @@ names_after names (name ∷ action ∷ word ∷ more) = names
 abbrev pub IsOfLine : ℕ → Entry → Type 0
 IsOfLine number entries.Name = Unit {0}
 IsOfLine number entries.Wait = Unit {0}
-IsOfLine number (entries.Carry io) = io.line ≡ number
+IsOfLine number (entries.Io io) = io.line ≡ number
 
 -- the cause is why the line is faulty, unless memory ran out
 abbrev pub TellsCause : Result Entry LogCause → LogCause → Type 0

@@ -9,7 +9,7 @@ use Rattle.loop_device.specs.declared.fault.LogFault.{LogFault}
 use Rattle.loop_device.specs.declared.io.Io.{Io}
 use Rattle.loop_device.specs.declared.io.Log.{Log}
 use Rattle.loop_device.specs.declared.log_line.Entry.{Entry}
-use Rattle.loop_device.specs.declared.log_line.Entry.TheVariants.{Name, Wait, Carry}
+use Rattle.loop_device.specs.declared.log_line.Entry.TheVariants as entries
 use Rattle.loop_device.specs.LogLines.{names_of, entry_of, names_after, TellsCause}
 
 -- the first line of a log
@@ -46,15 +46,15 @@ names_in names lines = fold (λ known line. names_after known (line_words line))
 
 -- the I/O line of an entry, if it is one
 abbrev pub io_in : Entry → Option Io
-io_in Name = None
-io_in Wait = None
-io_in (Carry io) = Some io
+io_in entries.Name = None
+io_in entries.Wait = None
+io_in (entries.Io io) = Some io
 
 -- the entry is a wait
 abbrev pub is_wait : Entry → Bool
-is_wait Name = false
-is_wait Wait = true
-is_wait (Carry io) = false
+is_wait entries.Name = false
+is_wait entries.Wait = true
+is_wait (entries.Io io) = false
 
 -- no line is faulty, and the log has the names, the I/O lines and the waits of all lines
 pub record Says (lines : List (List ℕ)) (log : Log) : Type 0 where

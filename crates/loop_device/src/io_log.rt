@@ -1,6 +1,6 @@
 //! fio's I/O logs: version 2, and version 3, which has a time before each line.
-ghost use Rattle.std.specs.Prelude.{◌≡◌, ◌<◌, Some, None, length, IfOk, IfErr};
-ghost use Rattle.tag_lines.specs.Lines.{LacksByte, lines_of};
+ghost use Rattle.std.specs.Prelude.{◌≡◌, Some, None, IfOk, IfErr};
+ghost use Rattle.tag_lines.specs.Lines.{lines_of};
 ghost use Rattle.loop_device.specs.Logs.{IsLogOf, IsLogFault, Says, IsFaultOf, body_of, header_cause, line_cause};
 ghost use Rattle.loop_device.specs.TimedLogs.{IsTimedLogOf, IsTimedLogFault, SaysTimed, IsTimedFaultOf};
 
@@ -9,7 +9,7 @@ use crate::io::Log;
 use crate::log_reader::Reader;
 use crate::timed_reader::TimedReader;
 use std::alloc::Global;
-use tag_lines::{LINE_FEED, cut};
+use tag_lines::cut_line;
 
 /// The first line of a log.
 const VERSION_2: &[u8] = b"fio version 2 iolog";
@@ -40,23 +40,24 @@ impl Log {
 
 /// What follows the header. A header of the other version is reported as such.
 fn body_of<'a>(text: &'a [u8], header: &[u8], other: &[u8]) -> Result<&'a [u8], LogFault>
-    requires some { 0 < length header.now }
-    requires other { 0 < length other.now }
     ensures body { IfOk result (λ body. body_of header.now (lines_of text.now) ≡ Some (lines_of body.now)) }
     ensures none { IfErr result (λ fault. body_of header.now (lines_of text.now) ≡ None) }
     ensures fault { IfErr result (λ fault. fault ≡ record { line = 1; cause = header_cause other.now (lines_of text.now) }) }
 {
-    let (first, body) = cut(text, LINE_FEED);
+    if text.is_empty() {
+        return Err(LogFault {
+            line: 1,
+            cause: LogCause::NoHeader,
+        });
+    }
+    let (first, body) = cut_line(text);
     if first != header {
         return Err(LogFault {
             line: 1,
             cause: line_cause(first, other),
         });
     }
-    match body {
-        Some(body) => Ok(body),
-        None => Ok(&[]),
-    }
+    Ok(body)
 }
 
 /// Why a first line is not the header.
@@ -78,12 +79,9 @@ fn read_lines(alloc: Global, body: &[u8]) -> Result<Log, LogFault>
     let mut reader = Reader::new(alloc);
     let mut rest = body;
     while !rest.is_empty() {
-        let (line, after) = cut(rest, LINE_FEED);
+        let (line, after) = cut_line(rest);
         reader.read(line)?;
-        rest = match after {
-            Some(after) => after,
-            None => &[],
-        };
+        rest = after;
     }
     Ok(reader.log())
 }
@@ -96,12 +94,9 @@ fn read_timed_lines(alloc: Global, body: &[u8]) -> Result<Log, LogFault>
     let mut reader = TimedReader::new(alloc);
     let mut rest = body;
     while !rest.is_empty() {
-        let (line, after) = cut(rest, LINE_FEED);
+        let (line, after) = cut_line(rest);
         reader.read(line)?;
-        rest = match after {
-            Some(after) => after,
-            None => &[],
-        };
+        rest = after;
     }
     Ok(reader.log())
 }

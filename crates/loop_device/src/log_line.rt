@@ -8,7 +8,7 @@ ghost use Rattle.loop_device.specs.LogLines.{range_words, with_name, entry_of, n
 use crate::fault::{LogCause, LogNumber};
 use crate::io::{Io, IoKind};
 use std::alloc::Global;
-use tag_lines::{BLANK, Misfit, cut, has_gap, number};
+use tag_lines::{Misfit, cut_word, has_gap, number};
 
 /// The most names that a log may have.
 pub(crate) const MAX_NAMES: usize = 16;
@@ -30,7 +30,7 @@ pub(crate) enum Entry {
     /// It is a wait.
     Wait,
     /// It is an I/O line.
-    Carry(Io),
+    Io(Io),
 }
 
 /// The actions that take only a name.
@@ -65,7 +65,7 @@ impl NameAction {
 #[derive(Clone, Copy, Debug, PartialEq, Eq)]
 pub(crate) enum RangeAction {
     /// An I/O line of this kind.
-    Carry(IoKind),
+    Io(IoKind),
     /// A wait, which is only counted.
     Wait,
 }
@@ -76,15 +76,15 @@ impl RangeAction {
         ensures { result ≡ range_action action.now }
     {
         if action == b"read".as_slice() {
-            Some(RangeAction::Carry(IoKind::Read))
+            Some(RangeAction::Io(IoKind::Read))
         } else if action == b"write".as_slice() {
-            Some(RangeAction::Carry(IoKind::Write))
+            Some(RangeAction::Io(IoKind::Write))
         } else if action == b"trim".as_slice() {
-            Some(RangeAction::Carry(IoKind::Trim))
+            Some(RangeAction::Io(IoKind::Trim))
         } else if action == b"sync".as_slice() {
-            Some(RangeAction::Carry(IoKind::Sync))
+            Some(RangeAction::Io(IoKind::Sync))
         } else if action == b"datasync".as_slice() {
-            Some(RangeAction::Carry(IoKind::Datasync))
+            Some(RangeAction::Io(IoKind::Datasync))
         } else if action == b"wait".as_slice() {
             Some(RangeAction::Wait)
         } else {
@@ -110,12 +110,12 @@ pub(crate) fn read_line(
     if has_gap(line) {
         return Err(LogCause::BadLine(Misfit::EmptyWord));
     }
-    let (name, rest) = cut(line, BLANK);
+    let (name, rest) = cut_word(line);
     let rest = match rest {
         Some(rest) => rest,
         None => return Err(WORD_COUNT),
     };
-    let (action, rest) = cut(rest, BLANK);
+    let (action, rest) = cut_word(rest);
     match rest {
         Some(range) => range_line(names, number, name, action, range),
         None => name_line(alloc, names, number, name, action),
@@ -187,12 +187,12 @@ fn range_line(
     ensures said { result ≡ range_words line (range_action action.now) (parts_of range.now) (index_of (names_of names.now) name.now) }
     ensures line { IfOk result (IsOfLine line) }
 {
-    let (offset, rest) = cut(range, BLANK);
+    let (offset, rest) = cut_word(range);
     let rest = match rest {
         Some(rest) => rest,
         None => return Err(WORD_COUNT),
     };
-    let (size, more) = cut(rest, BLANK);
+    let (size, more) = cut_word(rest);
     match more {
         Some(_) => Err(WORD_COUNT),
         None => range_entry(names, line, name, action, offset, size),
@@ -216,11 +216,11 @@ fn range_entry(
     let offset = extent(offset).ok_or(LogCause::BadNumber(LogNumber::Offset))?;
     let length = extent(size).ok_or(LogCause::BadNumber(LogNumber::Length))?;
     let kind = match action {
-        RangeAction::Carry(kind) => kind,
+        RangeAction::Io(kind) => kind,
         RangeAction::Wait => return Ok(Entry::Wait),
     };
     let name = index_of(names, name).ok_or(LogCause::UnknownName)?;
-    Ok(Entry::Carry(Io {
+    Ok(Entry::Io(Io {
         line,
         kind,
         name,

@@ -55,7 +55,7 @@ impl Reader {
         match entry {
             Entry::Name => {}
             Entry::Wait => self.waits += 1,
-            Entry::Carry(io) => {
+            Entry::Io(io) => {
                 if self.ios.push(io).is_err() {
                     return Err(LogFault {
                         line: number,

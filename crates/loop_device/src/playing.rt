@@ -16,7 +16,7 @@ use crate::judging::verdict;
 use crate::report::Report;
 use crate::setup::Setup;
 use crate::store::Store;
-use crate::threads::carry_by_threads;
+use crate::threads::run_threads;
 use crate::workers::Faults;
 use std::alloc::Global;
 use std::marker::Brand;
@@ -88,7 +88,7 @@ fn play_under<B: Tagged + Send + Sync, G: Gate, R: Threads + Wait + Sync>(
         stopped: AtomicBool::new(false),
         closed: AtomicBool::new(false),
     };
-    let carried = carry_by_threads(rt, alloc, log, gate, &device, hands, pass, setup);
+    let carried = run_threads(rt, alloc, log, gate, &device, hands, pass, setup);
     let Device {
         tags,
         queue: _,

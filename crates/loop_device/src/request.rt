@@ -60,7 +60,7 @@ pub(crate) fn finish<G: Gate, W: Wait>(
     let Ok(line) = tags.read(hand, tag) else {
         unreachable!()
     };
-    let carried = carry_out(rt, line, log, store, gate);
+    let carried = carry_out_by_number(rt, line, log, store, gate);
     let Ok(_woken) = tags.clear(hand, tag) else {
         unreachable!()
     };
@@ -71,7 +71,7 @@ pub(crate) fn finish<G: Gate, W: Wait>(
 }
 
 /// Carries out the line with this number, under the store's lock.
-fn carry_out<G: Gate, W: Wait>(
+fn carry_out_by_number<G: Gate, W: Wait>(
     rt: &W,
     line: u64,
     log: &Log,
@@ -86,16 +86,16 @@ fn carry_out<G: Gate, W: Wait>(
     };
     gate.before_complete(line);
     let mut store = store.lock(rt);
-    carry_once(&mut store, &io)
+    add_line(&mut store, &io)
 }
 
 /// Carries out the line once on a store that is lent.
-fn carry_once(store: &mut Store, io: &Io) -> Result<(), PlayFault>
+fn add_line(store: &mut Store, io: &Io) -> Result<(), PlayFault>
     ensures ok { OnOk result (AddsLine store.old store.new io.now) }
     ensures err { OnErr result (store.new ≡ store.old) }
     ensures fault { IfErr result (λ fault. fault ≡ PlayFault.Memory) }
 {
-    match store.carry(io) {
+    match store.carry_out(io) {
         Ok(_stamp) => Ok(()),
         Err(_) => Err(PlayFault::Memory),
     }

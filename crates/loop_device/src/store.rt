@@ -1,11 +1,11 @@
 //! An in-memory store: what was carried out, and the stamps of its sectors.
 ghost use Rattle.std.specs.Prelude.{◌≡◌, ◌≤◌, ◌^◌, ◌++◌, ◌∷◌, [], true, IfOk, OnOk, OnErr};
-ghost use Rattle.loop_device.specs.Halving.{is_sound, IsRefined};
+ghost use Rattle.loop_device.specs.Segments.{is_sound, IsRefined};
 ghost use Rattle.loop_device.specs.History.{Answers, IsHistory, done_of};
 ghost use Rattle.loop_device.specs.Keys.{first_key, end_key, CarriesOut, FitsTypes, LeavesStamp};
 
-use crate::halving::Stamps;
 use crate::io::{Done, Io, IoKind};
+use crate::segments::Segments;
 use std::alloc::{AllocError, Global};
 use std::marker::Model;
 
@@ -22,7 +22,7 @@ const WIDTH: u128 = 1 << 88;
 #[derive(Drop)]
 pub struct Store {
     alloc: Global,
-    stamps: Stamps,
+    stamps: Segments,
     done: Vec<Done>,
 }
 
@@ -45,7 +45,7 @@ impl Store {
     {
         Store {
             alloc,
-            stamps: Stamps::Even(0),
+            stamps: Segments::Leaf(0),
             done: Vec::new(alloc),
         }
     }
@@ -74,7 +74,7 @@ impl Store {
     /// Carries out a line and returns its stamp: for a write or a trim its line number, for a read the greatest stamp
     /// of its sectors, otherwise 0. A sector's stamp is the line number of the last write or trim that covered it, or 0
     /// if there was none. If memory runs out, nothing changes.
-    pub fn carry(&mut self, io: &Io) -> Result<u64, AllocError>
+    pub fn carry_out(&mut self, io: &Io) -> Result<u64, AllocError>
         ensures ok { IfOk result (λ stamp. self.new ≡ self.old ++ done_of io.now stamp ∷ []) }
         ensures stamp { IfOk result (Answers self.old io.now) }
         ensures err { OnErr result (self.new ≡ self.old) }
@@ -87,7 +87,7 @@ impl Store {
 }
 
 /// What the line answers. A write or a trim leaves its stamp.
-fn answer(stamps: &mut Stamps, alloc: Global, io: &Io) -> Result<u64, AllocError>
+fn answer(stamps: &mut Segments, alloc: Global, io: &Io) -> Result<u64, AllocError>
     requires { is_sound (2 ^ 88) stamps.old ≡ true }
     ensures ok { IfOk result (CarriesOut stamps.old stamps.new io.now) }
     ensures err { OnErr result (IsRefined (2 ^ 88) stamps.old stamps.new) }
@@ -106,7 +106,7 @@ fn answer(stamps: &mut Stamps, alloc: Global, io: &Io) -> Result<u64, AllocError
 }
 
 /// Leaves the line's number as the stamp of each sector that it covers.
-fn leave_stamp(stamps: &mut Stamps, alloc: Global, io: &Io) -> Result<(), AllocError>
+fn leave_stamp(stamps: &mut Segments, alloc: Global, io: &Io) -> Result<(), AllocError>
     requires { is_sound (2 ^ 88) stamps.old ≡ true }
     ensures small { FitsTypes io.now }
     ensures sound { is_sound (2 ^ 88) stamps.new ≡ true }
@@ -114,9 +114,9 @@ fn leave_stamp(stamps: &mut Stamps, alloc: Global, io: &Io) -> Result<(), AllocE
     ensures err { OnErr result (IsRefined (2 ^ 88) stamps.old stamps.new) }
 {
     let (first, end) = span(io);
-    stamps.cut(alloc, WIDTH, first)?;
-    stamps.cut(alloc, WIDTH, end)?;
-    stamps.fill(WIDTH, first, end, io.line);
+    stamps.split_at(alloc, WIDTH, first)?;
+    stamps.split_at(alloc, WIDTH, end)?;
+    stamps.assign(WIDTH, first, end, io.line);
     Ok(())
 }
 

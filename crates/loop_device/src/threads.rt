@@ -41,7 +41,7 @@ type Handle<'s> = PromisedHandle<Worked, Part<'s>>;
 /// Carries out the log with the threads that the setup asks for, one for each hand: the first of them complete and the
 /// others submit. All have ended when it returns. Returns the hands that came back: all but those of threads that could
 /// not be started, which is a want of memory.
-pub(crate) fn carry_by_threads<B: Tagged + Send + Sync, G: Gate, R: Threads + Wait + Sync>(
+pub(crate) fn run_threads<B: Tagged + Send + Sync, G: Gate, R: Threads + Wait + Sync>(
     rt: &R,
     alloc: Global,
     log: &Log,

@@ -6,7 +6,7 @@ use crate::fault::{LogCause, LogFault, LogNumber};
 use crate::io::Log;
 use crate::log_reader::Reader;
 use std::alloc::Global;
-use tag_lines::{BLANK, Misfit, cut, has_gap, number};
+use tag_lines::{Misfit, cut_word, has_gap, number};
 
 /// What the lines read so far say, and the time of the last one.
 #[derive(Drop)]
@@ -65,7 +65,7 @@ fn behind_time(last: u64, line: &[u8]) -> Result<(u64, &[u8]), LogCause>
     if has_gap(line) {
         return Err(LogCause::BadLine(Misfit::EmptyWord));
     }
-    let (word, rest) = cut(line, BLANK);
+    let (word, rest) = cut_word(line);
     let plain = match rest {
         Some(plain) => plain,
         None => return Err(LogCause::BadLine(Misfit::WordCount)),

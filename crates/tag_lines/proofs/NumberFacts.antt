@@ -19,11 +19,6 @@ chosen : (limit value : ℕ) (numeral below : Bool) → (numeral && below) ≡ f
     → cond (numeral && below) (Some value) None ≡ None
 chosen limit value numeral below h = ap (λ test. cond test (Some value) None) h
 
--- a word that has another byte spells no number
-pub no_numeral : (limit : ℕ) (word : List ℕ) → all_ascii_digits word ≡ false → number_below limit word ≡ None
-no_numeral limit word h =
-    ap (λ test. cond (test && nat_lt (digits_value 10 word) limit) (Some (digits_value 10 word)) None) h
-
 -- a number at the limit or above is none
 pub too_large : (limit : ℕ) (word : List ℕ) → limit ≤ digits_value 10 word → number_below limit word ≡ None
 too_large limit word h =

@@ -5,7 +5,7 @@ ghost use Rattle.tag_lines.specs.Readings.{AreReadings, IsListFault};
 ghost use Rattle.tag_lines.specs.EventList.{event_of, single_of, masked_of, single_event, masked_event};
 
 use crate::fault::{FaultyLine, LineFault, ListFault, Misfit};
-use crate::lines::{BLANK, LINE_FEED, cut, has_gap};
+use crate::lines::{cut_line, cut_word, has_gap};
 use crate::numbers::{number, short_number};
 use std::alloc::Global;
 use tag_model::Event;
@@ -104,7 +104,7 @@ pub fn events(alloc: Global, text: &[u8]) -> Result<Vec<Event>, ListFault>
     let mut events = Vec::new(alloc);
     let mut rest = text;
     while !rest.is_empty() {
-        let (line, after) = cut(rest, LINE_FEED);
+        let (line, after) = cut_line(rest);
         let event = match event(line) {
             Ok(event) => event,
             Err(cause) => {
@@ -115,10 +115,7 @@ pub fn events(alloc: Global, text: &[u8]) -> Result<Vec<Event>, ListFault>
         if events.push(event).is_err() {
             return Err(ListFault::Memory);
         }
-        rest = match after {
-            Some(after) => after,
-            None => &[],
-        };
+        rest = after;
     }
     Ok(events)
 }
@@ -130,22 +127,22 @@ fn event(line: &[u8]) -> Result<Event, LineFault>
     if has_gap(line) {
         return Err(LineFault::BadLine(Misfit::EmptyWord));
     }
-    let (name, rest) = cut(line, BLANK);
+    let (name, rest) = cut_word(line);
     let rest = match rest {
         Some(rest) => rest,
         None => return lone_event(name),
     };
-    let (caller, rest) = cut(rest, BLANK);
+    let (caller, rest) = cut_word(rest);
     let rest = match rest {
         Some(rest) => rest,
         None => return Err(UNKNOWN_EVENT),
     };
-    let (on, rest) = cut(rest, BLANK);
+    let (on, rest) = cut_word(rest);
     let rest = match rest {
         Some(rest) => rest,
         None => return single_event(name, caller, on),
     };
-    let (mask, rest) = cut(rest, BLANK);
+    let (mask, rest) = cut_word(rest);
     match rest {
         Some(_) => Err(UNKNOWN_EVENT),
         None => masked_event(name, caller, on, mask),

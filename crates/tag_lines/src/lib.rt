@@ -14,7 +14,7 @@ mod tag_list;
 pub use dialect::Dialect;
 pub use event_list::events;
 pub use fault::{FaultyLine, LineFault, ListFault, Misfit};
-pub use lines::{BLANK, LINE_FEED, MAX_INPUT, cut, has_gap};
+pub use lines::{LINE_FEED, MAX_INPUT, cut_line, cut_word, has_gap};
 pub use numbers::{number, short_number};
 pub use order::{Command, Order, read_order};
 pub use order_list::orders;

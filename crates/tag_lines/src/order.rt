@@ -6,7 +6,7 @@ ghost use Rattle.tag_lines.specs.ScriptLines.{lone_line, word_line, numbered_lin
 
 use crate::dialect::Dialect;
 use crate::fault::{LineFault, Misfit};
-use crate::lines::{BLANK, cut, has_gap};
+use crate::lines::{cut_word, has_gap};
 use crate::numbers::short_number;
 use crate::tag_list::{TagList, read_tags};
 use std::alloc::{AllocError, Global};
@@ -170,12 +170,12 @@ pub fn read_order(
     if has_gap(line) {
         return Ok(Err(LineFault::BadLine(Misfit::EmptyWord)));
     }
-    let (caller, rest) = cut(line, BLANK);
+    let (caller, rest) = cut_word(line);
     let rest = match rest {
         Some(rest) => rest,
         None => return Ok(Err(LineFault::BadLine(Misfit::WordCount))),
     };
-    let (name, rest) = cut(rest, BLANK);
+    let (name, rest) = cut_word(rest);
     let words = match rest {
         Some(words) => words,
         None => return Ok(lone_order(callers, caller, Command::named(dialect, name))),
@@ -184,7 +184,7 @@ pub fn read_order(
         let tags = read_tags(alloc, words)?;
         return Ok(listed_order(callers, caller, tags));
     }
-    let (word, more) = cut(words, BLANK);
+    let (word, more) = cut_word(words);
     match more {
         Some(_) => Ok(Err(UNKNOWN_COMMAND)),
         None => Ok(word_order(dialect, callers, caller, name, word)),

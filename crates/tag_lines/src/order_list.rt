@@ -5,7 +5,7 @@ ghost use Rattle.tag_lines.specs.ScriptLines.{order_of};
 
 use crate::dialect::Dialect;
 use crate::fault::{FaultyLine, ListFault};
-use crate::lines::{LINE_FEED, cut};
+use crate::lines::cut_line;
 use crate::order::{Order, read_order};
 use std::alloc::Global;
 
@@ -24,7 +24,7 @@ pub fn orders(
     let mut orders = Vec::new(alloc);
     let mut rest = text;
     while !rest.is_empty() {
-        let (line, after) = cut(rest, LINE_FEED);
+        let (line, after) = cut_line(rest);
         let order = match read_order(alloc, dialect, callers, line) {
             Ok(Ok(order)) => order,
             Ok(Err(cause)) => {
@@ -36,10 +36,7 @@ pub fn orders(
         if orders.push(order).is_err() {
             return Err(ListFault::Memory);
         }
-        rest = match after {
-            Some(after) => after,
-            None => &[],
-        };
+        rest = after;
     }
     Ok(orders)
 }

@@ -2,7 +2,7 @@
 ghost use Rattle.std.specs.Prelude.{◌≡◌, ◌^◌, IfOk};
 ghost use Rattle.tag_lines.specs.Lines.{parts_of, numbers_below};
 
-use crate::lines::{BLANK, cut};
+use crate::lines::cut_word;
 use crate::numbers::short_number;
 use std::alloc::{AllocError, Global};
 use std::marker::Model;
@@ -39,7 +39,7 @@ pub fn read_tags(alloc: Global, words: &[u8]) -> Result<Result<TagList, u64>, Al
     let mut tags = Vec::new(alloc);
     let mut rest = words;
     loop {
-        let (word, after) = cut(rest, BLANK);
+        let (word, after) = cut_word(rest);
         match short_number(word) {
             Some(tag) => tags.push(tag)?,
             None => return Ok(Err(FIRST + tags.len() as u64)),

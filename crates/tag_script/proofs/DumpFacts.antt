@@ -1,5 +1,5 @@
 -- Bytes made of bits.
-use Rattle.std.proofs.Common.{◌≡◌, ℕ, zero, suc, ◌+◌, ◌*◌, ◌^◌, ◌<◌, ◌≤◌, Bool, true, false, cond, ap, arith}
+use Rattle.std.proofs.Common.{◌≡◌, ℕ, zero, suc, ◌+◌, ◌*◌, ◌^◌, ◌<◌, ◌≤◌, Bool, true, false, cond, arith}
 use Rattle.sums.specs.Below.{sum_below}
 use Rattle.tag_script.specs.Dump.{bit_value, is_held_tag}
 use Rattle.tag_script.specs.PlainWorld.{PlainWorld}
@@ -7,11 +7,6 @@ use Rattle.tag_script.specs.PlainWorld.{PlainWorld}
 value_le : (b : Bool) (x : ℕ) → cond b x 0 ≤ x
 value_le true x = omega arith
 value_le false x = omega arith
-
--- one more bit
-pub bits-next : (w : PlainWorld) (offset n : ℕ)
-    → sum_below (bit_value w offset) (n + 1) ≡ sum_below (bit_value w offset) n + bit_value w offset n
-bits-next w offset n = let e : n + 1 ≡ suc n = omega arith in ap (sum_below (bit_value w offset)) e
 
 -- the sum of the first n bits is below 2 ^ n
 pub bits-below : (w : PlainWorld) (offset n : ℕ) → sum_below (bit_value w offset) n < 2 ^ n

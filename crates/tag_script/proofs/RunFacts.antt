@@ -1,5 +1,5 @@
 -- Orders carried out one after another, and the world of a plain caller.
-use Rattle.std.proofs.Common.{◌≡◌, ℕ, ◌+◌, ◌≤◌, true, false, arith, Option, Some, None, is_some, List, [], ◌∷◌, ◌++◌, refl, ap, ◌∙◌, append-nil}
+use Rattle.std.proofs.Common.{◌≡◌, ℕ, ◌+◌, List, [], ◌∷◌, ◌++◌, ap, ◌∙◌, append-nil}
 use Rattle.std.proofs.lemmas.List.Concat.{flat_map-append}
 use Rattle.tag_lines.specs.declared.order.Order.{Order}
 use Rattle.tag_model.specs.declared.totals.Totals.{Totals}
@@ -8,7 +8,6 @@ use Rattle.tag_script.specs.declared.plain_caller.PlainCaller.{PlainCaller}
 use Rattle.tag_script.specs.Answers.{line_of, text_of}
 use Rattle.tag_script.specs.PlainCallers.{plain_world_of}
 use Rattle.tag_script.specs.Outputs.{ObeysAll, over, obeyed, IsRun}
-use Rattle.tag_script.specs.PlainWorld.{won_by}
 use Rattle.tag_search.specs.Plain.{Plain, plain_words}
 use Rattle.tag_search.specs.Pool.{pool_of}
 
@@ -66,16 +65,3 @@ same_world p q layout words = λ z. record {
   won = p.won;
   back = p.back;
 }
-
--- one tag is counted for an answer with a tag, and none for one without
-pub counts_one : (won : ℕ) (answer : Option ℕ) → is_some answer ≡ true → won + 1 ≡ won + won_by answer
-counts_one won None h = absurd (let wrong : false ≡ true = h in cc)
-counts_one won (Some tag) h = refl
-
-pub counts_none : (won : ℕ) (answer : Option ℕ) → is_some answer ≡ false → won ≡ won + won_by answer
-counts_none won None h = omega arith
-counts_none won (Some tag) h = absurd (let wrong : true ≡ false = h in cc)
-
-pub counts_few : (answer : Option ℕ) → won_by answer ≤ 64
-counts_few None = omega arith
-counts_few (Some tag) = omega arith

@@ -1,6 +1,6 @@
 //! The world of a plain script: a map with only one caller.
 ghost use Rattle.std.specs.Prelude.{ℕ, false, min, ◌≡◌, ◌+◌, ◌*◌, ◌^◌, ◌<◌, ◌≤◌, IfOk, ◌↔◌, IsTrue};
-ghost use Rattle.tag_script.specs.PlainWorld.{opened, Gets, GetsShallow, Batches, Clears, ClearsBatch, won_in, held_in, aside_in};
+ghost use Rattle.tag_script.specs.PlainWorld.{opened, Gets, GetsShallow, Batches, Clears, ClearsBatch, won_by, won_in, held_in, aside_in};
 ghost use Rattle.tag_layout.specs.Layout.{word_bits, words, tag_at};
 ghost use Rattle.tag_script.specs.Commands.{get_visits, shown_of};
 ghost use Rattle.tag_script.specs.Dump.{is_held_tag};
@@ -78,9 +78,7 @@ impl PlainCaller {
         ensures { Gets (get_visits (plain_world_of self.old)) (plain_world_of self.old) result (plain_world_of self.new) }
     {
         let answer = self.port.choose(&mut self.hint);
-        if answer.is_some() {
-            self.won += 1;
-        }
+        self.won += won_by(answer);
         answer
     }
 
@@ -93,9 +91,7 @@ impl PlainCaller {
             return Err(TagFault::TooShallow);
         }
         let answer = self.port.choose_shallow(&mut self.hint, depth);
-        if answer.is_some() {
-            self.won += 1;
-        }
+        self.won += won_by(answer);
         Ok(answer)
     }
 
@@ -214,6 +210,14 @@ impl PlainCaller {
             map_nr: layout.words(),
         }
     }
+}
+
+/// The number of tags that a get won.
+fn won_by(answer: Option<u32>) -> u64
+    ensures value { result ≡ won_by answer }
+    ensures few { result ≤ 1 }
+{
+    u64::from(answer.is_some())
 }
 
 /// The number of tags that a batch won.

@@ -31,7 +31,7 @@ fn stamps(rt: HostRuntime) -> Result<(), Fail> {
         (io(8, IoKind::Read, 4096, 1), 0),
         (io(9, IoKind::Read, 0, 0), 0),
     ] {
-        assert_eq!(rt; store.carry(&io)?, stamp);
+        assert_eq!(rt; store.carry_out(&io)?, stamp);
     }
     assert_eq!(rt; store.history().len(), 6);
     Ok(())
@@ -40,10 +40,10 @@ fn stamps(rt: HostRuntime) -> Result<(), Fail> {
 #[test]
 fn the_greatest_stamp_is_not_always_the_newest(rt: HostRuntime) -> Result<(), Fail> {
     let mut store = Store::open(rt.alloc());
-    store.carry(&io(9, IoKind::Write, 0, 512))?;
-    store.carry(&io(3, IoKind::Write, 512, 512))?;
-    assert_eq!(rt; store.carry(&io(10, IoKind::Read, 0, 1024))?, 9);
-    assert_eq!(rt; store.carry(&io(11, IoKind::Read, 512, 512))?, 3);
+    store.carry_out(&io(9, IoKind::Write, 0, 512))?;
+    store.carry_out(&io(3, IoKind::Write, 512, 512))?;
+    assert_eq!(rt; store.carry_out(&io(10, IoKind::Read, 0, 1024))?, 9);
+    assert_eq!(rt; store.carry_out(&io(11, IoKind::Read, 512, 512))?, 3);
     Ok(())
 }
 
@@ -51,14 +51,14 @@ fn the_greatest_stamp_is_not_always_the_newest(rt: HostRuntime) -> Result<(), Fa
 fn the_last_sector_of_a_name(rt: HostRuntime) -> Result<(), Fail> {
     let far = 9_223_372_036_854_775_807;
     let mut store = Store::open(rt.alloc());
-    store.carry(&io(3, IoKind::Write, far, far))?;
-    assert_eq!(rt; store.carry(&io(4, IoKind::Read, far, 1))?, 3);
-    assert_eq!(rt; store.carry(&io(5, IoKind::Read, 0, far - 1_024))?, 0);
+    store.carry_out(&io(3, IoKind::Write, far, far))?;
+    assert_eq!(rt; store.carry_out(&io(4, IoKind::Read, far, 1))?, 3);
+    assert_eq!(rt; store.carry_out(&io(5, IoKind::Read, 0, far - 1_024))?, 0);
     let other = Io {
         name: 1,
         ..io(6, IoKind::Read, 0, far)
     };
-    assert_eq!(rt; store.carry(&other)?, 0);
+    assert_eq!(rt; store.carry_out(&other)?, 0);
     Ok(())
 }
 
@@ -68,13 +68,13 @@ fn want_of_memory_leaves_the_store_as_it_was(rt: HostRuntime) -> Result<(), Fail
     for (line, stamp) in [(3, 3), (4, 4)] {
         let write = io(line, IoKind::Write, line * 512, 1024);
         let before = store.history().len();
-        if store.carry(&write).is_err() {
+        if store.carry_out(&write).is_err() {
             assert_eq!(rt; store.history().len(), before);
-            assert_eq!(rt; store.carry(&write)?, stamp);
+            assert_eq!(rt; store.carry_out(&write)?, stamp);
         }
     }
-    assert_eq!(rt; store.carry(&io(5, IoKind::Read, 0, 2_048))?, 3);
-    assert_eq!(rt; store.carry(&io(6, IoKind::Read, 0, 4_096))?, 4);
+    assert_eq!(rt; store.carry_out(&io(5, IoKind::Read, 0, 2_048))?, 3);
+    assert_eq!(rt; store.carry_out(&io(6, IoKind::Read, 0, 4_096))?, 4);
     Ok(())
 }
 

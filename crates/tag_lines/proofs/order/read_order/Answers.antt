@@ -1,74 +1,39 @@
--- The words of a line are those that were cut off it.
-use Rattle.std.proofs.Common.{◌≡◌, ◌^◌, true, false, ◌∙◌, sym, ap, rules}
-use Rattle.std.specs.Prelude.{codes, Option}
+-- What follows the name of a list are its tags, and what follows one argument is too much.
+use Rattle.std.proofs.Common.{◌≡◌, ◌^◌, true, false, List, ℕ, ◌∷◌, sym, ap, ◌∙◌, rules, arith}
+use Rattle.std.specs.Prelude.{codes}
 use Rattle.std.specs.Str.{bytes_eq}
-use Rattle.tag_lines.specs.declared.order.Command.{Command}
-use Rattle.tag_lines.specs.Lines.{number_below}
-use Rattle.tag_lines.specs.ScriptLines.{order_of, lone_line, listed_line}
-use Rattle.tag_lines.proofs.LineFacts.{is_whole, has_rest}
-use Rattle.tag_lines.proofs.WordFacts.{one_word, two_words}
-use Rattle.tag_lines.proofs.OrderLineFacts.{listed_words, word_words, more_words}
+use Rattle.std.proofs.lemmas.Grind.{common_steps}
+use Rattle.tag_lines.specs.declared.dialect.Dialect.{Dialect}
+use Rattle.tag_lines.specs.declared.tag_list.TheConstants.{FIRST}
+use Rattle.tag_lines.specs.Lines.{parts_of, line_words, number_below, numbers_below}
+use Rattle.tag_lines.specs.ScriptLines.{order_of, listed_line, unknown}
+use Rattle.tag_lines.proofs.LineFacts.{first_part}
 use Rattle.tag_lines.proofs.order.read_order.Goals as goal
 
-pub returns-in-None : goal.returns-in-None
-returns-in-None c =
-    let full = sym c.has_gap.ensures ∙ c.if-has_gap.false in
-    let whole = is_whole c.cut.result.1
-    (λ r. r.now) c.args.line.now c.cut.result.0.now 32 c.cut.ensures.whole c.in-None.is in
-    sym (one_word (order_of c.args.dialect c.args.callers) c.args.line.now full c.cut.result.0.now c.cut.ensures.part
-    whole)
+module _ (dialect : Dialect) (callers : ℕ) (a b text : List ℕ) where
+  -- a list of tags
+  listed : bytes_eq b (codes "clear-batch") ≡ true → order_of dialect callers (a ∷ b ∷ parts_of text)
+      ≡ listed_line callers (number_below (2 ^ 32) a) (numbers_below (2 ^ 32) FIRST (parts_of text))
+  listed is = rw (first_part text, is)
 
-pub returns-in-None-rest : goal.returns-in-None-rest
-returns-in-None-rest c =
-    let full = sym c.has_gap.ensures ∙ c.if-has_gap.false in
-    let first = has_rest c.cut.result.1 (λ r. r.now) c.args.line.now c.cut.result.0.now 32 c.in-Some.rest
-    c.cut.ensures.whole c.in-Some.is in
-    let second = is_whole c.cut-2.result.1 (λ r. r.now) c.in-Some.rest.now c.cut-2.result.0.now 32 c.cut-2.ensures.whole
-    c.in-None-rest.is in
-    c.lone_order.ensures
-    ∙ ap (λ (o : Option Command). lone_line c.args.callers o (number_below (2 ^ 32) c.cut.result.0.now)) c.named.ensures
-    ∙ sym (two_words (order_of c.args.dialect c.args.callers) c.args.line.now full c.cut.result.0.now c.in-Some.rest.now
-    c.cut-2.result.0.now c.cut.ensures.part first c.cut-2.ensures.part second)
+  -- more than one argument of a name that takes no list
+  longer : (d : List ℕ) → bytes_eq b (codes "clear-batch") ≡ false
+      → order_of dialect callers (a ∷ b ∷ d ∷ parts_of text) ≡ unknown
+  longer d is = rw (first_part text, is)
 
 pub returns-then-eq : goal.returns-then-eq
 returns-then-eq c =
-    let full = sym c.has_gap.ensures ∙ c.if-has_gap.false in
-    let first = has_rest c.cut.result.1 (λ r. r.now) c.args.line.now c.cut.result.0.now 32 c.in-Some.rest
-    c.cut.ensures.whole c.in-Some.is in
-    let second = has_rest c.cut-2.result.1 (λ r. r.now) c.in-Some.rest.now c.cut-2.result.0.now 32 c.in-Some-rest.words
-    c.cut-2.ensures.whole c.in-Some-rest.is in
-    let name : bytes_eq c.cut-2.result.0.now (codes "clear-batch") ≡ true = search rules in
-    c.listed_order.ensures
-    ∙ ap (listed_line c.args.callers (number_below (2 ^ 32) c.cut.result.0.now)) c.in_ok-tags.ensures
-    ∙ sym (listed_words c.args.dialect c.args.callers c.args.line.now full c.cut.result.0.now c.in-Some.rest.now
-    c.cut-2.result.0.now
-    c.in-Some-rest.words.now c.cut.ensures.part first c.cut-2.ensures.part second name)
+    let caller = c.cut_word.result.0.now in let name = c.cut_word-2.result.0.now in
+    let rest = c.in-Some-rest.words.now in
+    let words : line_words c.args.line.now ≡ caller ∷ name ∷ parts_of rest = grind (arith, common_steps) in
+    c.listed_order.ensures ∙ ap (listed_line c.args.callers (number_below (2 ^ 32) caller)) c.in_ok-tags.ensures
+    ∙ sym (ap (order_of c.args.dialect c.args.callers) words
+    ∙ listed c.args.dialect c.args.callers caller name rest (search rules))
 
 pub returns-in-Some-more : goal.returns-in-Some-more
 returns-in-Some-more c =
-    let full = sym c.has_gap.ensures ∙ c.if-has_gap.false in
-    let first = has_rest c.cut.result.1 (λ r. r.now) c.args.line.now c.cut.result.0.now 32 c.in-Some.rest
-    c.cut.ensures.whole c.in-Some.is in
-    let second = has_rest c.cut-2.result.1 (λ r. r.now) c.in-Some.rest.now c.cut-2.result.0.now 32 c.in-Some-rest.words
-    c.cut-2.ensures.whole c.in-Some-rest.is in
-    let third = has_rest c.cut-3.result.1 (λ r. r.now) c.in-Some-rest.words.now c.cut-3.result.0.now 32
-    c.in-Some-more.field-0 c.cut-3.ensures.whole c.in-Some-more.is in
-    let name : bytes_eq c.cut-2.result.0.now (codes "clear-batch") ≡ false = search rules in
-    sym (more_words c.args.dialect c.args.callers c.args.line.now full c.cut.result.0.now c.in-Some.rest.now
-    c.cut-2.result.0.now
-    c.in-Some-rest.words.now c.cut-3.result.0.now c.in-Some-more.field-0.now
-    c.cut.ensures.part first c.cut-2.ensures.part second c.cut-3.ensures.part third name)
-
-pub returns-in-None-more : goal.returns-in-None-more
-returns-in-None-more c =
-    let full = sym c.has_gap.ensures ∙ c.if-has_gap.false in
-    let first = has_rest c.cut.result.1 (λ r. r.now) c.args.line.now c.cut.result.0.now 32 c.in-Some.rest
-    c.cut.ensures.whole c.in-Some.is in
-    let second = has_rest c.cut-2.result.1 (λ r. r.now) c.in-Some.rest.now c.cut-2.result.0.now 32 c.in-Some-rest.words
-    c.cut-2.ensures.whole c.in-Some-rest.is in
-    let third = is_whole c.cut-3.result.1 (λ r. r.now) c.in-Some-rest.words.now c.cut-3.result.0.now 32
-    c.cut-3.ensures.whole c.in-None-more.is in
-    let name : bytes_eq c.cut-2.result.0.now (codes "clear-batch") ≡ false = search rules in
-    c.word_order.ensures ∙ sym (word_words c.args.dialect c.args.callers c.args.line.now full c.cut.result.0.now
-    c.in-Some.rest.now c.cut-2.result.0.now c.in-Some-rest.words.now
-    c.cut-3.result.0.now c.cut.ensures.part first c.cut-2.ensures.part second c.cut-3.ensures.part third name)
+    let caller = c.cut_word.result.0.now in let name = c.cut_word-2.result.0.now in
+    let word = c.cut_word-3.result.0.now in let rest = c.in-Some-more.field-0.now in
+    let words : line_words c.args.line.now ≡ caller ∷ name ∷ word ∷ parts_of rest = grind (arith, common_steps) in
+    sym (ap (order_of c.args.dialect c.args.callers) words
+    ∙ longer c.args.dialect c.args.callers caller name rest word (search rules))

@@ -4,7 +4,7 @@ use Rattle.loop_device.specs.declared.io.Done.{Done}
 use Rattle.loop_device.specs.History.{done_of}
 use Rattle.loop_device.specs.Keys.{IsKept}
 use Rattle.loop_device.proofs.Keeping.{extends}
-use Rattle.loop_device.proofs.store.Store.carry.Goals as goal
+use Rattle.loop_device.proofs.store.Store.carry_out.Goals as goal
 
 pub invariant_of-self-2 : goal.invariant_of-self-2
 invariant_of-self-2 c =

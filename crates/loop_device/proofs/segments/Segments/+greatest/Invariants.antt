@@ -1,5 +1,5 @@
 -- Each half is narrower than the row.
-use Rattle.loop_device.proofs.halving.Stamps.+greatest.Given as goal
+use Rattle.loop_device.proofs.segments.Segments.+greatest.Given as goal
 
 abbrev pub decreases-greatest : goal.decreases-greatest
 decreases-greatest l = l.width
