@@ -12,7 +12,7 @@ use crate::gate::Gate;
 use crate::io::{Io, Log};
 use crate::store::Store;
 use std::sync::{Mutex, Wait};
-use tag_sets::{Hand, Tags};
+use tag_sets::{Hand, Ring, Tags};
 
 /// Completes the request of a posted tag: takes the tag, carries out the line in its slot, clears the tag and returns
 /// the line. `Spurious` means that there is no such tag, that it was found not posted (a step in the hand's list), or
@@ -61,7 +61,7 @@ pub(crate) fn finish<G: Gate, W: Wait>(
         unreachable!()
     };
     let carried = carry_out_by_number(rt, line, log, store, gate);
-    let Ok(_woken) = tags.clear(hand, tag) else {
+    let Ok(_woken) = tags.clear::<Ring>(hand, tag) else {
         unreachable!()
     };
     match carried {

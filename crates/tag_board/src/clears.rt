@@ -7,7 +7,7 @@ ghost use Rattle.std.specs.Prelude.{length};
 ghost use Rattle.tag_board.specs.Replays.{Clears, ClearsList};
 
 use crate::board::Board;
-use tag_sets::TagFault;
+use tag_sets::{Ring, TagFault};
 
 impl Board {
     /// Gives a held tag back, and returns the number of waiters woken: 0 for a reserved tag. `NoSuchTag` for a tag past
@@ -22,7 +22,7 @@ impl Board {
         ensures searches { MovesIf caller (λ woken. PutsTag tag) (searchers_of self.old) result
             (searchers_of self.new) }
     {
-        self.tags.clear(&mut self.hands[caller as usize], tag)
+        self.tags.clear::<Ring>(&mut self.hands[caller as usize], tag)
     }
 
     /// Gives back 1 to 64 distinct held ordinary tags at once, and returns the number of waiters woken. `BadCount` for
@@ -38,6 +38,6 @@ impl Board {
             (searchers_of self.new) }
     {
         self.tags
-            .clear_batch(&mut self.hands[caller as usize], tags)
+            .clear_batch::<Ring>(&mut self.hands[caller as usize], tags)
     }
 }
