@@ -8,7 +8,7 @@ use Rattle.tag_sets.specs.Freed.{left_free}
 use Rattle.tag_c.specs.declared.status.Status.TheVariants.{BadHandle}
 use Rattle.tag_c.specs.Callers.{Caller, hand_of}
 use Rattle.tag_c.specs.Calls.{TellsLeft}
-use Rattle.tag_c.specs.Codes.{code_of, code_of_fault, code_of_get, code_of_batch}
+use Rattle.tag_c.specs.Codes.{code_of, code_of_fault, code_of_get}
 use Rattle.tag_c.specs.Left.{answer_of, left_of}
 use Rattle.tag_c.proofs.Calling.{as_stored, stored}
 
@@ -76,17 +76,7 @@ no_bad_get (Ok (Some tag)) is = absurd cc
 no_bad_get (Ok None) is = absurd cc
 no_bad_get (Err fault) is = no_bad_fault fault is
 
-no_bad_batch : (answer : Result (Option (ℕ × ℕ)) TagFault) → ¬ (code_of_batch answer ≡ code_of BadHandle)
-no_bad_batch (Ok (Some run)) is = absurd cc
-no_bad_batch (Ok None) is = absurd cc
-no_bad_batch (Err fault) is = no_bad_fault fault is
-
 -- so whoever has made a get was no bad handle
 pub no_bad_handle : {P : Type 0} {code : ℤ} (answer : Result (Option ℕ) TagFault) → code ≡ code_of_get answer
     → mag code < 2147483648 → as_stored code ≡ code_of BadHandle → P
 no_bad_handle {code = code} answer is small bad = absurd (no_bad_get answer (sym is ∙ (sym (stored code small) ∙ bad)))
-
-pub no_bad_handle_batch : {P : Type 0} {code : ℤ} (answer : Result (Option (ℕ × ℕ)) TagFault)
-    → code ≡ code_of_batch answer → mag code < 2147483648 → as_stored code ≡ code_of BadHandle → P
-no_bad_handle_batch {code = code} answer is small bad =
-    absurd (no_bad_batch answer (sym is ∙ (sym (stored code small) ∙ bad)))

@@ -12,11 +12,6 @@ pub some_of : (value : Option Object) → flag_of value ≡ 1 → (object : Obje
 some_of None e = absurd (omega arith)
 some_of (Some object) e = (object, refl)
 
--- any other flag means that there is none
-pub none_of : (value : Option Object) → flag_of value ≢ 1 → value ≡ None
-none_of None h = refl
-none_of (Some object) h = absurd (h refl)
-
 -- a flag other than 0 means that there is an object
 pub is_some_of : (value : Option Object) → flag_of value ≢ 0 → IsSome value
 is_some_of None h = absurd (h refl)

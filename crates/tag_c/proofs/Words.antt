@@ -42,11 +42,6 @@ pub run_on : {M : Type 1} (𝓤 : Ura M) (Run : List Val → SProp 𝓤) (vs ws 
 run_on 𝓤 Run vs ws same = subst (λ (us : List Val). ent 𝓤 (Run (ws ++ [])) (Run (us ++ []))) (sym same)
     (id⊢ 𝓤 (Run (ws ++ [])))
 
-pub both_tt : (x y : Bool) → T x → T y → T (x && (y && true))
-both_tt true true s t = tt
-both_tt true false s t = absurd t
-both_tt false y s t = absurd s
-
 module _ (R Z : RattleType) (L : Laws Z) (g : Ghosts Z.Denot) where
   abbrev pub BoxParts : RattleType
   BoxParts = parts.the_row R Z g

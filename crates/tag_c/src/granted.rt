@@ -1,16 +1,15 @@
 //! Clears that also say in which wait groups they granted wakeups, through the handle of a hand. Each is described in
 //! tags.h.
 ghost use Rattle.std.specs.Prelude.{◌≡◌};
-ghost use Rattle.tag_c.specs.Calls.{Calls, CallsBy, HandCalls, CacheCalls, Through, DoesClearGranted, DoesClearBatch};
+ghost use Rattle.tag_c.specs.Calls.{CallsBy, Through, DoesClearGranted, DoesClearBatch};
 ghost use Rattle.tag_c.specs.Codes.{IsRefusal, code_of_grants};
 ghost use Rattle.tag_c.specs.Grants.{Filling, Fills};
 
+use crate::any_hand::{AnyHand, on_hand};
 use crate::cached::CachedMember;
 use crate::codes::grants_code;
 use crate::handle::Handle;
 use crate::member::Member;
-use crate::object::{Kind, Object};
-use crate::status::Status;
 use tag_sets::{Grants, TagFault};
 
 /// Whom a clear granted a wakeup.
@@ -40,22 +39,27 @@ pub(crate) fn fill(answer: Result<Grants, TagFault>, granted: &mut Granted) -> i
     grants_code(answer)
 }
 
-impl Member {
+/// Clears that also say in which wait groups they granted wakeups.
+trait GrantedCalls: AnyHand {
     /// Gives a held tag back, fills in whom that granted a wakeup, and returns how many waiters they are.
-    #[inline(always)]
     fn clear_granted(&mut self, tag: u32, granted: &mut Granted) -> i32
-        ensures calls { HandCalls (Through (Filling granted.new (DoesClearGranted tag)) code_of_grants result) self.old self.new }
-        ensures kept { IsRefusal result → granted.new ≡ granted.old }
-    {
+        ensures calls { Self.changes (Through (Filling granted.new (DoesClearGranted tag)) code_of_grants result) self.old self.new }
+        ensures kept { IsRefusal result → granted.new ≡ granted.old };
+
+    /// Gives held ordinary tags back, fills in whom that granted a wakeup, and returns how many waiters they are.
+    fn clear_batch_granted(&mut self, tags: &[u32], granted: &mut Granted) -> i32
+        ensures calls { Self.changes (Through (Filling granted.new (DoesClearBatch tags.now)) code_of_grants result) self.old self.new }
+        ensures kept { IsRefusal result → granted.new ≡ granted.old };
+}
+
+impl GrantedCalls for Member {
+    #[inline(always)]
+    fn clear_granted(&mut self, tag: u32, granted: &mut Granted) -> i32 {
         fill(self.shared.tags.clear_granted(&mut self.hand, tag), granted)
     }
 
-    /// Gives held ordinary tags back, fills in whom that granted a wakeup, and returns how many waiters they are.
     #[inline(always)]
-    fn clear_batch_granted(&mut self, tags: &[u32], granted: &mut Granted) -> i32
-        ensures calls { HandCalls (Through (Filling granted.new (DoesClearBatch tags.now)) code_of_grants result) self.old self.new }
-        ensures kept { IsRefusal result → granted.new ≡ granted.old }
-    {
+    fn clear_batch_granted(&mut self, tags: &[u32], granted: &mut Granted) -> i32 {
         fill(
             self.shared.tags.clear_batch_granted(&mut self.hand, tags),
             granted,
@@ -63,54 +67,18 @@ impl Member {
     }
 }
 
-impl CachedMember {
-    /// Gives a held tag back, fills in whom that granted a wakeup, and returns how many waiters they are.
+impl GrantedCalls for CachedMember {
     #[inline(never)]
-    fn clear_granted(&mut self, tag: u32, granted: &mut Granted) -> i32
-        ensures calls { CacheCalls (Through (Filling granted.new (DoesClearGranted tag)) code_of_grants result) self.old self.new }
-        ensures kept { IsRefusal result → granted.new ≡ granted.old }
-    {
+    fn clear_granted(&mut self, tag: u32, granted: &mut Granted) -> i32 {
         fill(self.cache.clear_granted(&self.shared.tags, tag), granted)
     }
 
-    /// Gives held ordinary tags back, fills in whom that granted a wakeup, and returns how many waiters they are.
     #[inline(never)]
-    fn clear_batch_granted(&mut self, tags: &[u32], granted: &mut Granted) -> i32
-        ensures calls { CacheCalls (Through (Filling granted.new (DoesClearBatch tags.now)) code_of_grants result) self.old self.new }
-        ensures kept { IsRefusal result → granted.new ≡ granted.old }
-    {
+    fn clear_batch_granted(&mut self, tags: &[u32], granted: &mut Granted) -> i32 {
         fill(
             self.cache.clear_batch_granted(&self.shared.tags, tags),
             granted,
         )
-    }
-}
-
-impl Object {
-    /// Gives a held tag back, fills in whom that granted a wakeup, and returns how many waiters they are.
-    #[inline]
-    pub(crate) fn clear_granted(&mut self, tag: u32, granted: &mut Granted) -> i32
-        ensures calls { Calls (Through (Filling granted.new (DoesClearGranted tag)) code_of_grants result) result self.old self.new }
-        ensures kept { IsRefusal result → granted.new ≡ granted.old }
-    {
-        match &mut self.kind {
-            Kind::Member(member) => member.clear_granted(tag, granted),
-            Kind::Cached(member) => member.clear_granted(tag, granted),
-            Kind::Pool(_) => Status::BadHandle.code(),
-        }
-    }
-
-    /// Gives held ordinary tags back, fills in whom that granted a wakeup, and returns how many waiters they are.
-    #[inline]
-    pub(crate) fn clear_batch_granted(&mut self, tags: &[u32], granted: &mut Granted) -> i32
-        ensures calls { Calls (Through (Filling granted.new (DoesClearBatch tags.now)) code_of_grants result) result self.old self.new }
-        ensures kept { IsRefusal result → granted.new ≡ granted.old }
-    {
-        match &mut self.kind {
-            Kind::Member(member) => member.clear_batch_granted(tags, granted),
-            Kind::Cached(member) => member.clear_batch_granted(tags, granted),
-            Kind::Pool(_) => Status::BadHandle.code(),
-        }
     }
 }
 
@@ -120,10 +88,7 @@ pub extern "C" fn tags_clear_granted(hand: &mut Handle, tag: u32, granted: &mut 
         hand.old.object.value hand.new.object.value }
     ensures kept { IsRefusal result → granted.new ≡ granted.old }
 {
-    let Some(object) = hand.lend() else {
-        return Status::BadHandle.code();
-    };
-    object.clear_granted(tag, granted)
+    on_hand!(hand.clear_granted(tag, granted))
 }
 
 #[unsafe(no_mangle)]
@@ -136,8 +101,5 @@ pub extern "C" fn tags_clear_batch_granted(
         hand.old.object.value hand.new.object.value }
     ensures kept { IsRefusal result → granted.new ≡ granted.old }
 {
-    let Some(object) = hand.lend() else {
-        return Status::BadHandle.code();
-    };
-    object.clear_batch_granted(tags, granted)
+    on_hand!(hand.clear_batch_granted(tags, granted))
 }

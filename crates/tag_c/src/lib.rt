@@ -1,6 +1,7 @@
 //! Tags for C programs: a handle for a pool of tags, and a handle for each thread that takes tags from it.
 #![tactic(auto)]
 
+mod any_hand;
 mod box_parts;
 mod cached;
 mod codes;
@@ -25,3 +26,4 @@ mod resizes;
 mod status;
 mod structs;
 mod values;
+mod waits;

@@ -1,15 +1,15 @@
 //! Reports which tags are held or busy, the sizes of a set, and the counts, through the handle of a hand. Each call is
 //! described in tags.h.
 ghost use Rattle.std.specs.Prelude.{◌≡◌};
-ghost use Rattle.tag_c.specs.Calls.{Calls, CallsBy, HandCalls, CacheCalls};
+ghost use Rattle.tag_c.specs.Calls.{CallsBy};
 ghost use Rattle.tag_c.specs.Codes.{IsRefusal};
 ghost use Rattle.tag_c.specs.Views.{SaysHeld, SaysBusy, SaysShown, SaysWakes};
 
+use crate::any_hand::{AnyHand, on_hand};
 use crate::cached::CachedMember;
 use crate::codes::number_code;
 use crate::handle::Handle;
 use crate::member::Member;
-use crate::object::{Kind as Behind, Object};
 use crate::status::Status;
 use tag_sets::{Kind, TagFault};
 
@@ -43,37 +43,48 @@ pub struct Counts {
     pub index: u32,
 }
 
-impl Member {
+/// Calls that report.
+trait LookCalls: AnyHand {
     /// Returns 1 if the caller holds the tag, and 0 if not.
-    #[inline(always)]
     fn holds(&mut self, tag: u32) -> i32
-        ensures { HandCalls (SaysHeld tag result) self.old self.new }
-    {
+        ensures { Self.changes (SaysHeld tag result) self.old self.new };
+
+    /// Returns how many tags of both sets are busy. Bit `tag % 64` of `into[tag / 64]` becomes 1 for each of them, and
+    /// every other bit becomes 0.
+    fn busy(&mut self, into: &mut [u64]) -> i32
+        ensures calls { Self.changes (SaysBusy into.old into.new result) self.old self.new }
+        ensures kept { IsRefusal result → into.new ≡ into.old };
+
+    /// Writes the sizes of the ordinary set if `kind` is 0, and of the reserved set if it is 1.
+    fn show(&mut self, kind: u32, sizes: &mut Sizes) -> i32
+        ensures calls { Self.changes (SaysShown kind sizes.new result) self.old self.new }
+        ensures kept { IsRefusal result → sizes.new ≡ sizes.old };
+
+    /// Writes the counts of completions and of waiters, each from a load of its own.
+    fn wakes(&mut self, counts: &mut Counts) -> i32
+        ensures calls { Self.changes (SaysWakes counts.new result) self.old self.new }
+        ensures kept { IsRefusal result → counts.new ≡ counts.old };
+}
+
+impl LookCalls for Member {
+    #[inline(always)]
+    fn holds(&mut self, tag: u32) -> i32 {
         if tag >= self.shared.total {
             return Status::Refused(TagFault::NoSuchTag).code();
         }
         if self.hand.holds(tag) { 1 } else { 0 }
     }
 
-    /// Returns how many tags of both sets are busy. Bit `tag % 64` of `into[tag / 64]` becomes 1 for each of them, and
-    /// every other bit becomes 0.
     #[inline(always)]
-    fn busy(&mut self, into: &mut [u64]) -> i32
-        ensures calls { HandCalls (SaysBusy into.old into.new result) self.old self.new }
-        ensures kept { IsRefusal result → into.new ≡ into.old }
-    {
-        if (self.shared.total as usize).div_ceil(64) > into.len() {
+    fn busy(&mut self, into: &mut [u64]) -> i32 {
+        if (self.shared.total as usize).div_ceil(u64::BITS as usize) > into.len() {
             return Status::TooSmall.code();
         }
         number_code(self.shared.tags.busy(&mut self.hand, into))
     }
 
-    /// Writes the sizes of the ordinary set if `kind` is 0, and of the reserved set if it is 1.
     #[inline(always)]
-    fn show(&mut self, kind: u32, sizes: &mut Sizes) -> i32
-        ensures calls { HandCalls (SaysShown kind sizes.new result) self.old self.new }
-        ensures kept { IsRefusal result → sizes.new ≡ sizes.old }
-    {
+    fn show(&mut self, kind: u32, sizes: &mut Sizes) -> i32 {
         let kind = match kind {
             0 => Kind::Ordinary,
             1 => Kind::Reserved,
@@ -90,12 +101,8 @@ impl Member {
         0
     }
 
-    /// Writes the counts of completions and of waiters, each from a load of its own.
     #[inline(always)]
-    fn wakes(&mut self, counts: &mut Counts) -> i32
-        ensures calls { HandCalls (SaysWakes counts.new result) self.old self.new }
-        ensures kept { IsRefusal result → counts.new ≡ counts.old }
-    {
+    fn wakes(&mut self, counts: &mut Counts) -> i32 {
         let wakes = self.shared.tags.wakes(&mut self.hand);
         *counts = Counts {
             counted: wakes.counted,
@@ -107,37 +114,25 @@ impl Member {
     }
 }
 
-impl CachedMember {
-    /// Returns 1 if the caller holds the tag, and 0 if not.
+impl LookCalls for CachedMember {
     #[inline(never)]
-    fn holds(&mut self, tag: u32) -> i32
-        ensures { CacheCalls (SaysHeld tag result) self.old self.new }
-    {
+    fn holds(&mut self, tag: u32) -> i32 {
         if tag >= self.shared.total {
             return Status::Refused(TagFault::NoSuchTag).code();
         }
         if self.cache.holds(tag) { 1 } else { 0 }
     }
 
-    /// Returns how many tags of both sets are busy. Bit `tag % 64` of `into[tag / 64]` becomes 1 for each of them, and
-    /// every other bit becomes 0.
     #[inline(never)]
-    fn busy(&mut self, into: &mut [u64]) -> i32
-        ensures calls { CacheCalls (SaysBusy into.old into.new result) self.old self.new }
-        ensures kept { IsRefusal result → into.new ≡ into.old }
-    {
-        if (self.shared.total as usize).div_ceil(64) > into.len() {
+    fn busy(&mut self, into: &mut [u64]) -> i32 {
+        if (self.shared.total as usize).div_ceil(u64::BITS as usize) > into.len() {
             return Status::TooSmall.code();
         }
         number_code(self.cache.busy(&self.shared.tags, into))
     }
 
-    /// Writes the sizes of the ordinary set if `kind` is 0, and of the reserved set if it is 1.
     #[inline(never)]
-    fn show(&mut self, kind: u32, sizes: &mut Sizes) -> i32
-        ensures calls { CacheCalls (SaysShown kind sizes.new result) self.old self.new }
-        ensures kept { IsRefusal result → sizes.new ≡ sizes.old }
-    {
+    fn show(&mut self, kind: u32, sizes: &mut Sizes) -> i32 {
         let kind = match kind {
             0 => Kind::Ordinary,
             1 => Kind::Reserved,
@@ -154,12 +149,8 @@ impl CachedMember {
         0
     }
 
-    /// Writes the counts of completions and of waiters, each from a load of its own.
     #[inline(never)]
-    fn wakes(&mut self, counts: &mut Counts) -> i32
-        ensures calls { CacheCalls (SaysWakes counts.new result) self.old self.new }
-        ensures kept { IsRefusal result → counts.new ≡ counts.old }
-    {
+    fn wakes(&mut self, counts: &mut Counts) -> i32 {
         let found = self.cache.wakes(&self.shared.tags);
         *counts = Counts {
             counted: found.counted,
@@ -171,68 +162,11 @@ impl CachedMember {
     }
 }
 
-impl Object {
-    /// Returns 1 if the caller holds the tag, and 0 if not.
-    #[inline]
-    pub(crate) fn holds(&mut self, tag: u32) -> i32
-        ensures { Calls (SaysHeld tag result) result self.old self.new }
-    {
-        match &mut self.kind {
-            Behind::Member(member) => member.holds(tag),
-            Behind::Cached(member) => member.holds(tag),
-            Behind::Pool(_) => Status::BadHandle.code(),
-        }
-    }
-
-    /// Returns how many tags of both sets are busy. Bit `tag % 64` of `into[tag / 64]` becomes 1 for each of them, and
-    /// every other bit becomes 0.
-    #[inline]
-    pub(crate) fn busy(&mut self, into: &mut [u64]) -> i32
-        ensures calls { Calls (SaysBusy into.old into.new result) result self.old self.new }
-        ensures kept { IsRefusal result → into.new ≡ into.old }
-    {
-        match &mut self.kind {
-            Behind::Member(member) => member.busy(into),
-            Behind::Cached(member) => member.busy(into),
-            Behind::Pool(_) => Status::BadHandle.code(),
-        }
-    }
-
-    /// Writes the sizes of the ordinary set if `kind` is 0, and of the reserved set if it is 1.
-    #[inline]
-    pub(crate) fn show(&mut self, kind: u32, sizes: &mut Sizes) -> i32
-        ensures calls { Calls (SaysShown kind sizes.new result) result self.old self.new }
-        ensures kept { IsRefusal result → sizes.new ≡ sizes.old }
-    {
-        match &mut self.kind {
-            Behind::Member(member) => member.show(kind, sizes),
-            Behind::Cached(member) => member.show(kind, sizes),
-            Behind::Pool(_) => Status::BadHandle.code(),
-        }
-    }
-
-    /// Writes the counts of completions and of waiters, each from a load of its own.
-    #[inline]
-    pub(crate) fn wakes(&mut self, counts: &mut Counts) -> i32
-        ensures calls { Calls (SaysWakes counts.new result) result self.old self.new }
-        ensures kept { IsRefusal result → counts.new ≡ counts.old }
-    {
-        match &mut self.kind {
-            Behind::Member(member) => member.wakes(counts),
-            Behind::Cached(member) => member.wakes(counts),
-            Behind::Pool(_) => Status::BadHandle.code(),
-        }
-    }
-}
-
 #[unsafe(no_mangle)]
 pub extern "C" fn tags_holds(hand: &mut Handle, tag: u32) -> i32
     ensures { CallsBy (SaysHeld tag result) result hand.old.object.value hand.new.object.value }
 {
-    let Some(object) = hand.lend() else {
-        return Status::BadHandle.code();
-    };
-    object.holds(tag)
+    on_hand!(hand.holds(tag))
 }
 
 #[unsafe(no_mangle)]
@@ -240,10 +174,7 @@ pub extern "C" fn tags_busy(hand: &mut Handle, into: &mut [u64]) -> i32
     ensures calls { CallsBy (SaysBusy into.old into.new result) result hand.old.object.value hand.new.object.value }
     ensures kept { IsRefusal result → into.new ≡ into.old }
 {
-    let Some(object) = hand.lend() else {
-        return Status::BadHandle.code();
-    };
-    object.busy(into)
+    on_hand!(hand.busy(into))
 }
 
 #[unsafe(no_mangle)]
@@ -251,10 +182,7 @@ pub extern "C" fn tags_show(hand: &mut Handle, kind: u32, sizes: &mut Sizes) -> 
     ensures calls { CallsBy (SaysShown kind sizes.new result) result hand.old.object.value hand.new.object.value }
     ensures kept { IsRefusal result → sizes.new ≡ sizes.old }
 {
-    let Some(object) = hand.lend() else {
-        return Status::BadHandle.code();
-    };
-    object.show(kind, sizes)
+    on_hand!(hand.show(kind, sizes))
 }
 
 #[unsafe(no_mangle)]
@@ -262,8 +190,5 @@ pub extern "C" fn tags_wakes(hand: &mut Handle, counts: &mut Counts) -> i32
     ensures calls { CallsBy (SaysWakes counts.new result) result hand.old.object.value hand.new.object.value }
     ensures kept { IsRefusal result → counts.new ≡ counts.old }
 {
-    let Some(object) = hand.lend() else {
-        return Status::BadHandle.code();
-    };
-    object.wakes(counts)
+    on_hand!(hand.wakes(counts))
 }

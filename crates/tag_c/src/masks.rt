@@ -1,24 +1,33 @@
 //! Gives back the tags of a mask in one call, through the handle of a hand. Each call is described in tags.h.
 ghost use Rattle.std.specs.Prelude.{◌≡◌};
-ghost use Rattle.tag_c.specs.Calls.{Calls, CallsBy, HandCalls, CacheCalls, Through};
+ghost use Rattle.tag_c.specs.Calls.{CallsBy, Through};
 ghost use Rattle.tag_c.specs.Codes.{IsRefusal, code_of_grants};
 ghost use Rattle.tag_c.specs.Grants.{Filling};
 ghost use Rattle.tag_c.specs.Masks.{DoesClearMask};
 
+use crate::any_hand::{AnyHand, on_hand};
 use crate::cached::CachedMember;
 use crate::codes::count_code;
 use crate::granted::{Granted, fill};
 use crate::handle::Handle;
 use crate::member::Member;
-use crate::object::{Kind, Object};
-use crate::status::Status;
 
-impl Member {
+/// Calls that give back the tags of a mask.
+trait MaskCalls: AnyHand {
     /// Gives the held ordinary tags of a mask back, and returns how many waiters were granted a wakeup.
-    #[inline(always)]
     fn clear_run(&mut self, first: u32, mask: u64) -> i32
-        ensures { HandCalls (Through (DoesClearMask first mask) code_of_grants result) self.old self.new }
-    {
+        ensures { Self.changes (Through (DoesClearMask first mask) code_of_grants result) self.old self.new };
+
+    /// Gives the held ordinary tags of a mask back, fills in whom that granted a wakeup, and returns how many waiters
+    /// they are.
+    fn clear_run_granted(&mut self, first: u32, mask: u64, granted: &mut Granted) -> i32
+        ensures calls { Self.changes (Through (Filling granted.new (DoesClearMask first mask)) code_of_grants result) self.old self.new }
+        ensures kept { IsRefusal result → granted.new ≡ granted.old };
+}
+
+impl MaskCalls for Member {
+    #[inline(always)]
+    fn clear_run(&mut self, first: u32, mask: u64) -> i32 {
         count_code(
             self.shared
                 .tags
@@ -26,13 +35,8 @@ impl Member {
         )
     }
 
-    /// Gives the held ordinary tags of a mask back, fills in whom that granted a wakeup, and returns how many waiters
-    /// they are.
     #[inline(always)]
-    fn clear_run_granted(&mut self, first: u32, mask: u64, granted: &mut Granted) -> i32
-        ensures calls { HandCalls (Through (Filling granted.new (DoesClearMask first mask)) code_of_grants result) self.old self.new }
-        ensures kept { IsRefusal result → granted.new ≡ granted.old }
-    {
+    fn clear_run_granted(&mut self, first: u32, mask: u64, granted: &mut Granted) -> i32 {
         fill(
             self.shared
                 .tags
@@ -42,25 +46,17 @@ impl Member {
     }
 }
 
-impl CachedMember {
-    /// Gives the held ordinary tags of a mask back, and returns how many waiters were granted a wakeup.
+impl MaskCalls for CachedMember {
     #[inline(never)]
-    fn clear_run(&mut self, first: u32, mask: u64) -> i32
-        ensures { CacheCalls (Through (DoesClearMask first mask) code_of_grants result) self.old self.new }
-    {
+    fn clear_run(&mut self, first: u32, mask: u64) -> i32 {
         count_code(
             self.cache
                 .clear_mask_counted(&self.shared.tags, first, mask),
         )
     }
 
-    /// Gives the held ordinary tags of a mask back, fills in whom that granted a wakeup, and returns how many waiters
-    /// they are.
     #[inline(never)]
-    fn clear_run_granted(&mut self, first: u32, mask: u64, granted: &mut Granted) -> i32
-        ensures calls { CacheCalls (Through (Filling granted.new (DoesClearMask first mask)) code_of_grants result) self.old self.new }
-        ensures kept { IsRefusal result → granted.new ≡ granted.old }
-    {
+    fn clear_run_granted(&mut self, first: u32, mask: u64, granted: &mut Granted) -> i32 {
         fill(
             self.cache
                 .clear_mask_granted(&self.shared.tags, first, mask),
@@ -69,43 +65,12 @@ impl CachedMember {
     }
 }
 
-impl Object {
-    /// Gives the held ordinary tags of a mask back, and returns how many waiters were granted a wakeup.
-    #[inline]
-    pub(crate) fn clear_run(&mut self, first: u32, mask: u64) -> i32
-        ensures { Calls (Through (DoesClearMask first mask) code_of_grants result) result self.old self.new }
-    {
-        match &mut self.kind {
-            Kind::Member(member) => member.clear_run(first, mask),
-            Kind::Cached(member) => member.clear_run(first, mask),
-            Kind::Pool(_) => Status::BadHandle.code(),
-        }
-    }
-
-    /// Gives the held ordinary tags of a mask back, fills in whom that granted a wakeup, and returns how many waiters
-    /// they are.
-    #[inline]
-    pub(crate) fn clear_run_granted(&mut self, first: u32, mask: u64, granted: &mut Granted) -> i32
-        ensures calls { Calls (Through (Filling granted.new (DoesClearMask first mask)) code_of_grants result) result self.old self.new }
-        ensures kept { IsRefusal result → granted.new ≡ granted.old }
-    {
-        match &mut self.kind {
-            Kind::Member(member) => member.clear_run_granted(first, mask, granted),
-            Kind::Cached(member) => member.clear_run_granted(first, mask, granted),
-            Kind::Pool(_) => Status::BadHandle.code(),
-        }
-    }
-}
-
 #[unsafe(no_mangle)]
 pub extern "C" fn tags_clear_run(hand: &mut Handle, first: u32, mask: u64) -> i32
     ensures { CallsBy (Through (DoesClearMask first mask) code_of_grants result) result hand.old.object.value
         hand.new.object.value }
 {
-    let Some(object) = hand.lend() else {
-        return Status::BadHandle.code();
-    };
-    object.clear_run(first, mask)
+    on_hand!(hand.clear_run(first, mask))
 }
 
 #[unsafe(no_mangle)]
@@ -119,8 +84,5 @@ pub extern "C" fn tags_clear_run_granted(
         hand.old.object.value hand.new.object.value }
     ensures kept { IsRefusal result → granted.new ≡ granted.old }
 {
-    let Some(object) = hand.lend() else {
-        return Status::BadHandle.code();
-    };
-    object.clear_run_granted(first, mask, granted)
+    on_hand!(hand.clear_run_granted(first, mask, granted))
 }

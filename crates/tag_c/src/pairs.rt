@@ -1,24 +1,34 @@
 //! Two calls in one, through the handle of a hand: a get with a write, and a read with a clear. Each is described in
 //! tags.h.
 ghost use Rattle.std.specs.Prelude.{◌≡◌};
-ghost use Rattle.tag_c.specs.Calls.{Calls, CallsBy, HandCalls, CacheCalls, Through};
+ghost use Rattle.tag_c.specs.Calls.{CallsBy, Through};
 ghost use Rattle.tag_c.specs.Codes.{IsRefusal, code_of, code_of_get, code_of_count};
 ghost use Rattle.tag_c.specs.declared.status.Status.TheVariants.{BadHandle};
 ghost use Rattle.tag_c.specs.Pairs.{DoesGetWrite, DoesReadClear};
 
+use crate::any_hand::{AnyHand, on_hand};
 use crate::cached::CachedMember;
 use crate::codes::{count_code, get_code, tell_left, woken_alone};
 use crate::handle::Handle;
 use crate::member::Member;
-use crate::object::{Kind, Object};
 use crate::status::{Status, fault_code};
 
-impl Member {
+/// Two calls in one.
+trait PairCalls: AnyHand {
     /// Takes a free ordinary tag, writes its slot, and returns the tag.
-    #[inline(always)]
     fn get_write(&mut self, value: u64, left: &mut u64) -> i32
-        ensures { HandCalls (Through (DoesGetWrite value left.new) code_of_get result) self.old self.new }
-    {
+        ensures { Self.changes (Through (DoesGetWrite value left.new) code_of_get result) self.old self.new };
+
+    /// Reads the slot of a held tag into `value`, gives the tag back, and returns how many waiters were granted a
+    /// wakeup.
+    fn read_clear(&mut self, tag: u32, value: &mut u64) -> i32
+        ensures calls { Self.changes (Through (DoesReadClear tag value.new) code_of_count result) self.old self.new }
+        ensures kept { IsRefusal result → value.new ≡ value.old };
+}
+
+impl PairCalls for Member {
+    #[inline(always)]
+    fn get_write(&mut self, value: u64, left: &mut u64) -> i32 {
         let found = self.shared.tags.get_freed(&mut self.hand);
         match tell_left(found, left) {
             Ok(Some(tag)) => {
@@ -31,13 +41,8 @@ impl Member {
         }
     }
 
-    /// Reads the slot of a held tag into `value`, gives the tag back, and returns how many waiters were granted a
-    /// wakeup.
     #[inline(always)]
-    fn read_clear(&mut self, tag: u32, value: &mut u64) -> i32
-        ensures calls { HandCalls (Through (DoesReadClear tag value.new) code_of_count result) self.old self.new }
-        ensures kept { IsRefusal result → value.new ≡ value.old }
-    {
+    fn read_clear(&mut self, tag: u32, value: &mut u64) -> i32 {
         let found = match self.shared.tags.read(&mut self.hand, tag) {
             Ok(found) => found,
             Err(fault) => return fault_code(fault),
@@ -47,12 +52,9 @@ impl Member {
     }
 }
 
-impl CachedMember {
-    /// Takes a free ordinary tag, writes its slot, and returns the tag.
+impl PairCalls for CachedMember {
     #[inline(never)]
-    fn get_write(&mut self, value: u64, left: &mut u64) -> i32
-        ensures { CacheCalls (Through (DoesGetWrite value left.new) code_of_get result) self.old self.new }
-    {
+    fn get_write(&mut self, value: u64, left: &mut u64) -> i32 {
         let found = self.cache.get_freed(&self.shared.tags);
         match tell_left(found, left) {
             Ok(Some(tag)) => {
@@ -65,49 +67,14 @@ impl CachedMember {
         }
     }
 
-    /// Reads the slot of a held tag into `value`, gives the tag back, and returns how many waiters were granted a
-    /// wakeup.
     #[inline(never)]
-    fn read_clear(&mut self, tag: u32, value: &mut u64) -> i32
-        ensures calls { CacheCalls (Through (DoesReadClear tag value.new) code_of_count result) self.old self.new }
-        ensures kept { IsRefusal result → value.new ≡ value.old }
-    {
+    fn read_clear(&mut self, tag: u32, value: &mut u64) -> i32 {
         let found = match self.cache.read(&self.shared.tags, tag) {
             Ok(found) => found,
             Err(fault) => return fault_code(fault),
         };
         *value = found;
         count_code(self.cache.clear_counted(&self.shared.tags, tag))
-    }
-}
-
-impl Object {
-    /// Takes a free ordinary tag, writes its slot, and returns the tag.
-    #[inline]
-    pub(crate) fn get_write(&mut self, value: u64, left: &mut u64) -> i32
-        requires none { left.old ≡ 0 }
-        ensures calls { Calls (Through (DoesGetWrite value left.new) code_of_get result) result self.old self.new }
-        ensures bad_handle { result ≡ code_of BadHandle → left.new ≡ 0 }
-    {
-        match &mut self.kind {
-            Kind::Member(member) => member.get_write(value, left),
-            Kind::Cached(member) => member.get_write(value, left),
-            Kind::Pool(_) => Status::BadHandle.code(),
-        }
-    }
-
-    /// Reads the slot of a held tag into `value`, gives the tag back, and returns how many waiters were granted a
-    /// wakeup.
-    #[inline]
-    pub(crate) fn read_clear(&mut self, tag: u32, value: &mut u64) -> i32
-        ensures calls { Calls (Through (DoesReadClear tag value.new) code_of_count result) result self.old self.new }
-        ensures kept { IsRefusal result → value.new ≡ value.old }
-    {
-        match &mut self.kind {
-            Kind::Member(member) => member.read_clear(tag, value),
-            Kind::Cached(member) => member.read_clear(tag, value),
-            Kind::Pool(_) => Status::BadHandle.code(),
-        }
     }
 }
 
@@ -118,10 +85,7 @@ pub extern "C" fn tags_get_write(hand: &mut Handle, value: u64, left: &mut u64) 
     ensures bad_handle { result ≡ code_of BadHandle → left.new ≡ 0 }
 {
     *left = 0;
-    let Some(object) = hand.lend() else {
-        return Status::BadHandle.code();
-    };
-    object.get_write(value, left)
+    on_hand!(hand.get_write(value, left))
 }
 
 #[unsafe(no_mangle)]
@@ -130,8 +94,5 @@ pub extern "C" fn tags_read_clear(hand: &mut Handle, tag: u32, value: &mut u64) 
         hand.old.object.value hand.new.object.value }
     ensures kept { IsRefusal result → value.new ≡ value.old }
 {
-    let Some(object) = hand.lend() else {
-        return Status::BadHandle.code();
-    };
-    object.read_clear(tag, value)
+    on_hand!(hand.read_clear(tag, value))
 }

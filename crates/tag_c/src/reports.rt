@@ -2,12 +2,12 @@
 ghost use Rattle.std.specs.Prelude.{◌≡◌, ◌≤◌, ◌*◌, length};
 ghost use Rattle.std.specs.Arc.{arc_value};
 ghost use Rattle.tag_c.specs.Codes.{IsRefusal};
-ghost use Rattle.tag_c.specs.Reports.{Reports, ReportsBy, TellsBusy, TellsShown, TellsWakes};
+ghost use Rattle.tag_c.specs.Reports.{ReportsBy, TellsBusy, TellsShown, TellsWakes};
 
 use crate::codes::number_code;
 use crate::handle::Handle;
 use crate::looks::{Counts, Sizes};
-use crate::object::{Kind as Behind, Object};
+use crate::object::Kind as Behind;
 use crate::pool::Pool;
 use crate::status::Status;
 use tag_sets::Kind;
@@ -19,7 +19,7 @@ impl Pool {
         ensures tells { TellsBusy into.old into.new result (arc_value self.now.shared).tags }
         ensures kept { IsRefusal result → into.new ≡ into.old }
     {
-        if (self.shared.total as usize).div_ceil(64) > into.len() {
+        if (self.shared.total as usize).div_ceil(u64::BITS as usize) > into.len() {
             return Status::TooSmall.code();
         }
         number_code(self.shared.tags.peek_busy(into))
@@ -62,39 +62,17 @@ impl Pool {
     }
 }
 
-impl Object {
-    /// Returns how many tags of both sets of this pool are busy, and sets their bits.
-    fn pool_busy(&self, into: &mut [u64]) -> i32
-        ensures tells { Reports (TellsBusy into.old into.new result) result self.now.kind }
-        ensures kept { IsRefusal result → into.new ≡ into.old }
-    {
-        match &self.kind {
-            Behind::Pool(pool) => pool.busy(into),
-            Behind::Member(_) | Behind::Cached(_) => Status::BadHandle.code(),
+/// Makes a report of the pool behind a handle. An empty handle and a hand are refused.
+macro_rules! on_pool {
+    ($handle:ident . $report:ident ( $($argument:expr),* )) => {
+        match $handle.lend() {
+            Some(object) => match &object.kind {
+                Behind::Pool(pool) => pool.$report($($argument),*),
+                Behind::Member(_) | Behind::Cached(_) => Status::BadHandle.code(),
+            },
+            None => Status::BadHandle.code(),
         }
-    }
-
-    /// Writes the sizes of a set of this pool.
-    fn pool_show(&self, kind: u32, sizes: &mut Sizes) -> i32
-        ensures tells { Reports (TellsShown kind sizes.new result) result self.now.kind }
-        ensures kept { IsRefusal result → sizes.new ≡ sizes.old }
-    {
-        match &self.kind {
-            Behind::Pool(pool) => pool.show(kind, sizes),
-            Behind::Member(_) | Behind::Cached(_) => Status::BadHandle.code(),
-        }
-    }
-
-    /// Writes the counts of completions and of waiters of this pool.
-    fn pool_wakes(&self, counts: &mut Counts) -> i32
-        ensures tells { Reports (TellsWakes counts.new result) result self.now.kind }
-        ensures kept { IsRefusal result → counts.new ≡ counts.old }
-    {
-        match &self.kind {
-            Behind::Pool(pool) => pool.wakes(counts),
-            Behind::Member(_) | Behind::Cached(_) => Status::BadHandle.code(),
-        }
-    }
+    };
 }
 
 #[unsafe(no_mangle)]
@@ -103,10 +81,7 @@ pub extern "C" fn tags_pool_busy(pool: &mut Handle, into: &mut [u64]) -> i32
     ensures same { pool.new.object.value ≡ pool.old.object.value }
     ensures kept { IsRefusal result → into.new ≡ into.old }
 {
-    let Some(object) = pool.lend() else {
-        return Status::BadHandle.code();
-    };
-    object.pool_busy(into)
+    on_pool!(pool.busy(into))
 }
 
 #[unsafe(no_mangle)]
@@ -115,10 +90,7 @@ pub extern "C" fn tags_pool_show(pool: &mut Handle, kind: u32, sizes: &mut Sizes
     ensures same { pool.new.object.value ≡ pool.old.object.value }
     ensures kept { IsRefusal result → sizes.new ≡ sizes.old }
 {
-    let Some(object) = pool.lend() else {
-        return Status::BadHandle.code();
-    };
-    object.pool_show(kind, sizes)
+    on_pool!(pool.show(kind, sizes))
 }
 
 #[unsafe(no_mangle)]
@@ -127,8 +99,5 @@ pub extern "C" fn tags_pool_wakes(pool: &mut Handle, counts: &mut Counts) -> i32
     ensures same { pool.new.object.value ≡ pool.old.object.value }
     ensures kept { IsRefusal result → counts.new ≡ counts.old }
 {
-    let Some(object) = pool.lend() else {
-        return Status::BadHandle.code();
-    };
-    object.pool_wakes(counts)
+    on_pool!(pool.wakes(counts))
 }

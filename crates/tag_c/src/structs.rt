@@ -7,7 +7,7 @@ pub const ROUND_ROBIN: u32 = 1;
 pub const WHILE_HOLDING: u32 = 1;
 
 /// The most tags that a hand may keep.
-pub const MAX_CACHE: u32 = 64;
+pub const MAX_CACHE: u32 = u64::BITS;
 
 /// The options of a new pool.
 #[repr(C)]
