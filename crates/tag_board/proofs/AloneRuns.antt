@@ -2,7 +2,8 @@
 use Rattle.std.proofs.Common.{◌≡◌, ℕ, ◌^◌, ◌<◌, ◌≤◌, Bool, true, false, ◌&&◌, ◌||◌, nat_eq, nat_lt, List, [], ◌∷◌, ◌++◌, map, ⊎_elim, refl, sym, ap, ◌∙◌, subst, arith, eq-eqb, eqb-true}
 use Rattle.tag_board.proofs.Uses.{and_parts, and_from, cases_lt, lt-ltb, ltb-true, bit_at_above, bit_at, list_any, Layout, word_of, place_of, word_depth, Shape, Step, cells_left, words_left, Pool, pool_of, free_at, or_false, Run, IsRun, AreRuns, is_named, give_back, set_left, Searcher}
 use Rattle.std.proofs.lemmas.List.Folds.{list_any-append, Any-from_list_any, list_any-from_Any}
-use Rattle.tag_core.proofs.TagBits.{small_word, bit_tag}
+use Rattle.tag_core.proofs.Stand.{bit_tag}
+use Rattle.tag_core.proofs.TagBits.{small_word}
 use Rattle.tag_search.proofs.PlainPools.{give_pool}
 use Rattle.tag_board.specs.Searches.{Gives, give_of}
 use Rattle.tag_board.proofs.Only.{IsOnly, are_within, is_within}
@@ -64,7 +65,7 @@ module _ (k : Shape) (narrow : k.layout.shift ≤ 6) where
           let one = and_parts (nat_eq word run.word && nat_lt place 64) (nat_eq (bit_at run.mask place) 1) e in
           let two = and_parts (nat_eq word run.word) (nat_lt place 64) one.0 in
           let here : word ≡ run.word = eqb-true word run.word two.0 in
-          let t = bit_tag k narrow run.word run.mask place within (eqb-true (bit_at run.mask place) 1 one.1) in
+          let t = bit_tag l run.word run.mask place within (eqb-true (bit_at run.mask place) 1 one.1) in
           let tag : ℕ = t.0 in
           let c = (is.mask_is tag).0 (and_from (nat_eq (word_of l tag) run.word)
           (nat_eq (bit_at run.mask (place_of l tag)) 1) (eq-eqb (word_of l tag) run.word t.2)

@@ -77,21 +77,33 @@ still_found (Ok grants) P found = found
 still_found (Err fault) P found = tt
 
 -- a hand alone gives the tag back
-pub hand_clears : {tags : Tags ℕ} {tag : ℕ} {answer : Result Grants TagFault} {old new : Hand ℕ}
+pub hand_clears : {tags : Tags ℕ} {tag : ℕ} {answer : Result ℕ TagFault} {old new : Hand ℕ}
+    → ((answer ≡ Err NoSuchTag) ↔ (total_of tags ≤ tag))
+    → ((answer ≡ Err NotHeld) ↔ ((tag < total_of tags) × ¬ (Holds (Bare old) tag)))
+    → (Holds (Bare old) tag → IsOk answer) → OnErr answer (IsUnchanged (Bare old) (Bare new))
+    → OnOk answer (Clears tags tag old new)
+    → IfOk answer (λ woken. Counts tags (kind_of (reserved_of tags) tag) 1 old new woken)
+    → DoesClear tag tags answer (Bare old) (Bare new)
+hand_clears {answer = answer} no_such_tag not_held succeeds err clears counts = record {
+  no_such_tag = no_such_tag;
+  not_held = not_held;
+  succeeds = succeeds;
+  clears = beside answer (λ woken clears counts. record { clears = clears; counts = counts }) clears counts;
+  err = err;
+}
+
+-- the same, with the groups of the grants
+pub hand_clears_granted : {tags : Tags ℕ} {tag : ℕ} {answer : Result Grants TagFault} {old new : Hand ℕ}
     → ((answer ≡ Err NoSuchTag) ↔ (total_of tags ≤ tag))
     → ((answer ≡ Err NotHeld) ↔ ((tag < total_of tags) × ¬ (Holds (Bare old) tag)))
     → (Holds (Bare old) tag → IsOk answer) → OnErr answer (IsUnchanged (Bare old) (Bare new))
     → OnOk answer (Clears tags tag old new)
     → IfOk answer (λ grants. Counts tags (kind_of (reserved_of tags) tag) 1 old new grants.woken)
     → DoesClear tag tags (woken_of answer) (Bare old) (Bare new)
-hand_clears {answer = answer} no_such_tag not_held succeeds err clears counts = record {
-  no_such_tag = same_cause answer NoSuchTag _ no_such_tag;
-  not_held = same_cause answer NotHeld _ not_held;
-  succeeds = still_ok answer _ succeeds;
-  clears = still_found answer _ (beside answer (λ grants clears counts. record { clears = clears; counts = counts })
-      clears counts);
-  err = still_err answer _ err;
-}
+hand_clears_granted {tags = tags} {tag = tag} {answer = answer} {old = old} {new = new} no_such_tag not_held succeeds
+    err clears counts = hand_clears (same_cause answer NoSuchTag _ no_such_tag) (same_cause answer NotHeld _ not_held)
+    (still_ok answer _ succeeds) (still_err answer _ err) (still_found answer (λ woken. Clears tags tag old new) clears)
+    (still_found answer _ counts)
 
 -- over a cache the tag may be kept
 pub cache_clears : {tags : Tags ℕ} {tag : ℕ} {answer : Result ℕ TagFault} {old new : Cache ℕ}
@@ -116,11 +128,8 @@ pub cache_clears_granted : {tags : Tags ℕ} {tag : ℕ} {answer : Result Grants
     → OnOk answer (HoldsLess (λ other. other ≡ tag) old new)
     → IfOk answer (λ grants. Goes tags tag grants.woken old new) → OnOk answer (Tallies 0 1 old new)
     → DoesClear tag tags (woken_of answer) (Caching old) (Caching new)
-cache_clears_granted {answer = answer} no_such_tag not_held succeeds err less way tally = record {
-  no_such_tag = same_cause answer NoSuchTag _ no_such_tag;
-  not_held = same_cause answer NotHeld _ not_held;
-  succeeds = still_ok answer _ succeeds;
-  clears = still_found answer _ (around answer (λ grants less way tally. record { less = less; way = way; tally = tally })
-      less way tally);
-  err = still_err answer _ err;
-}
+cache_clears_granted {tags = tags} {tag = tag} {answer = answer} {old = old} {new = new} no_such_tag not_held succeeds
+    err less way tally = cache_clears (same_cause answer NoSuchTag _ no_such_tag) (same_cause answer NotHeld _ not_held)
+    (still_ok answer _ succeeds) (still_err answer _ err)
+    (still_found answer (λ woken. HoldsLess (λ other. other ≡ tag) old new) less) (still_found answer _ way)
+    (still_found answer (λ woken. Tallies 0 1 old new) tally)

@@ -2,9 +2,9 @@
 use Rattle.std.proofs.Common.{◌≡◌, ◌↔◌, ℕ, ◌≤◌, List, pos, min, All, Result, Ok, Err, IsOk, IfOk, OnErr, ap, refl, subst}
 use Rattle.wake_book.specs.declared.grants.Grants.{Grants}
 use Rattle.wake_book.specs.declared.steps.GroupStep.{GroupStep}
+use Rattle.wake_book.specs.Grants.{WokenBy}
 use Rattle.tag_layout.specs.declared.layout.TheConstants.{MAX_DEPTH}
 use Rattle.tag_queue.specs.Masks.{tags_in}
-use Rattle.tag_queue.specs.Woken.{WokenBy}
 use Rattle.tag_sets.specs.declared.fault.TagFault.{TagFault}
 use Rattle.tag_sets.specs.declared.fault.TagFault.TheVariants.{NoSuchTag, NotHeld, BadCount}
 use Rattle.tag_sets.specs.declared.tags.Tags.{Tags}

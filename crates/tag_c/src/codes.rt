@@ -73,17 +73,6 @@ pub(crate) fn count_code(answer: Result<u32, TagFault>) -> i32
     }
 }
 
-/// Returns the number of waiters that were granted a wakeup, without their groups.
-#[inline]
-pub(crate) fn woken_alone(answer: Result<Grants, TagFault>) -> Result<u32, TagFault>
-    ensures { result ≡ woken_of answer }
-{
-    match answer {
-        Ok(grants) => Ok(grants.woken),
-        Err(fault) => Err(fault),
-    }
-}
-
 /// Returns how many waiters were granted a wakeup, or the status of the error.
 #[inline]
 pub(crate) fn grants_code(answer: Result<Grants, TagFault>) -> i32

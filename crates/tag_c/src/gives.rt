@@ -4,9 +4,10 @@ ghost use Rattle.tag_c.specs.Codes.{code_of_count, code_of_grants};
 
 use crate::any_hand::{AnyHand, on_hand};
 use crate::cached::CachedMember;
-use crate::codes::{count_code, grants_code, woken_alone};
+use crate::codes::{count_code, grants_code};
 use crate::handle::Handle;
 use crate::member::Member;
+use tag_sets::{Count, Report};
 
 /// Calls that give tags back.
 trait ClearCalls: AnyHand {
@@ -22,12 +23,12 @@ trait ClearCalls: AnyHand {
 impl ClearCalls for Member {
     #[inline(always)]
     fn clear(&mut self, tag: u32) -> i32 {
-        count_code(woken_alone(self.shared.tags.clear_granted(&mut self.hand, tag)))
+        count_code(self.shared.tags.clear::<Count>(&mut self.hand, tag))
     }
 
     #[inline(always)]
     fn clear_batch(&mut self, tags: &[u32]) -> i32 {
-        grants_code(self.shared.tags.clear_batch_granted(&mut self.hand, tags))
+        grants_code(self.shared.tags.clear_batch::<Report>(&mut self.hand, tags))
     }
 }
 

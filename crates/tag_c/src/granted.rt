@@ -10,7 +10,7 @@ use crate::cached::CachedMember;
 use crate::codes::grants_code;
 use crate::handle::Handle;
 use crate::member::Member;
-use tag_sets::{Grants, TagFault};
+use tag_sets::{Grants, Report, TagFault};
 
 /// Whom a clear granted a wakeup.
 #[repr(C)]
@@ -55,13 +55,16 @@ trait GrantedCalls: AnyHand {
 impl GrantedCalls for Member {
     #[inline(always)]
     fn clear_granted(&mut self, tag: u32, granted: &mut Granted) -> i32 {
-        fill(self.shared.tags.clear_granted(&mut self.hand, tag), granted)
+        fill(
+            self.shared.tags.clear::<Report>(&mut self.hand, tag),
+            granted,
+        )
     }
 
     #[inline(always)]
     fn clear_batch_granted(&mut self, tags: &[u32], granted: &mut Granted) -> i32 {
         fill(
-            self.shared.tags.clear_batch_granted(&mut self.hand, tags),
+            self.shared.tags.clear_batch::<Report>(&mut self.hand, tags),
             granted,
         )
     }

@@ -11,6 +11,7 @@ use crate::codes::count_code;
 use crate::granted::{Granted, fill};
 use crate::handle::Handle;
 use crate::member::Member;
+use tag_sets::{Count, Report};
 
 /// Calls that give back the tags of a mask.
 trait MaskCalls: AnyHand {
@@ -31,7 +32,7 @@ impl MaskCalls for Member {
         count_code(
             self.shared
                 .tags
-                .clear_mask_counted(&mut self.hand, first, mask),
+                .clear_mask::<Count>(&mut self.hand, first, mask),
         )
     }
 
@@ -40,7 +41,7 @@ impl MaskCalls for Member {
         fill(
             self.shared
                 .tags
-                .clear_mask_granted(&mut self.hand, first, mask),
+                .clear_mask::<Report>(&mut self.hand, first, mask),
             granted,
         )
     }

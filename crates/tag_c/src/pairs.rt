@@ -8,9 +8,10 @@ ghost use Rattle.tag_c.specs.Pairs.{DoesGetWrite, DoesReadClear};
 
 use crate::any_hand::{AnyHand, on_hand};
 use crate::cached::CachedMember;
-use crate::codes::{count_code, get_code, tell_left, woken_alone};
+use crate::codes::{count_code, get_code, tell_left};
 use crate::handle::Handle;
 use crate::member::Member;
+use tag_sets::Count;
 use crate::status::{Status, fault_code};
 
 /// Two calls in one.
@@ -48,7 +49,7 @@ impl PairCalls for Member {
             Err(fault) => return fault_code(fault),
         };
         *value = found;
-        count_code(woken_alone(self.shared.tags.clear_granted(&mut self.hand, tag)))
+        count_code(self.shared.tags.clear::<Count>(&mut self.hand, tag))
     }
 }
 

@@ -7,7 +7,7 @@ use Rattle.tag_c.proofs.Parts.{of_each, three}
 use Rattle.tag_c.proofs.gives.MemberClearCalls.clear_batch.Goals as goal
 
 pub returns : goal.returns
-returns c = let e = c.clear_batch_granted.ensures in (
+returns c = let e = c.clear_batch.ensures in (
   refl,
   through (DoesClearBatch c.args.tags.now) code_of_grants c.grants_code.ensures c.grants_code.type_inv
       c.deref.ensures record {
@@ -15,10 +15,10 @@ returns c = let e = c.clear_batch_granted.ensures in (
         no_such_tag = e.no_such_tag;
         not_held = e.not_held;
         succeeds = e.succeeds;
-        gives = three _ _ _ _ c.clear_batch_granted.result
+        gives = three _ _ _ _ c.clear_batch.result
             (λ grants gives back counts. record { gives = gives; back = back; counts = counts })
-            (of_each _ c.clear_batch_granted.result e.gives) (of_each _ c.clear_batch_granted.result e.back) e.counts;
-        grants = e.grants;
+            (of_each _ c.clear_batch.result e.gives) (of_each _ c.clear_batch.result e.back) e.counts;
+        grants = e.tells;
         err = e.err;
       },
 )

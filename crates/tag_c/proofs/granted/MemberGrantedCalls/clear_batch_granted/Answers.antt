@@ -8,7 +8,7 @@ use Rattle.tag_c.proofs.Parts.{of_each, three}
 use Rattle.tag_c.proofs.granted.MemberGrantedCalls.clear_batch_granted.Goals as goal
 
 pub returns-clause-calls : goal.returns-clause-calls
-returns-clause-calls c = let e = c.clear_batch_granted.ensures in (
+returns-clause-calls c = let e = c.clear_batch.ensures in (
   refl,
   through (Filling c.fill.new.granted (DoesClearBatch c.args.tags.now)) code_of_grants c.fill.ensures.code
       c.fill.type_inv c.deref.ensures (
@@ -17,10 +17,10 @@ returns-clause-calls c = let e = c.clear_batch_granted.ensures in (
           no_such_tag = e.no_such_tag;
           not_held = e.not_held;
           succeeds = e.succeeds;
-          gives = three _ _ _ _ c.clear_batch_granted.result
+          gives = three _ _ _ _ c.clear_batch.result
               (λ grants gives back counts. record { gives = gives; back = back; counts = counts })
-              (of_each _ c.clear_batch_granted.result e.gives) (of_each _ c.clear_batch_granted.result e.back) e.counts;
-          grants = e.grants;
+              (of_each _ c.clear_batch.result e.gives) (of_each _ c.clear_batch.result e.back) e.counts;
+          grants = e.tells;
           err = e.err;
         },
         c.fill.ensures.fills,

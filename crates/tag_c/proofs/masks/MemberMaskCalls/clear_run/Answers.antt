@@ -10,12 +10,12 @@ use Rattle.tag_c.proofs.Parts.{beside}
 use Rattle.tag_c.proofs.masks.MemberMaskCalls.clear_run.Goals as goal
 
 pub returns : goal.returns
-returns c = let e = c.clear_mask_counted.ensures in let r = c.clear_mask_counted.result in
-    let before = group_steps c.args.self.now.hand in let after = group_steps c.clear_mask_counted.new.hand in (
+returns c = let e = c.clear_mask.ensures in let r = c.clear_mask.result in
+    let before = group_steps c.args.self.now.hand in let after = group_steps c.clear_mask.new.hand in (
       refl,
-      through (DoesClearMask c.args.first c.args.mask) code_of_grants {answer = with_grants before after r e.grants}
-          (c.count_code.ensures ∙ same_number before after r e.grants) c.count_code.type_inv c.deref.ensures
-          (masks_cleared c.args.first c.args.mask _ r (Bare c.args.self.now.hand) (Bare c.clear_mask_counted.new.hand)
-          e.grants e.bad_count e.no_such_tag e.not_held e.succeeds
+      through (DoesClearMask c.args.first c.args.mask) code_of_grants {answer = with_grants before after r e.tells}
+          (c.count_code.ensures ∙ same_number before after r e.tells) c.count_code.type_inv c.deref.ensures
+          (masks_cleared c.args.first c.args.mask _ r (Bare c.args.self.now.hand) (Bare c.clear_mask.new.hand)
+          e.tells e.bad_count e.no_such_tag e.not_held e.succeeds
           (beside r (λ woken gives counts. record { gives = gives; counts = counts }) e.gives e.counts) e.err),
     )

@@ -1,7 +1,6 @@
 -- Once the read has found a value the caller still holds the tag, so the clear succeeds.
-use Rattle.std.proofs.Common.{ap, refl, ◌∙◌}
+use Rattle.std.proofs.Common.{refl}
 use Rattle.tag_c.specs.Callers.{Bare}
-use Rattle.tag_c.specs.Codes.{code_of_count, woken_of}
 use Rattle.tag_c.proofs.Does.{hand_clears}
 use Rattle.tag_c.proofs.Pairing.{refused_read, cleared_read}
 use Rattle.tag_c.proofs.pairs.MemberPairCalls.read_clear.Goals as goal
@@ -13,10 +12,9 @@ returns-in-Err-clause-calls c = let e = c.in-Err.ensures in (
 )
 
 pub returns : goal.returns
-returns c = let e = c.in-Ok.ensures in let k = c.clear_granted.ensures in
+returns c = let e = c.in-Ok.ensures in let k = c.clear.ensures in
     let both = cleared_read c.deref.ensures c.count_code.type_inv c.args.tag c.in-Ok.found
-    (Bare c.args.self.now.hand) (Bare c.read.new.hand) (Bare c.clear_granted.new.hand)
-    {answer = woken_of c.clear_granted.result} (c.count_code.ensures ∙ ap code_of_count c.woken_alone.ensures)
+    (Bare c.args.self.now.hand) (Bare c.read.new.hand) (Bare c.clear.new.hand) c.count_code.ensures
     c.deref-2.ensures e.no_such_tag e.not_held e.value e.reads
     (hand_clears k.no_such_tag k.not_held k.succeeds k.err k.clears k.counts) in
     record { calls = (refl, both.calls); kept = λ refusal. absurd (both.done refusal) }
