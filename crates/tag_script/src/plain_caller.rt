@@ -11,10 +11,7 @@ use std::alloc::{AllocError, Global};
 use tag_layout::Layout;
 use tag_queue::are_below;
 use tag_search::{Hint, PlainPort, Port, after_clear};
-use tag_sets::{Shown, TagFault};
-
-/// The most tags of a list that are given back at once.
-const MAX_LIST: usize = 64;
+use tag_sets::{MAX_BATCH, Shown, TagFault};
 
 /// A map, its only caller, and the caller's counts. A contract sees its `plain_world_of`.
 #[derive(Drop)]
@@ -137,7 +134,7 @@ impl PlainCaller {
         requires { IsReadyFor 1 (plain_world_of self.old) }
         ensures { ClearsBatch tags.now (plain_world_of self.old) result (plain_world_of self.new) }
     {
-        if tags.is_empty() || tags.len() > MAX_LIST {
+        if tags.is_empty() || tags.len() > MAX_BATCH {
             return Err(TagFault::BadCount);
         }
         if !are_below(tags, self.port.layout().depth()) {

@@ -9,13 +9,13 @@ use Rattle.tag_script.specs.PlainCallers.{plain_world_of}
 use Rattle.tag_script.specs.PlainWorld.{PlainWorld, ClearsBatch, give_back, bad_count, no_such_tag, not_held, cleared}
 use Rattle.tag_script.proofs.ClearingFacts.{if_true, if_false}
 use Rattle.tag_script.proofs.plain_caller.PlainCaller.clear_batch.Goals as goal
-use Rattle.tag_script.proofs.plain_caller.PlainCaller.clear_batch.Goals.{then-is_empty-via-then-is_empty, then-is_empty-via-else-is_empty+then-tags-gt-MAX_LIST}
+use Rattle.tag_script.proofs.plain_caller.PlainCaller.clear_batch.Goals.{then-is_empty-via-then-is_empty, then-is_empty-via-else-is_empty+then-tags-gt-MAX_BATCH}
 
 pub returns-then-is_empty : goal.returns-then-is_empty
 returns-then-is_empty c = elim c.then-is_empty.branch [
   | then-is_empty-via-then-is_empty w ↦ bad_count (inl (search rules))
-  | then-is_empty-via-else-is_empty+then-tags-gt-MAX_LIST w ↦ bad_count
-      (inr (omega (arith, w.if-tags-gt-MAX_LIST.true)))
+  | then-is_empty-via-else-is_empty+then-tags-gt-MAX_BATCH w ↦ bad_count
+      (inr (omega (arith, w.if-tags-gt-MAX_BATCH.true)))
 ]
 
 pub returns-then-not-are_below : goal.returns-then-not-are_below
@@ -24,7 +24,7 @@ returns-then-not-are_below c =
     let depth = c.depth.ensures.value ∙ ap (λ (l : Layout). l.depth) c.layout.ensures.value in
     let which : Any (λ (tag : ℕ). c.depth.result ≤ tag) tags =
     c.are_below.ensures.beyond.0 c.if-not-are_below.true in
-    no_such_tag (omega (arith, some)) (omega (arith, c.if-tags-gt-MAX_LIST.false))
+    no_such_tag (omega (arith, some)) (omega (arith, c.if-tags-gt-MAX_BATCH.false))
     (subst (λ (d : ℕ). Any (λ (tag : ℕ). d ≤ tag) tags) depth which)
 
 pub returns-then-not-are_held_once : goal.returns-then-not-are_held_once
@@ -33,7 +33,7 @@ returns-then-not-are_held_once c =
     let depth = c.depth.ensures.value ∙ ap (λ (l : Layout). l.depth) c.layout.ensures.value in
     let below : All (λ (tag : ℕ). tag < c.depth.result) tags =
     c.are_below.ensures.below.0 c.if-not-are_below.false in
-    not_held (omega (arith, some)) (omega (arith, c.if-tags-gt-MAX_LIST.false))
+    not_held (omega (arith, some)) (omega (arith, c.if-tags-gt-MAX_BATCH.false))
     (subst (λ (d : ℕ). All (λ (tag : ℕ). tag < d) tags) depth below)
     (if_false _ _ c.are_held_once.result c.if-not-are_held_once.true c.are_held_once.ensures)
 
@@ -64,5 +64,5 @@ returns c =
       back = c.args.self.now.back + length tags;
     } in
     let P : PlainWorld → Type 0 = λ w. ClearsBatch tags (plain_world_of c.args.self.now) (Ok tt) w in
-    subst P done (cleared (omega (arith, some)) (omega (arith, c.if-tags-gt-MAX_LIST.false))
+    subst P done (cleared (omega (arith, some)) (omega (arith, c.if-tags-gt-MAX_BATCH.false))
     (subst (λ (d : ℕ). All (λ (tag : ℕ). tag < d) tags) depth below) held.0 held.1)
