@@ -8,8 +8,8 @@ use std::alloc::Global;
 use tag_core::Spent;
 use tag_model::Totals;
 use tag_queue::{Agent, Options, Queue};
-use wake_book::Ring;
 use tag_search::Hint;
+use wake_book::Ring;
 
 impl TagAllocator for Queue<u64> {
     type Hand = Agent<u64>;

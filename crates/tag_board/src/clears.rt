@@ -22,7 +22,8 @@ impl Board {
         ensures searches { MovesIf caller (λ woken. PutsTag tag) (searchers_of self.old) result
             (searchers_of self.new) }
     {
-        self.tags.clear::<Ring>(&mut self.hands[caller as usize], tag)
+        self.tags
+            .clear::<Ring>(&mut self.hands[caller as usize], tag)
     }
 
     /// Gives back 1 to 64 distinct held ordinary tags at once, and returns the number of waiters woken. `BadCount` for

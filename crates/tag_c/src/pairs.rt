@@ -11,8 +11,8 @@ use crate::cached::CachedMember;
 use crate::codes::{count_code, get_code, tell_left};
 use crate::handle::Handle;
 use crate::member::Member;
-use tag_sets::Count;
 use crate::status::{Status, fault_code};
+use tag_sets::Count;
 
 /// Two calls in one.
 trait PairCalls: AnyHand {
