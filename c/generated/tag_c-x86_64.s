@@ -5,7 +5,7 @@
  * Proved: logic=proved functions=176 axioms=3 target=x86_64-unknown-linux-gnu sum=dac8208d650f15bf native=nat,char,string logic-built=trusted libraries-built=trusted statements=trusted incremental=trusted
  * With: logic dac8208d650f15bf
  * Of the crates: sums tag_layout tag_model step_ledger tag_core tag_search wake_book tag_queue tag_sets tag_cache tag_c
- * Sources: bb34ac6d12952651e5b0279b6e37f53d957a8b3e9fded066cfb0796668f934a4
+ * Sources: 893c32d3f98bf48d15db77a48a4b1bc928e5abf39f29d937cbbe6784503bc469
  * Lines below: 074a3d08fec88c4dc828fbc72962aadc4f5c8583181302098f7057dbb06648e6
  *
  * "Sources" is the SHA-256 sum of what decides these lines and what the proof says of them: src/ and specs/ of the crates and their
