@@ -203,17 +203,6 @@ least_same p w d a b x y = dite (dec_lt a b)
     clash : (b : Bool) → b ≡ true → b ≡ false → ⊥
     clash b e f = let g : true ≡ false = sym e ∙ f in cc
 
--- a word with fewer than n places from its least available one on has no run
-pub no_run_from : (l : Layout) (n : ℕ) (p : Pool) (w place : ℕ) → IsLeastAvailable p w (word_depth l w) place
-    → word_depth l w < place + n → HasNoRun l n p w
-no_run_from l n p w place least few other is = let e = least_same p w (word_depth l w) other place is least in
-    omega arith
-
-pub no_run_none : (l : Layout) (n : ℕ) (p : Pool) (w : ℕ) → ((k : ℕ) → k < word_depth l w → IsBusy p w k)
-    → HasNoRun l n p w
-no_run_none l n p w busy other is = absurd (let b = busy other is.within in let o = is.is in
-    let g : true ≡ false = sym o ∙ b in cc)
-
 module _ (l : Layout) (p : Pool) (n first : ℕ) (order swept : List ℕ) (order_is : order ≡ batch_words l first) where
   pub slow_no_batch : (at : ℕ) (new : Pool) → length order ≤ at → swept ≡ take at order
       → All (HasNoRun l n p) (take at order) → new ≡ taken_from 0 0 0 (freed_in swept p)

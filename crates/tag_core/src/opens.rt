@@ -1,5 +1,6 @@
 //! A new map, and its callers.
-ghost use Rattle.std.specs.Prelude.{◌≡◌, ◌⊎◌, ◌+◌, ◌-◌, ◌<◌, ◌≤◌, ◌↔◌, ◌≢◌, [], length, replicate, All, IfOk, IfErr};
+ghost use Rattle.std.specs.Prelude.{◌≡◌, ◌⊎◌, ◌+◌, ◌-◌, ◌<◌, ◌≤◌, ◌≢◌, [], ◌∷◌, length, replicate, All, IfOk, IfErr};
+ghost use Rattle.refusals.specs.Refusals.{RefusesOrRunsOut};
 ghost use Rattle.step_ledger.specs.Views.{viewing};
 ghost use Rattle.tag_layout.specs.declared.layout.TheConstants.{MAX_DEPTH};
 ghost use Rattle.tag_model.specs.declared.world.TheConstants.{MAX_CALLERS, MOST_WON};
@@ -142,12 +143,9 @@ impl<R: Drop> Map<R> {
         ensures callers { IfOk result (λ p. AreNew p.0 p.1.items) }
         ensures own { IfOk result (λ p. All (IsCallerOf p.0) p.1.items) }
 
-        // The causes are looked at in this order, and memory last.
-        ensures callers_refused { (result ≡ Err OpenFault.CallerCount) ↔ ((callers ≡ 0) ⊎ (MAX_CALLERS < callers)) }
-        ensures life_refused { (result ≡ Err OpenFault.LifeTooLong)
-            ↔ ((1 ≤ callers) × (callers ≤ MAX_CALLERS) × (MOST_WON < life)) }
-        ensures slots_refused { (result ≡ Err OpenFault.SlotCount)
-            ↔ ((1 ≤ callers) × (callers ≤ MAX_CALLERS) × (life ≤ MOST_WON) × (length slots.items ≢ layout.depth)) }
+        ensures refusals { RefusesOrRunsOut ((OpenFault.CallerCount, (callers ≡ 0) ⊎ (MAX_CALLERS < callers))
+            ∷ (OpenFault.LifeTooLong, MOST_WON < life) ∷ (OpenFault.SlotCount, length slots.items ≢ layout.depth) ∷ [])
+            OpenFault.Memory result }
     {
         if callers == 0 || callers > MAX_CALLERS {
             return Err(OpenFault::CallerCount);

@@ -115,7 +115,3 @@ module _ {R : Type 0} (map : Map R) (old new : Caller R) (own : IsCallerOf map o
 
   pub back_placed : (record_of new).back ≡ (record_of old).back + count_ones mask
   back_placed = all_back map first mask last (word + 1) old new fits given is (omega (arith, end))
-
-  pub few_placed : length (record_of new).steps
-      ≤ words_over map.shape.layout first (tags_in first mask) + length (record_of old).steps
-  few_placed = few_steps map first mask last (word + 1) old new fits given is (omega (arith, end)) (omega (arith, end))

@@ -93,32 +93,6 @@ module _ {R : Type 0} where
     posted = λ tag. ap (λ (s : List (Step R)). nat_eq ((cells_left s).state tag) 1) next;
   }
 
-  -- neither a post nor a take changes the pool
-  pub own_post : (old new : Caller R) (tag : ℕ) (value : R) → Adds (Post tag value) old new
-      → pool_left new ≡ pool_left old
-  own_post old new tag value adds = ap (λ (s : List (Step R)). pool_of (words_left s))
-      (own_next (Post tag value) old new adds)
-
-  take_words : (tag found : ℕ) (value : Option R) (older : List (Step R))
-      → words_left (Take tag found value ∷ older) ≡ words_left older
-  take_words tag zero value older = refl
-  take_words tag (suc found) value older = refl
-
-  pub own_take : (old new : Caller R) (tag found : ℕ) (value : Option R) → Adds (Take tag found value) old new
-      → pool_left new ≡ pool_left old
-  own_take old new tag found value adds =
-      ap (λ (s : List (Step R)). pool_of (words_left s)) (own_next (Take tag found value) old new adds)
-      ∙ ap pool_of (take_words tag found value (record_of old).steps)
-
-  -- a take by a lone caller finds the tag posted exactly if its own steps posted it
-  pub own_took : (old new : Caller R) (tag found : ℕ) (value : Option R) → IsAlone new
-      → Adds (Take tag found value) old new
-      → nat_eq found 1 ≡ is_posted old tag
-  own_took old new tag found value one adds =
-      let f = subst (λ (s : List (Step R)). EachFound s) (own_next (Take tag found value) old new adds)
-      (own_found new one) in
-      ap (λ (n : ℕ). nat_eq n 1) f.0
-
 -- steps on words leave the posted tags unchanged
 module _ {R : Type 0} where
   pub state_after : (steps : List WordStep) (older : List (Step R))

@@ -18,14 +18,6 @@ module _ {R : Type 0} where
     set = record { changed = looks; other = refl; split = refl };
   }
 
-  -- what a hand gained it still holds if it then keeps its tags
-  pub more_kept : (named : ℕ → Type 0) (old mid new : Hand R) → HoldsMore named old mid → HoldsSame mid new
-      → HoldsMore named old new
-  more_kept named old mid new more kept = record {
-    fresh = more.fresh;
-    joined = λ tag n. (kept.kept tag (more.joined tag n)).0;
-    kept = λ tag h. let before = more.kept tag h in let now = kept.kept tag before.0 in (now.0, now.1 ∙ before.1);
-    none_else = λ tag h. more.none_else tag (kept.none_else tag h);
   }
 
   -- a hand that made no step left no tag free

@@ -24,11 +24,6 @@ pub still_some : (mask part : ℕ) → mask < 2 ^ 64 → 1 ≤ mask → count_on
 still_some mask part fits some same = let few = (few_ones mask fits some).0 in let most = ones_le_self part in
     omega arith
 
--- the words from the first of these numbers to the last are those of equal ones
-pub words_alike : (l : Layout) {first first' : ℕ} {list list' : List ℕ} → first ≡ first' → list ≡ list'
-    → words_over l first list ≡ words_over l first' list'
-words_alike l one all j = words_over l (one j) (all j)
-
 module _ {R : Type 0} (tags : Tags R) (hand : Hand R) (own : IsHandOf tags hand) (list named : List ℕ)
     (above : All (λ tag. reserved_of tags ≤ tag) list) (is_named : named ≡ numbers_of (reserved_of tags) list) where
   count : length named ≡ length list

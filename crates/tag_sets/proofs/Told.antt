@@ -98,12 +98,6 @@ pub told_on : {A : Type 0} (r : Result A QueueFault) (told : Result A TagFault) 
 told_on (Ok x) told is P h = rw is h
 told_on (Err e) told is P h = rw (err_is told (of_queue e) is) tt
 
--- so does what holds of the value
-pub told_if : {A : Type 0} (r : Result A QueueFault) (told : Result A TagFault) → IsTold r told
-    → (P : A → Type 0) → IfOk r P → IfOk told P
-told_if (Ok x) told is P h = rw is h
-told_if (Err e) told is P h = rw (err_is told (of_queue e) is) tt
-
 -- and what holds where the queue refuses the call holds where the caller is told so
 pub told_err : {A : Type 0} (r : Result A QueueFault) (told : Result A TagFault) → IsTold r told
     → (P : Type 0) → OnErr r P → OnErr told P

@@ -56,9 +56,6 @@ yes_of a b x y e = ap (λ (z : Bool). cond z x y) (eq-eqb a b e)
 pub no_of : (a b x y : ℕ) → a ≢ b → cond (nat_eq a b) x y ≡ y
 no_of a b x y e = ap (λ (z : Bool). cond z x y) (ne_eqb a b e)
 
-suc_no : (a b : ℕ) → a ≢ b → suc a ≢ suc b
-suc_no a b n e = n (omega arith)
-
 -- ---- the words
 
 pub zeros : (n i : ℕ) → ◌≡◌ {A = ℕ} (get_or (replicate n 0) i 0) 0

@@ -1,5 +1,6 @@
 //! Opens a book with its tellers.
-ghost use Rattle.std.specs.Prelude.{◌≡◌, ◌^◌, ◌<◌, ◌≤◌, ◌↔◌, All, IfOk};
+ghost use Rattle.std.specs.Prelude.{◌≡◌, ◌^◌, ◌<◌, ◌≤◌, [], ◌∷◌, All, IfOk};
+ghost use Rattle.refusals.specs.Refusals.{RefusesOrRunsOut};
 ghost use Rattle.step_ledger.specs.Records.{fresh_record};
 ghost use Rattle.wake_book.specs.Book.{IsTellerOf, record_of, tellers_of, IsOpenBook, MiscountsBook};
 ghost use Rattle.wake_book.specs.Rest.{HasRestFrom};
@@ -32,9 +33,8 @@ impl Book {
     ) -> Result<(Book, Vec<Teller>), BookFault>
         ensures ok { IfOk result (λ opened. IsOpenBook batch tellers cap opened.0 opened.1.items) }
 
-        // The counts are checked first, then the cap. `Memory` comes last.
-        ensures count { (result ≡ Err BookFault.Count) ↔ MiscountsBook batch tellers }
-        ensures cap { (result ≡ Err BookFault.CapTooLarge) ↔ ((1 ≤ batch) × (batch ≤ 8) × (1 ≤ tellers) × (tellers ≤ 64) × (2 ^ 56 < cap)) }
+        ensures refusals { RefusesOrRunsOut ((BookFault.Count, MiscountsBook batch tellers)
+            ∷ (BookFault.CapTooLarge, 2 ^ 56 < cap) ∷ []) BookFault.Memory result }
     {
         if batch == 0 || batch > MAX_BATCH || tellers == 0 || tellers > MAX_TELLERS {
             return Err(BookFault::Count);

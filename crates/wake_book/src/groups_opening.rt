@@ -1,5 +1,6 @@
 //! Opens wait groups with their waiters.
-ghost use Rattle.std.specs.Prelude.{◌≡◌, ◌≢◌, ◌<◌, ◌≤◌, ◌↔◌, All, IfOk};
+ghost use Rattle.std.specs.Prelude.{◌≡◌, ◌≢◌, ◌<◌, ◌≤◌, [], ◌∷◌, All, IfOk};
+ghost use Rattle.refusals.specs.Refusals.{RefusesOrRunsOut};
 ghost use Rattle.step_ledger.specs.Records.{fresh_record};
 ghost use Rattle.wake_book.specs.Groups.{IsWaiterOf, IsNew, record_of, waiters_of, AreOpenGroups, MiscountsGroups};
 ghost use Rattle.wake_book.specs.Rest.{HasRestFrom};
@@ -24,9 +25,7 @@ impl Groups {
     pub fn open(alloc: Global, waiters: u32) -> Result<(Groups, Vec<Waiter>), BookFault>
         ensures ok { IfOk result (λ opened. AreOpenGroups waiters opened.0 opened.1.items) }
 
-        // The count is checked before memory is asked for.
-        ensures count { (result ≡ Err BookFault.Count) ↔ MiscountsGroups waiters }
-        ensures no_cap { result ≢ Err BookFault.CapTooLarge }
+        ensures refusals { RefusesOrRunsOut ((BookFault.Count, MiscountsGroups waiters) ∷ []) BookFault.Memory result }
     {
         if waiters == 0 || waiters > MAX_WAITERS {
             return Err(BookFault::Count);
