@@ -1,5 +1,5 @@
 //! The atomic steps of a clear's wakeups: a look at the active count, and a completion added and charged. A charge loads
-//! wakeups and then completions, and where a batch is open makes one compare_exchange, at most 16 tries.
+//! wakeups and then completions, and where a batch is due makes one compare_exchange, at most 16 tries.
 use crate::frame::{Case, Options};
 use crate::steps::Line;
 use std::hint::black_box;

@@ -54,7 +54,7 @@ fn run_looks<R: AllocGlobal + Threads + Sync + Print + Clock + CpuClock>(
     Ok(())
 }
 
-/// Each thread counts completions, and charges where a batch is open.
+/// Each thread counts completions, and charges where a batch is due.
 fn run_counts<R: AllocGlobal + Threads + Sync + Print + Clock + CpuClock>(
     rt: &R,
     options: &Options,

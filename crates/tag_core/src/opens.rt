@@ -1,5 +1,5 @@
 //! A new map, and its callers.
-ghost use Rattle.std.specs.Prelude.{◌≡◌, ◌⊎◌, ◌+◌, ◌-◌, ◌<◌, ◌≤◌, ◌≢◌, [], ◌∷◌, length, replicate, All, IfOk, IfErr};
+ghost use Rattle.std.specs.Prelude.{◌≡◌, ◌+◌, ◌-◌, ◌<◌, ◌≤◌, ◌≢◌, [], ◌∷◌, length, replicate, All, IfOk, IfErr};
 ghost use Rattle.refusals.specs.Refusals.{RefusesOrRunsOut};
 ghost use Rattle.step_ledger.specs.Views.{viewing};
 ghost use Rattle.tag_layout.specs.declared.layout.TheConstants.{MAX_DEPTH};
@@ -143,8 +143,8 @@ impl<R: Drop> Map<R> {
         ensures callers { IfOk result (λ p. AreNew p.0 p.1.items) }
         ensures own { IfOk result (λ p. All (IsCallerOf p.0) p.1.items) }
 
-        ensures refusals { RefusesOrRunsOut ((OpenFault.CallerCount, (callers ≡ 0) ⊎ (MAX_CALLERS < callers))
-            ∷ (OpenFault.LifeTooLong, MOST_WON < life) ∷ (OpenFault.SlotCount, length slots.items ≢ layout.depth) ∷ [])
+        ensures refusals { RefusesOrRunsOut (((1 ≤ callers) × (callers ≤ MAX_CALLERS), OpenFault.CallerCount)
+            ∷ (life ≤ MOST_WON, OpenFault.LifeTooLong) ∷ (length slots.items ≡ layout.depth, OpenFault.SlotCount) ∷ [])
             OpenFault.Memory result }
     {
         if callers == 0 || callers > MAX_CALLERS {

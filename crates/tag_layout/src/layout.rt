@@ -1,8 +1,8 @@
 //! The layout of a map: from tags to words and places, and back.
-ghost use Rattle.std.specs.Prelude.{◌≡◌, ◌≢◌, [], ◌∷◌, ⊤, ℕ, ◌+◌, ◌*◌, ◌^◌, ◌<◌, ◌≤◌, IfOk, IsSomeAnd, Option, Some, None};
+ghost use Rattle.std.specs.Prelude.{◌≡◌, ◌≢◌, ◌↔◌, [], ◌∷◌, ⊤, ℕ, ◌+◌, ◌*◌, ◌^◌, ◌<◌, ◌≤◌, IfOk, IfSome, Option, Some, None};
 ghost use Rattle.std.specs.Int.{bit_at};
 ghost use Rattle.sums.specs.Below.{sum_below};
-ghost use Rattle.refusals.specs.Refusals.{Refuses};
+ghost use Rattle.refusals.specs.Refusals.{RefusesBy};
 ghost use Rattle.tag_layout.specs.Layout.{word_bits, words, word_of, place_of, tag_at, word_depth, HasShift, IsDefaultShift};
 
 use std::marker::Model;
@@ -53,8 +53,8 @@ impl Layout {
         ensures depth { IfOk result (λ l. l.depth ≡ depth) }
         ensures shift { IfOk result (λ l. HasShift depth shift l.shift) }
 
-        ensures refusals { Refuses ((LayoutFault.DepthTooLarge, MAX_DEPTH < depth)
-            ∷ (LayoutFault.ShiftTooLarge, IsSomeAnd shift (λ s. MAX_SHIFT < s)) ∷ []) ⊤ result }
+        ensures refusals { RefusesBy ((depth ≤ MAX_DEPTH, LayoutFault.DepthTooLarge)
+            ∷ (IfSome shift (λ s. s ≤ MAX_SHIFT), LayoutFault.ShiftTooLarge) ∷ []) ⊤ result }
     {
         if depth > MAX_DEPTH {
             return Err(LayoutFault::DepthTooLarge);

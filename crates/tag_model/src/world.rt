@@ -1,5 +1,5 @@
 //! A world: where each tag is, and what each caller has won and given back.
-ghost use Rattle.std.specs.Prelude.{◌≡◌, ◌⊎◌, ℕ, ◌<◌, ◌≤◌, [], ◌∷◌, IfOk, IfErr, OnOk, OnErr, IsOk, length, take, slice_index, slice_set, ◌+◌, ◌^◌, sum};
+ghost use Rattle.std.specs.Prelude.{◌≡◌, ℕ, ◌<◌, ◌≤◌, [], ◌∷◌, IfOk, IfErr, OnOk, OnErr, IsOk, length, take, slice_index, slice_set, ◌+◌, ◌^◌, sum};
 ghost use Rattle.refusals.specs.Refusals.{RefusesOrRunsOut};
 ghost use Rattle.tag_model.specs.World.{opened};
 ghost use Rattle.tag_model.specs.Kept.{callers_of, world_of, CanHappen, HasFault, Happens, CanRun, Stops, Ran, HasTotals, IsInRoom};
@@ -54,7 +54,7 @@ impl World {
         ensures layout { IfOk result (λ w. w.layout ≡ layout) }
         ensures callers { IfOk result (λ w. callers_of w ≡ callers) }
         ensures all_free { IfOk result (λ w. world_of w ≡ opened) }
-        ensures refusals { RefusesOrRunsOut ((ModelFault.CallerCount, (callers ≡ 0) ⊎ (MAX_CALLERS < callers)) ∷ [])
+        ensures refusals { RefusesOrRunsOut (((1 ≤ callers) × (callers ≤ MAX_CALLERS), ModelFault.CallerCount) ∷ [])
             ModelFault.Memory result }
     {
         if callers == 0 || callers > MAX_CALLERS {

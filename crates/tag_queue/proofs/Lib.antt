@@ -11,7 +11,6 @@ pub mod MaskPlaced
 pub mod SoFar
 pub mod Counting
 pub mod Granted
-pub mod PassedOn
 pub mod Fronts
 pub mod Gathering
 pub mod Opening

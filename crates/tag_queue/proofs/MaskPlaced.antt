@@ -1,5 +1,5 @@
 -- A mask whose tags are all in one word: how it stands there, and that one step frees its tags.
-use Rattle.std.proofs.Common.{◌≡◌, ◌≢◌, ℕ, ◌+◌, ◌-◌, ◌*◌, ◌%◌, ◌^◌, ◌<◌, ◌≤◌, count_ones, length, arith, sym, ap, ◌∙◌, subst, ⊎_elim}
+use Rattle.std.proofs.Common.{◌≡◌, ◌≢◌, ℕ, ◌+◌, ◌-◌, ◌*◌, ◌%◌, ◌^◌, ◌<◌, ◌≤◌, count_ones, arith, sym, ap, ◌∙◌, subst, ⊎_elim}
 use Rattle.std.specs.Prelude.{All}
 use Rattle.std.specs.Int.{bit_at}
 use Rattle.std.proofs.lemmas.Bool.{cases_lt}
@@ -15,11 +15,11 @@ use Rattle.tag_core.specs.Callers.{IsCallerOf, Holds, record_of, Adds}
 use Rattle.tag_core.specs.Holdings.{IsInMask, Releases}
 use Rattle.tag_search.proofs.TakenPlaces.{below_of_bits}
 use Rattle.tag_queue.specs.Batches.{GivesAll}
-use Rattle.tag_queue.specs.Masks.{tags_in, mask_bit, IsLastIn, words_over}
+use Rattle.tag_queue.specs.Masks.{tags_in, mask_bit, IsLastIn}
 use Rattle.tag_queue.proofs.RunTags.{place_one, bit_below}
 use Rattle.tag_queue.proofs.MaskParts.{past_start, in_word, start_le, moved_up}
 use Rattle.tag_queue.proofs.MaskHolds.{all_in, each_in, same_bit, in_part, part_has}
-use Rattle.tag_queue.proofs.MaskGives.{GivenTo, before, none_given, one_here, all_given, all_back, few_steps}
+use Rattle.tag_queue.proofs.MaskGives.{GivenTo, before, none_given, one_here, all_given, all_back}
 
 module _ (l : Layout) (first mask last : ℕ) (is : IsLastIn first mask last) (one_word : word_of l last ≡ word_of l first)
   where

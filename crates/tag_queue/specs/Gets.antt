@@ -1,5 +1,5 @@
 -- The effect of gets on the agent that makes them.
-use Rattle.std.specs.Prelude.{◌≡◌, ℕ, ◌+◌, ◌*◌, ◌<◌, ◌⊎◌, List, Option}
+use Rattle.std.specs.Prelude.{ℕ, ◌+◌, ◌*◌, ◌≤◌, List, Option}
 use Rattle.tag_layout.specs.Layout.{Layout, words, word_bits, word_of}
 use Rattle.tag_core.specs.declared.word_step.WordStep.{WordStep}
 use Rattle.tag_core.specs.declared.caller.Caller.{Caller}
@@ -54,9 +54,9 @@ pub record GetsBatch {R : Type 0} (l : Layout) (n : ℕ) (answer : Option (ℕ �
   pub hint : BatchFollows l.depth n (hint_of old) (hint_of new) answer
   pub others : SameCounts old new
 
--- a count that no batch can have: 0, or more than the bits of a word
-abbrev pub MiscountsBatch : Layout → ℕ → Type 0
-MiscountsBatch l n = (n ≡ 0) ⊎ (word_bits l < n)
+-- the count is one that a batch can have, 1 to the bits of a word
+abbrev pub CountsBatch : Layout → ℕ → Type 0
+CountsBatch l n = (1 ≤ n) × (n ≤ word_bits l)
 
 -- the most steps that a get adds to the agent's list
 abbrev pub most_steps : Layout → ℕ

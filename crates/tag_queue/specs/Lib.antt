@@ -16,3 +16,4 @@ pub mod Shells
 pub mod Resizing
 pub mod Placing
 pub mod Tallies
+pub mod Refusals

@@ -1,32 +1,21 @@
 -- A new queue, and its agents.
-use Rattle.std.specs.Prelude.{◌≡◌, ℕ, ◌^◌, ◌<◌, ◌≤◌, ◌⊎◌, List, All, map, max, unwrap_or, IsSomeAnd, Bool}
+use Rattle.std.specs.Prelude.{◌≡◌, ℕ, ◌^◌, ◌≤◌, List, All, map, max, unwrap_or, Bool}
 use Rattle.tag_layout.specs.Layout.{Layout, wake_batch, HasShift}
-use Rattle.tag_layout.specs.declared.layout.TheConstants.{MAX_DEPTH, MAX_SHIFT}
 use Rattle.tag_model.specs.declared.world.TheConstants.{MAX_CALLERS, MOST_WON}
 use Rattle.tag_core.specs.Opening.{IsNew, AreNew}
 use Rattle.tag_search.specs.declared.hint.Hint.{Hint}
 use Rattle.wake_book.specs.Book.{IsOpenBook}
 use Rattle.wake_book.specs.Groups.{AreOpenGroups}
 use Rattle.tag_queue.specs.declared.agent.Agent.{Agent}
-use Rattle.tag_queue.specs.declared.fault.QueueOpenFault.{QueueOpenFault}
-use Rattle.tag_queue.specs.declared.fault.QueueOpenFault.TheVariants.{Memory, TotalTooLarge, ShiftTooLarge, CallerCount, LifeTooLong, CapTooLarge}
 use Rattle.tag_queue.specs.declared.queue.Options.{Options}
 use Rattle.tag_queue.specs.declared.queue.Queue.{Queue}
 use Rattle.tag_queue.specs.Agents.{caller_of, teller_of, waiter_of, hint_of, layout_of, least_of, min_shallow_of, IsAgentOf}
 use Rattle.tag_queue.specs.Parts.{HasHint}
 use Rattle.tag_queue.specs.Placing.{hint_in_part}
 
--- there is a layout for the depth and the shift
-abbrev pub HasLayout : ℕ → Options → Type 0
-HasLayout depth options = (depth ≤ MAX_DEPTH) × ¬ (IsSomeAnd options.shift (λ s. MAX_SHIFT < s))
-
 -- the layout has this depth, and the shift of the options or, without one, the default for the depth
 abbrev pub IsLaidOut : ℕ → Options → Layout → Type 0
 IsLaidOut depth options layout = (layout.depth ≡ depth) × HasShift depth options.shift layout.shift
-
--- the number of agents is 0 or too large
-abbrev pub MiscountsAgents : Options → Type 0
-MiscountsAgents options = (options.callers ≡ 0) ⊎ (MAX_CALLERS < options.callers)
 
 -- the number of agents is one that a queue can have, 1 to 64
 abbrev pub CountsAgents : Options → Type 0
@@ -35,21 +24,6 @@ CountsAgents options = (1 ≤ options.callers) × (options.callers ≤ MAX_CALLE
 -- the number of agents, the life and the cap are within their limits
 abbrev pub HasLimits : Options → Type 0
 HasLimits options = CountsAgents options × (options.life ≤ MOST_WON) × (options.cap ≤ 2 ^ 56)
-
--- a queue of this depth can be opened with these options, unless memory runs out
-abbrev pub CanOpen : ℕ → Options → Type 0
-CanOpen depth options = HasLayout depth options × HasLimits options
-
--- the cause of a refusal holds, and none that is checked before it; when memory runs out is not specified
-abbrev pub RefusesOpen : ℕ → Options → QueueOpenFault → Type 0
-RefusesOpen depth options Memory = CanOpen depth options
-RefusesOpen depth options TotalTooLarge = MAX_DEPTH < depth
-RefusesOpen depth options ShiftTooLarge = (depth ≤ MAX_DEPTH) × IsSomeAnd options.shift (λ s. MAX_SHIFT < s)
-RefusesOpen depth options CallerCount = HasLayout depth options × MiscountsAgents options
-RefusesOpen depth options LifeTooLong =
-    HasLayout depth options × CountsAgents options × (MOST_WON < options.life)
-RefusesOpen depth options CapTooLarge =
-    HasLayout depth options × CountsAgents options × (options.life ≤ MOST_WON) × (2 ^ 56 < options.cap)
 
 -- a hint at tag 0
 abbrev pub first_hint : Bool → Hint

@@ -1,5 +1,5 @@
 //! Clears: tags are given back, counted, and waiters granted a wakeup.
-ghost use Rattle.std.specs.Prelude.{◌≡◌, ◌+◌, ◌<◌, ◌≤◌, ◌↔◌, IfOk, IsOk, OnOk, OnErr};
+ghost use Rattle.std.specs.Prelude.{◌≡◌, ◌+◌, ◌<◌, ◌≤◌, IfOk, OnOk, ⊤};
 ghost use Rattle.tag_queue.specs.Agents.{layout_of, IsAgentOf, Holds, step_count, caller_of, teller_of, waiter_of, hint_of, group_steps, SameCounts};
 ghost use Rattle.tag_queue.specs.Clears.{Puts, Counts, ChargesNow, GrantsNone, charge_steps, complete_steps};
 ghost use Rattle.tag_queue.specs.Tallies.{back_of};
@@ -7,6 +7,8 @@ ghost use Rattle.tag_queue.specs.Waits.{SameTags};
 ghost use Rattle.wake_book.specs.Book.{counted_by};
 ghost use Rattle.wake_book.specs.Grants.{AreGrantsOf};
 ghost use Rattle.wake_book.specs.Groups.{StandsAsBefore};
+ghost use Rattle.refusals.specs.Refusals.{RefusesBy};
+ghost use Rattle.tag_queue.specs.Refusals.{tag_checks};
 
 use crate::agent::Agent;
 use crate::fault::QueueFault;
@@ -27,14 +29,11 @@ impl<R: Copy> Queue<R> {
     pub fn clear<W: Waking>(&self, agent: &mut Agent<R>, tag: u32) -> Result<W::Answer, QueueFault>
         requires agent { IsAgentOf self.now agent.old }
         ensures agent { IsAgentOf self.now agent.new }
-        ensures no_such_tag { (result ≡ Err QueueFault.NoSuchTag) ↔ ((layout_of self.now).depth ≤ tag) }
-        ensures not_held { (result ≡ Err QueueFault.NotHeld) ↔ ((tag < (layout_of self.now).depth) × ¬ (Holds agent.old tag)) }
-        ensures succeeds { Holds agent.old tag → IsOk result }
+        ensures refusals { RefusesBy (tag_checks self.now agent.old tag) (agent.new ≡ agent.old) result }
         ensures puts { OnOk result (Puts (layout_of self.now) tag agent.old agent.new) }
         ensures counts { IfOk result (λ answer. Counts self.now 1 agent.old agent.new (W.woken answer)) }
         ensures tells { IfOk result (λ answer. W.tells answer (waiter_of agent.old) (waiter_of agent.new)) }
         ensures bound { step_count agent.new ≤ 1 + complete_steps + step_count agent.old }
-        ensures err { OnErr result (agent.new ≡ agent.old) }
     {
         self.find_held(agent, tag)?;
         Ok(self.clear_held::<W>(agent, tag))
@@ -60,13 +59,10 @@ impl<R: Copy> Queue<R> {
     pub fn clear_uncounted(&self, agent: &mut Agent<R>, tag: u32) -> Result<(), QueueFault>
         requires agent { IsAgentOf self.now agent.old }
         ensures agent { IsAgentOf self.now agent.new }
-        ensures no_such_tag { (result ≡ Err QueueFault.NoSuchTag) ↔ ((layout_of self.now).depth ≤ tag) }
-        ensures not_held { (result ≡ Err QueueFault.NotHeld) ↔ ((tag < (layout_of self.now).depth) × ¬ (Holds agent.old tag)) }
-        ensures succeeds { Holds agent.old tag → IsOk result }
+        ensures refusals { RefusesBy (tag_checks self.now agent.old tag) (agent.new ≡ agent.old) result }
         ensures puts { OnOk result (Puts (layout_of self.now) tag agent.old agent.new) }
         ensures others { SameCounts agent.old agent.new }
         ensures bound { step_count agent.new ≤ 1 + step_count agent.old }
-        ensures err { OnErr result (agent.new ≡ agent.old) }
     {
         self.find_held(agent, tag)?;
         self.put(agent, tag);
@@ -77,9 +73,7 @@ impl<R: Copy> Queue<R> {
     #[inline]
     pub(crate) fn find_held(&self, agent: &Agent<R>, tag: u32) -> Result<(), QueueFault>
         requires agent { IsAgentOf self.now agent.now }
-        ensures held { IsOk result ↔ Holds agent.now tag }
-        ensures no_such_tag { (result ≡ Err QueueFault.NoSuchTag) ↔ ((layout_of self.now).depth ≤ tag) }
-        ensures not_held { (result ≡ Err QueueFault.NotHeld) ↔ ((tag < (layout_of self.now).depth) × ¬ (Holds agent.now tag)) }
+        ensures refusals { RefusesBy (tag_checks self.now agent.now tag) ⊤ result }
     {
         if tag >= self.map.layout().depth() {
             return Err(QueueFault::NoSuchTag);

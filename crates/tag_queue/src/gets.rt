@@ -1,8 +1,10 @@
 //! Gets: the calls that take tags.
-ghost use Rattle.std.specs.Prelude.{◌≡◌, ◌+◌, ◌<◌, ◌≤◌, ◌↔◌, false, IfOk, IfErr, OnErr, IsOk, IsTrue, None};
-ghost use Rattle.tag_queue.specs.Agents.{layout_of, least_of, IsAgentOf, HasRoom, hint_of, step_count};
+ghost use Rattle.std.specs.Prelude.{◌≡◌, ◌+◌, ◌<◌, ◌≤◌, false, IfOk, IsTrue, None};
+ghost use Rattle.tag_queue.specs.Agents.{layout_of, IsAgentOf, hint_of, step_count};
 ghost use Rattle.tag_queue.specs.Freed.{GetsAndLooks};
-ghost use Rattle.tag_queue.specs.Gets.{GetsPlain, GetsShallow, GetsBatch, MiscountsBatch, most_steps};
+ghost use Rattle.tag_queue.specs.Gets.{GetsPlain, GetsShallow, GetsBatch, most_steps, CountsBatch};
+ghost use Rattle.refusals.specs.Refusals.{RefusesBy};
+ghost use Rattle.tag_queue.specs.Refusals.{get_checks, shallow_checks, batch_checks};
 
 use crate::agent::Agent;
 use crate::fault::QueueFault;
@@ -21,10 +23,9 @@ impl<R: Copy> Queue<R> {
     pub fn get(&self, agent: &mut Agent<R>) -> Result<Option<u32>, QueueFault>
         requires agent { IsAgentOf self.now agent.old }
         ensures agent { IsAgentOf self.now agent.new }
-        ensures room { IsOk result ↔ HasRoom agent.old 1 }
+        ensures refusals { RefusesBy (get_checks agent.old) (agent.new ≡ agent.old) result }
         ensures gets { IfOk result (λ answer. GetsAndLooks (GetsPlain (layout_of self.now) answer) agent.old agent.new) }
         ensures bound { step_count agent.new ≤ most_steps (layout_of self.now) + 1 + step_count agent.old }
-        ensures err { IfErr result (λ fault. (fault ≡ QueueFault.Spent) × (agent.new ≡ agent.old)) }
     {
         let Found { answer, left } = self.get_freed(agent)?;
         self.look_after(agent, left);
@@ -37,14 +38,9 @@ impl<R: Copy> Queue<R> {
     pub fn get_shallow(&self, agent: &mut Agent<R>, depth: u32) -> Result<Option<u32>, QueueFault>
         requires agent { IsAgentOf self.now agent.old }
         ensures agent { IsAgentOf self.now agent.new }
-
-        // The depth is checked first.
-        ensures too_shallow { (result ≡ Err QueueFault.TooShallow) ↔ (depth < least_of self.now) }
-        ensures spent { (result ≡ Err QueueFault.Spent) ↔ ((least_of self.now ≤ depth) × ¬ (HasRoom agent.old 1)) }
-        ensures succeeds { IsOk result ↔ ((least_of self.now ≤ depth) × HasRoom agent.old 1) }
+        ensures refusals { RefusesBy (shallow_checks self.now agent.old depth) (agent.new ≡ agent.old) result }
         ensures gets { IfOk result (λ answer. GetsAndLooks (GetsShallow (layout_of self.now) depth answer) agent.old agent.new) }
         ensures bound { step_count agent.new ≤ most_steps (layout_of self.now) + 1 + step_count agent.old }
-        ensures err { OnErr result (agent.new ≡ agent.old) }
     {
         let Found { answer, left } = self.get_shallow_freed(agent, depth)?;
         self.look_after(agent, left);
@@ -58,18 +54,12 @@ impl<R: Copy> Queue<R> {
     pub fn get_batch(&self, agent: &mut Agent<R>, n: u32) -> Result<Option<(u32, u64)>, QueueFault>
         requires agent { IsAgentOf self.now agent.old }
         ensures agent { IsAgentOf self.now agent.new }
-
-        // The count is checked first, then round robin.
-        ensures bad_count { (result ≡ Err QueueFault.BadCount) ↔ MiscountsBatch (layout_of self.now) n }
-        ensures round_robin { ¬ (MiscountsBatch (layout_of self.now) n) → IsTrue (hint_of agent.old).round_robin
+        ensures refusals { RefusesBy (batch_checks self.now agent.old n) (agent.new ≡ agent.old) result }
+        ensures round_robin { CountsBatch (layout_of self.now) n → IsTrue (hint_of agent.old).round_robin
             → (result ≡ Ok None) × (agent.new ≡ agent.old) }
-        ensures spent { (result ≡ Err QueueFault.Spent)
-            ↔ (¬ (MiscountsBatch (layout_of self.now) n) × ((hint_of agent.old).round_robin ≡ false) × ¬ (HasRoom agent.old n)) }
-        ensures succeeds { ¬ (MiscountsBatch (layout_of self.now) n) → HasRoom agent.old n → IsOk result }
         ensures gets { (hint_of agent.old).round_robin ≡ false
             → IfOk result (λ answer. GetsAndLooks (GetsBatch (layout_of self.now) n answer) agent.old agent.new) }
         ensures bound { step_count agent.new ≤ most_steps (layout_of self.now) + 1 + step_count agent.old }
-        ensures err { OnErr result (agent.new ≡ agent.old) }
     {
         let Found { answer, left } = self.get_batch_freed(agent, n)?;
         self.look_after(agent, left);

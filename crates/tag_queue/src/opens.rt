@@ -1,9 +1,10 @@
 //! Opens a queue with its agents.
-ghost use Rattle.std.specs.Prelude.{◌≡◌, ◌≢◌, ℕ, ◌^◌, ◌<◌, ◌≤◌, ◌↔◌, List, [], All, IfOk, IsSomeAnd};
-ghost use Rattle.tag_layout.specs.declared.layout.TheConstants.{MAX_DEPTH, MAX_SHIFT};
+ghost use Rattle.std.specs.Prelude.{◌≡◌, ◌<◌, IfOk};
 ghost use Rattle.tag_model.specs.declared.world.TheConstants.{MAX_CALLERS, MOST_WON};
 ghost use Rattle.tag_queue.specs.Agents.{layout_of, fill_of};
-ghost use Rattle.tag_queue.specs.Opening.{HasLayout, IsLaidOut, MiscountsAgents, CountsAgents, HasLimits, IsOpen};
+ghost use Rattle.tag_queue.specs.Opening.{IsLaidOut, HasLimits, IsOpen};
+ghost use Rattle.refusals.specs.Refusals.{RefusesOrRunsOut};
+ghost use Rattle.tag_queue.specs.Refusals.{open_checks};
 
 use crate::agent::Agent;
 use crate::fault::QueueOpenFault;
@@ -34,15 +35,7 @@ impl<R: Copy> Queue<R> {
         ensures layout { IfOk result (λ opened. IsLaidOut depth options (layout_of opened.0)) }
         ensures fill { IfOk result (λ opened. fill_of opened.0 ≡ fill) }
 
-        // The causes are checked in this order, and memory comes last.
-        ensures total { (result ≡ Err QueueOpenFault.TotalTooLarge) ↔ (MAX_DEPTH < depth) }
-        ensures shift { (result ≡ Err QueueOpenFault.ShiftTooLarge)
-            ↔ ((depth ≤ MAX_DEPTH) × IsSomeAnd options.shift (λ s. MAX_SHIFT < s)) }
-        ensures callers { (result ≡ Err QueueOpenFault.CallerCount) ↔ (HasLayout depth options × MiscountsAgents options) }
-        ensures life { (result ≡ Err QueueOpenFault.LifeTooLong)
-            ↔ (HasLayout depth options × CountsAgents options × (MOST_WON < options.life)) }
-        ensures cap { (result ≡ Err QueueOpenFault.CapTooLarge)
-            ↔ (HasLayout depth options × CountsAgents options × (options.life ≤ MOST_WON) × (2 ^ 56 < options.cap)) }
+        ensures refusals { RefusesOrRunsOut (open_checks depth options) QueueOpenFault.Memory result }
     {
         let layout = match Layout::new(depth, options.shift) {
             Ok(layout) => layout,

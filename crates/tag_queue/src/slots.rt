@@ -1,8 +1,10 @@
 //! The slots of held tags, and how tags pass from agent to agent.
-ghost use Rattle.std.specs.Prelude.{◌≡◌, ◌<◌, ◌≤◌, ◌↔◌, IfOk, IfErr, IsOk, OnOk, OnErr};
+ghost use Rattle.std.specs.Prelude.{◌≡◌, ◌<◌, ◌≤◌, ◌↔◌, IfOk, IfErr, OnOk};
 ghost use mathlib.Core.Option.{some};
 ghost use Rattle.tag_queue.specs.Agents.{layout_of, IsAgentOf, Holds, slot_of};
 ghost use Rattle.tag_queue.specs.Slots.{Writes, Posts, Takes, RefusesTake};
+ghost use Rattle.refusals.specs.Refusals.{RefusesBy};
+ghost use Rattle.tag_queue.specs.Refusals.{tag_checks};
 
 use crate::agent::Agent;
 use crate::fault::QueueFault;
@@ -15,12 +17,9 @@ impl<R: Copy> Queue<R> {
     pub fn read(&self, agent: &mut Agent<R>, tag: u32) -> Result<R, QueueFault>
         requires agent { IsAgentOf self.now agent.old }
         ensures agent { IsAgentOf self.now agent.new }
-        ensures no_such_tag { (result ≡ Err QueueFault.NoSuchTag) ↔ ((layout_of self.now).depth ≤ tag) }
-        ensures not_held { (result ≡ Err QueueFault.NotHeld) ↔ ((tag < (layout_of self.now).depth) × ¬ (Holds agent.old tag)) }
-        ensures succeeds { Holds agent.old tag → IsOk result }
+        ensures refusals { RefusesBy (tag_checks self.now agent.old tag) (agent.new ≡ agent.old) result }
         ensures value { IfOk result (λ value. slot_of agent.old tag ≡ some value) }
         ensures same { IfOk result (λ value. Writes tag value agent.old agent.new) }
-        ensures err { OnErr result (agent.new ≡ agent.old) }
     {
         self.find_held(agent, tag)?;
         Ok(self.map.read(&mut agent.caller, tag))
@@ -32,12 +31,9 @@ impl<R: Copy> Queue<R> {
     pub fn write(&self, agent: &mut Agent<R>, tag: u32, value: R) -> Result<R, QueueFault>
         requires agent { IsAgentOf self.now agent.old }
         ensures agent { IsAgentOf self.now agent.new }
-        ensures no_such_tag { (result ≡ Err QueueFault.NoSuchTag) ↔ ((layout_of self.now).depth ≤ tag) }
-        ensures not_held { (result ≡ Err QueueFault.NotHeld) ↔ ((tag < (layout_of self.now).depth) × ¬ (Holds agent.old tag)) }
-        ensures succeeds { Holds agent.old tag → IsOk result }
+        ensures refusals { RefusesBy (tag_checks self.now agent.old tag) (agent.new ≡ agent.old) result }
         ensures former { IfOk result (λ former. slot_of agent.old tag ≡ some former) }
         ensures writes { OnOk result (Writes tag value agent.old agent.new) }
-        ensures err { OnErr result (agent.new ≡ agent.old) }
     {
         self.find_held(agent, tag)?;
         Ok(self.map.slot(&mut agent.caller, tag, value))
@@ -50,11 +46,8 @@ impl<R: Copy> Queue<R> {
     pub fn post(&self, agent: &mut Agent<R>, tag: u32) -> Result<(), QueueFault>
         requires agent { IsAgentOf self.now agent.old }
         ensures agent { IsAgentOf self.now agent.new }
-        ensures no_such_tag { (result ≡ Err QueueFault.NoSuchTag) ↔ ((layout_of self.now).depth ≤ tag) }
-        ensures not_held { (result ≡ Err QueueFault.NotHeld) ↔ ((tag < (layout_of self.now).depth) × ¬ (Holds agent.old tag)) }
-        ensures succeeds { Holds agent.old tag → IsOk result }
+        ensures refusals { RefusesBy (tag_checks self.now agent.old tag) (agent.new ≡ agent.old) result }
         ensures posts { OnOk result (Posts tag agent.old agent.new) }
-        ensures err { OnErr result (agent.new ≡ agent.old) }
     {
         self.find_held(agent, tag)?;
         self.map.post(&mut agent.caller, tag);

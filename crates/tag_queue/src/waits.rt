@@ -1,5 +1,5 @@
 //! Enters and leaves wait groups, and loads what they count.
-ghost use Rattle.std.specs.Prelude.{◌≡◌, ◌≤◌, ◌<◌, ◌↔◌, ◌∷◌, IfOk, IfErr, IfSome, IfNone, IsOk, IsSome, None};
+ghost use Rattle.std.specs.Prelude.{◌≡◌, ◌≤◌, ◌<◌, ◌∷◌, IfOk, IfSome, IfNone, IsSome, None};
 ghost use Rattle.wake_book.specs.Waits.{active_at, index_at};
 ghost use Rattle.wake_book.specs.Groups.{LeavesAs, IdlesOnce, StandsAsBefore, wait_index_of};
 ghost use Rattle.wake_book.specs.Book.{counted_by};
@@ -7,6 +7,8 @@ ghost use Rattle.wake_book.specs.declared.steps.BookStep.TheVariants.{LookComple
 ghost use Rattle.wake_book.specs.declared.steps.GroupStep.TheVariants.{Look};
 ghost use Rattle.tag_queue.specs.Agents.{IsAgentOf, standing_of, book_steps, group_steps, caller_of, teller_of, waiter_of, hint_of};
 ghost use Rattle.tag_queue.specs.Waits.{SameTags, Enters};
+ghost use Rattle.refusals.specs.Refusals.{RefusesBy};
+ghost use Rattle.tag_queue.specs.Refusals.{wait_checks, leave_checks};
 
 use crate::agent::Agent;
 use crate::fault::QueueFault;
@@ -33,9 +35,8 @@ impl<R: Copy> Queue<R> {
     pub fn prepare_wait(&self, agent: &mut Agent<R>) -> Result<u32, QueueFault>
         requires agent { IsAgentOf self.now agent.old }
         ensures agent { IsAgentOf self.now agent.new }
-        ensures out { IsOk result ↔ (standing_of agent.old ≡ None) }
+        ensures refusals { RefusesBy (wait_checks agent.old) (agent.new ≡ agent.old) result }
         ensures enters { IfOk result (λ group. Enters group agent.old agent.new) }
-        ensures err { IfErr result (λ fault. (fault ≡ QueueFault.Waiting) × (agent.new ≡ agent.old)) }
     {
         if Groups::standing(&agent.waiter).is_some() {
             return Err(QueueFault::Waiting);
@@ -48,12 +49,11 @@ impl<R: Copy> Queue<R> {
     pub fn finish_wait<W: Wait>(&self, rt: &W, agent: &mut Agent<R>) -> Result<Left, QueueFault>
         requires agent { IsAgentOf self.now agent.old }
         ensures agent { IsAgentOf self.now agent.new }
-        ensures stands { IsOk result ↔ IsSome (standing_of agent.old) }
+        ensures refusals { RefusesBy (leave_checks agent.old) (agent.new ≡ agent.old) result }
         ensures leaves { IfOk result (λ left. LeavesAs (waiter_of agent.old) (waiter_of agent.new) left) }
         ensures out { standing_of agent.new ≡ None }
         ensures next { wait_index_of (waiter_of agent.new) ≡ wait_index_of (waiter_of agent.old) }
         ensures same { SameTags agent.old agent.new }
-        ensures err { IfErr result (λ fault. (fault ≡ QueueFault.NotWaiting) × (agent.new ≡ agent.old)) }
     {
         if Groups::standing(&agent.waiter).is_none() {
             return Err(QueueFault::NotWaiting);
@@ -66,14 +66,13 @@ impl<R: Copy> Queue<R> {
     pub fn try_finish_wait(&self, agent: &mut Agent<R>) -> Result<Option<Left>, QueueFault>
         requires agent { IsAgentOf self.now agent.old }
         ensures agent { IsAgentOf self.now agent.new }
-        ensures stands { IsOk result ↔ IsSome (standing_of agent.old) }
+        ensures refusals { RefusesBy (leave_checks agent.old) (agent.new ≡ agent.old) result }
         ensures leaves { IfOk result (λ answer. IfSome answer (LeavesAs (waiter_of agent.old) (waiter_of agent.new))) }
         ensures out { IfOk result (λ answer. IfSome answer (λ _. standing_of agent.new ≡ None)) }
         ensures stays { IfOk result (λ answer. IfNone answer (standing_of agent.new ≡ standing_of agent.old)) }
         ensures idle { IfOk result (λ answer. IfNone answer (IdlesOnce (waiter_of agent.old) (waiter_of agent.new))) }
         ensures next { wait_index_of (waiter_of agent.new) ≡ wait_index_of (waiter_of agent.old) }
         ensures same { SameTags agent.old agent.new }
-        ensures err { IfErr result (λ fault. (fault ≡ QueueFault.NotWaiting) × (agent.new ≡ agent.old)) }
     {
         if Groups::standing(&agent.waiter).is_none() {
             return Err(QueueFault::NotWaiting);

@@ -79,6 +79,6 @@ most_steps tags = queue.most_steps (layout_of tags Ordinary)
 abbrev pub most_reserved_steps : {R : Type 0} → Tags R → ℕ
 most_reserved_steps tags = queue.most_steps (layout_of tags Reserved)
 
--- a count that no batch can have: 0, or more than the bits of a word of the ordinary set
-abbrev pub MiscountsBatch : {R : Type 0} → Tags R → ℕ → Type 0
-MiscountsBatch tags n = queue.MiscountsBatch (layout_of tags Ordinary) n
+-- the count is one that a batch can have, 1 to the bits of a word of the ordinary set
+abbrev pub CountsBatch : {R : Type 0} → Tags R → ℕ → Type 0
+CountsBatch tags n = queue.CountsBatch (layout_of tags Ordinary) n

@@ -22,3 +22,5 @@ pub mod Busy
 pub mod Dumps
 pub mod Resizing
 pub mod Tallies
+pub mod Refusals
+pub mod Calls

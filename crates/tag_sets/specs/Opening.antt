@@ -1,16 +1,13 @@
 -- Two new sets of tags, and their hands.
-use Rattle.std.specs.Prelude.{◌≡◌, ℕ, ◌^◌, ◌<◌, ◌≤◌, List, All, map, length, IsSomeAnd, None}
+use Rattle.std.specs.Prelude.{◌≡◌, ℕ, ◌≤◌, List, All, map, length, None}
 use mathlib.Core.Option.{some}
 use lib.ListN.{get_elem?}
-use Rattle.tag_layout.specs.declared.layout.TheConstants.{MAX_DEPTH, MAX_SHIFT}
-use Rattle.tag_model.specs.declared.world.TheConstants.{MOST_WON}
+use Rattle.tag_layout.specs.declared.layout.TheConstants.{MAX_DEPTH}
 use Rattle.tag_queue.specs.declared.agent.Agent.{Agent}
-use Rattle.tag_sets.specs.declared.fault.SetFault.{SetFault}
-use Rattle.tag_sets.specs.declared.fault.SetFault.TheVariants.{Memory, TotalTooLarge, ReservedTooLarge, ShiftTooLarge, CallerCount, LifeTooLong, CapTooLarge}
 use Rattle.tag_queue.specs.declared.queue.Options.{Options}
 use Rattle.tag_queue.specs.declared.queue.Queue.{Queue}
 use Rattle.tag_queue.specs.Opening as queue
-use Rattle.tag_queue.specs.Opening.{CountsAgents, MiscountsAgents, HasLimits, HasFirstHint, HasPlacedHint}
+use Rattle.tag_queue.specs.Opening.{HasFirstHint, HasPlacedHint}
 use Rattle.tag_sets.specs.declared.hand.Hand.{Hand}
 use Rattle.tag_sets.specs.declared.tags.Tags.{Tags}
 use Rattle.tag_sets.specs.Hands.{IsHandOf, Holds, number_of, split_of}
@@ -18,27 +15,6 @@ use Rattle.tag_sets.specs.Hands.{IsHandOf, Holds, number_of, split_of}
 -- there are at most 10,240 tags, and at most as many reserved tags as tags
 abbrev pub HasRange : ℕ → ℕ → Type 0
 HasRange total reserved = (total ≤ MAX_DEPTH) × (reserved ≤ total)
-
--- and there are layouts of both sets for the options
-abbrev pub HasLayouts : ℕ → ℕ → Options → Type 0
-HasLayouts total reserved options = HasRange total reserved × ¬ (IsSomeAnd options.shift (λ s. MAX_SHIFT < s))
-
--- two sets of these sizes can be opened with these options, unless memory runs out
-abbrev pub CanOpen : ℕ → ℕ → Options → Type 0
-CanOpen total reserved options = HasLayouts total reserved options × HasLimits options
-
--- the cause of a refusal holds, and none that is checked before it; when memory runs out is not specified
-abbrev pub RefusesOpen : ℕ → ℕ → Options → SetFault → Type 0
-RefusesOpen total reserved options Memory = CanOpen total reserved options
-RefusesOpen total reserved options TotalTooLarge = MAX_DEPTH < total
-RefusesOpen total reserved options ReservedTooLarge = (total ≤ MAX_DEPTH) × (total < reserved)
-RefusesOpen total reserved options ShiftTooLarge =
-    HasRange total reserved × IsSomeAnd options.shift (λ s. MAX_SHIFT < s)
-RefusesOpen total reserved options CallerCount = HasLayouts total reserved options × MiscountsAgents options
-RefusesOpen total reserved options LifeTooLong =
-    HasLayouts total reserved options × CountsAgents options × (MOST_WON < options.life)
-RefusesOpen total reserved options CapTooLarge = HasLayouts total reserved options × CountsAgents options
-    × (options.life ≤ MOST_WON) × (2 ^ 56 < options.cap)
 
 -- the hand's agent in the reserved set
 abbrev pub reserved_part : {R : Type 0} → Hand R → Agent R

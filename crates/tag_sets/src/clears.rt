@@ -1,13 +1,14 @@
 //! Clears of one tag.
-ghost use Rattle.std.specs.Prelude.{◌≡◌, ◌+◌, ◌<◌, ◌≤◌, ◌↔◌, IfOk, IsOk, OnOk, OnErr};
+ghost use Rattle.std.specs.Prelude.{◌≡◌, ◌+◌, ◌<◌, ◌≤◌};
 ghost use Rattle.tag_sets.specs.Sets.{kind_of};
-ghost use Rattle.tag_sets.specs.Hands.{reserved_of, total_of, IsHandOf, Holds, agent_of, waiter_of, step_count, group_steps};
+ghost use Rattle.tag_sets.specs.Hands.{reserved_of, IsHandOf, Holds, agent_of, waiter_of, step_count, group_steps};
 ghost use Rattle.tag_sets.specs.Clears.{Clears, Counts};
 ghost use Rattle.tag_sets.specs.Waits.{Stays};
 ghost use Rattle.tag_sets.specs.declared.kind.Kind.TheVariants.{Ordinary};
 ghost use Rattle.tag_queue.specs.Agents.{teller_of};
 ghost use Rattle.tag_queue.specs.Clears.{complete_steps};
 ghost use Rattle.wake_book.specs.Grants.{AreGrantsOf};
+ghost use Rattle.tag_sets.specs.Calls.{DoesClear};
 
 use crate::fault::TagFault;
 use crate::hand::Hand;
@@ -27,15 +28,7 @@ impl<R: Copy> Tags<R> {
     pub fn clear<W: Waking>(&self, hand: &mut Hand<R>, tag: u32) -> Result<W::Answer, TagFault>
         requires hand { IsHandOf self.now hand.old }
         ensures hand { IsHandOf self.now hand.new }
-        ensures no_such_tag { (result ≡ Err TagFault.NoSuchTag) ↔ (total_of self.now ≤ tag) }
-        ensures not_held { (result ≡ Err TagFault.NotHeld) ↔ ((tag < total_of self.now) × ¬ (Holds hand.old tag)) }
-        ensures succeeds { Holds hand.old tag → IsOk result }
-        ensures clears { OnOk result (Clears self.now tag hand.old hand.new) }
-        ensures counts { IfOk result (λ answer.
-            Counts self.now (kind_of (reserved_of self.now) tag) 1 hand.old hand.new (W.woken answer)) }
-        ensures tells { IfOk result (λ answer. W.tells answer (waiter_of hand.old) (waiter_of hand.new)) }
-        ensures bound { step_count hand.new ≤ 1 + complete_steps + step_count hand.old }
-        ensures err { OnErr result (hand.new ≡ hand.old) }
+        ensures does { DoesClear W.woken W.tells tag self.now result hand.old hand.new }
     {
         let SetTag { kind, number } = SetTag::of(tag, self.reserved_count);
         match kind {

@@ -1,10 +1,13 @@
 //! Gets: the calls that take tags.
-ghost use Rattle.std.specs.Prelude.{◌≡◌, ◌+◌, ◌<◌, ◌≤◌, ◌↔◌, false, IfOk, IfErr, OnErr, IsOk, IsTrue, None, IsSome};
+ghost use Rattle.std.specs.Prelude.{◌≡◌, ◌+◌, ◌<◌, ◌≤◌, false, IfOk, IsTrue, None};
 ghost use Rattle.tag_sets.specs.Freed.{GetsAndLooks};
-ghost use Rattle.tag_sets.specs.Hands.{reserved_of, least_of, IsHandOf, HasRoom, hint_of, step_count, total_of, standing_of};
-ghost use Rattle.tag_sets.specs.Gets.{Gets, GetsReserved, GetsShallow, GetsBatch, MiscountsBatch, most_steps, most_reserved_steps, BlockingGets};
-ghost use Rattle.tag_sets.specs.declared.kind.Kind.TheVariants.{Ordinary, Reserved};
+ghost use Rattle.tag_sets.specs.Hands.{IsHandOf, hint_of, step_count};
+ghost use Rattle.tag_sets.specs.Gets.{Gets, GetsShallow, GetsBatch, most_steps, BlockingGets, CountsBatch};
+ghost use Rattle.tag_sets.specs.declared.kind.Kind.TheVariants.{Ordinary};
 ghost use Rattle.tag_sets.specs.Waits.{WaitsFor};
+ghost use Rattle.refusals.specs.Refusals.{RefusesBy};
+ghost use Rattle.tag_sets.specs.Refusals.{get_checks, shallow_checks, batch_checks, blocking_checks};
+ghost use Rattle.tag_sets.specs.Calls.{DoesGetReserved};
 
 use crate::fault::TagFault;
 use crate::hand::Hand;
@@ -23,10 +26,9 @@ impl<R: Copy> Tags<R> {
     pub fn get(&self, hand: &mut Hand<R>) -> Result<Option<u32>, TagFault>
         requires hand { IsHandOf self.now hand.old }
         ensures hand { IsHandOf self.now hand.new }
-        ensures room { IsOk result ↔ HasRoom hand.old Ordinary 1 }
+        ensures refusals { RefusesBy (get_checks hand.old) (hand.new ≡ hand.old) result }
         ensures gets { IfOk result (λ answer. GetsAndLooks (Gets self.now answer) hand.old hand.new) }
         ensures bound { step_count hand.new ≤ most_steps self.now + 1 + step_count hand.old }
-        ensures err { IfErr result (λ fault. (fault ≡ TagFault.Spent) × (hand.new ≡ hand.old)) }
     {
         let Found { answer, left } = self.get_freed(hand)?;
         self.look_after(hand, left);
@@ -38,14 +40,7 @@ impl<R: Copy> Tags<R> {
     pub fn get_reserved(&self, hand: &mut Hand<R>) -> Result<Option<u32>, TagFault>
         requires hand { IsHandOf self.now hand.old }
         ensures hand { IsHandOf self.now hand.new }
-
-        // Whether there are reserved tags is checked first.
-        ensures no_reserved { (result ≡ Err TagFault.NoReserved) ↔ (reserved_of self.now ≡ 0) }
-        ensures spent { (result ≡ Err TagFault.Spent) ↔ ((1 ≤ reserved_of self.now) × ¬ (HasRoom hand.old Reserved 1)) }
-        ensures succeeds { IsOk result ↔ ((1 ≤ reserved_of self.now) × HasRoom hand.old Reserved 1) }
-        ensures gets { IfOk result (λ answer. GetsReserved self.now answer hand.old hand.new) }
-        ensures bound { step_count hand.new ≤ most_reserved_steps self.now + step_count hand.old }
-        ensures err { OnErr result (hand.new ≡ hand.old) }
+        ensures does { DoesGetReserved self.now result hand.old hand.new }
     {
         if self.reserved_count == 0 {
             return Err(TagFault::NoReserved);
@@ -61,14 +56,9 @@ impl<R: Copy> Tags<R> {
     pub fn get_shallow(&self, hand: &mut Hand<R>, depth: u32) -> Result<Option<u32>, TagFault>
         requires hand { IsHandOf self.now hand.old }
         ensures hand { IsHandOf self.now hand.new }
-
-        // The depth is checked first.
-        ensures too_shallow { (result ≡ Err TagFault.TooShallow) ↔ (depth < least_of self.now) }
-        ensures spent { (result ≡ Err TagFault.Spent) ↔ ((least_of self.now ≤ depth) × ¬ (HasRoom hand.old Ordinary 1)) }
-        ensures succeeds { IsOk result ↔ ((least_of self.now ≤ depth) × HasRoom hand.old Ordinary 1) }
+        ensures refusals { RefusesBy (shallow_checks self.now hand.old depth) (hand.new ≡ hand.old) result }
         ensures gets { IfOk result (λ answer. GetsAndLooks (GetsShallow self.now depth answer) hand.old hand.new) }
         ensures bound { step_count hand.new ≤ most_steps self.now + 1 + step_count hand.old }
-        ensures err { OnErr result (hand.new ≡ hand.old) }
     {
         let Found { answer, left } = self.get_shallow_freed(hand, depth)?;
         self.look_after(hand, left);
@@ -82,18 +72,12 @@ impl<R: Copy> Tags<R> {
     pub fn get_batch(&self, hand: &mut Hand<R>, n: u32) -> Result<Option<(u32, u64)>, TagFault>
         requires hand { IsHandOf self.now hand.old }
         ensures hand { IsHandOf self.now hand.new }
-
-        // The count is checked first, then round robin.
-        ensures bad_count { (result ≡ Err TagFault.BadCount) ↔ MiscountsBatch self.now n }
-        ensures round_robin { ¬ (MiscountsBatch self.now n) → IsTrue (hint_of hand.old Ordinary).round_robin
+        ensures refusals { RefusesBy (batch_checks self.now hand.old n) (hand.new ≡ hand.old) result }
+        ensures round_robin { CountsBatch self.now n → IsTrue (hint_of hand.old Ordinary).round_robin
             → (result ≡ Ok None) × (hand.new ≡ hand.old) }
-        ensures spent { (result ≡ Err TagFault.Spent)
-            ↔ (¬ (MiscountsBatch self.now n) × ((hint_of hand.old Ordinary).round_robin ≡ false) × ¬ (HasRoom hand.old Ordinary n)) }
-        ensures succeeds { ¬ (MiscountsBatch self.now n) → HasRoom hand.old Ordinary n → IsOk result }
         ensures gets { (hint_of hand.old Ordinary).round_robin ≡ false
             → IfOk result (λ answer. GetsAndLooks (GetsBatch self.now n answer) hand.old hand.new) }
         ensures bound { step_count hand.new ≤ most_steps self.now + 1 + step_count hand.old }
-        ensures err { OnErr result (hand.new ≡ hand.old) }
     {
         let Found { answer, left } = self.get_batch_freed(hand, n)?;
         self.look_after(hand, left);
@@ -107,18 +91,9 @@ impl<R: Copy> Tags<R> {
     pub fn get_blocking<W: Wait>(&self, rt: &W, hand: &mut Hand<R>) -> Result<u32, TagFault>
         requires hand { IsHandOf self.now hand.old }
         ensures hand { IsHandOf self.now hand.new }
-
-        // The causes are checked in this order.
-        ensures no_such_tag { (result ≡ Err TagFault.NoSuchTag) ↔ (total_of self.now ≡ reserved_of self.now) }
-        ensures waiting { (result ≡ Err TagFault.Waiting)
-            ↔ ((reserved_of self.now < total_of self.now) × IsSome (standing_of hand.old)) }
-        ensures spent { (result ≡ Err TagFault.Spent)
-            ↔ ((reserved_of self.now < total_of self.now) × (standing_of hand.old ≡ None) × ¬ (HasRoom hand.old Ordinary 1)) }
-        ensures succeeds { IsOk result
-            ↔ ((reserved_of self.now < total_of self.now) × (standing_of hand.old ≡ None) × HasRoom hand.old Ordinary 1) }
+        ensures refusals { RefusesBy (blocking_checks self.now hand.old) (hand.new ≡ hand.old) result }
         ensures gets { IfOk result (λ tag. BlockingGets self.now tag hand.old hand.new) }
         ensures waits { IfOk result (λ tag. WaitsFor self.now tag hand.old hand.new) }
-        ensures err { OnErr result (hand.new ≡ hand.old) }
     {
         let number = self.ordinary.get_blocking(rt, &mut hand.ordinary)?;
         Ok(self.reserved_count + number)

@@ -1,7 +1,9 @@
 //! The two sets, and which of them a tag is in.
-ghost use Rattle.std.specs.Prelude.{◌≡◌, ◌<◌, ◌≤◌, ◌↔◌, IfOk, IsOk};
+ghost use Rattle.std.specs.Prelude.{◌≡◌, ◌<◌, IfOk, ⊤, ◌∷◌};
 ghost use Rattle.tag_sets.specs.Sets.{kind_of, number_in_set};
-ghost use Rattle.tag_sets.specs.Hands.{reserved_of, total_of, Holds, IsHandOf};
+ghost use Rattle.tag_sets.specs.Hands.{reserved_of, total_of, IsHandOf};
+ghost use Rattle.refusals.specs.Refusals.{RefusesBy};
+ghost use Rattle.tag_sets.specs.Refusals.{tag_checks};
 
 use crate::fault::TagFault;
 use crate::hand::Hand;
@@ -49,8 +51,7 @@ impl<R: Copy> Tags<R> {
     /// Returns the set of a tag. `NoSuchTag` means that no tag has this number. This makes no step and needs no hand.
     #[inline]
     pub fn find(&self, tag: u32) -> Result<Kind, TagFault>
-        ensures known { IsOk result ↔ (tag < total_of self.now) }
-        ensures no_such_tag { (result ≡ Err TagFault.NoSuchTag) ↔ (total_of self.now ≤ tag) }
+        ensures refusals { RefusesBy ((tag < total_of self.now, TagFault.NoSuchTag) ∷ []) ⊤ result }
         ensures kind { IfOk result (λ kind. kind ≡ kind_of (reserved_of self.now) tag) }
     {
         let SetTag { kind, number } = SetTag::of(tag, self.reserved_count);
@@ -64,9 +65,7 @@ impl<R: Copy> Tags<R> {
     #[inline]
     pub fn find_held(&self, hand: &Hand<R>, tag: u32) -> Result<Kind, TagFault>
         requires hand { IsHandOf self.now hand.now }
-        ensures no_such_tag { (result ≡ Err TagFault.NoSuchTag) ↔ (total_of self.now ≤ tag) }
-        ensures not_held { (result ≡ Err TagFault.NotHeld) ↔ ((tag < total_of self.now) × ¬ (Holds hand.now tag)) }
-        ensures succeeds { IsOk result ↔ Holds hand.now tag }
+        ensures refusals { RefusesBy (tag_checks self.now hand.now tag) ⊤ result }
         ensures kind { IfOk result (λ kind. kind ≡ kind_of (reserved_of self.now) tag) }
     {
         let SetTag { kind, number } = SetTag::of(tag, self.reserved_count);

@@ -1,12 +1,13 @@
 //! Opens two sets of tags with their hands.
-ghost use Rattle.std.specs.Prelude.{◌≡◌, ◌-◌, ◌^◌, ◌<◌, ◌≤◌, ◌↔◌, length, IfOk, IsSomeAnd};
+ghost use Rattle.std.specs.Prelude.{◌≡◌, ◌-◌, ◌<◌, length, IfOk};
 ghost use Rattle.tag_layout.specs.Layout.{HasShift};
-ghost use Rattle.tag_layout.specs.declared.layout.TheConstants.{MAX_DEPTH, MAX_SHIFT};
-ghost use Rattle.tag_model.specs.declared.world.TheConstants.{MOST_WON};
-ghost use Rattle.tag_queue.specs.Opening.{MiscountsAgents, CountsAgents, HasLayout, IsLaidOut};
+ghost use Rattle.tag_layout.specs.declared.layout.TheConstants.{MAX_DEPTH};
+ghost use Rattle.tag_queue.specs.Opening.{HasLayout, IsLaidOut};
 ghost use Rattle.tag_sets.specs.Hands.{layout_of, reserved_of, total_of};
-ghost use Rattle.tag_sets.specs.Opening.{HasRange, HasLayouts, AreParts, IsOpen};
+ghost use Rattle.tag_sets.specs.Opening.{AreParts, IsOpen};
 ghost use Rattle.tag_sets.specs.declared.kind.Kind.TheVariants.{Ordinary, Reserved};
+ghost use Rattle.refusals.specs.Refusals.{RefusesOrRunsOut};
+ghost use Rattle.tag_sets.specs.Refusals.{open_checks};
 
 use crate::buffers::Buffers;
 use crate::fault::SetFault;
@@ -37,17 +38,7 @@ impl<R: Copy> Tags<R> {
         ensures ordinary_shift { IfOk result (λ opened.
             HasShift (total - reserved) options.shift (layout_of opened.0 Ordinary).shift) }
         ensures reserved_shift { IfOk result (λ opened. HasShift reserved options.shift (layout_of opened.0 Reserved).shift) }
-
-        // The causes are checked in this order, and memory comes last.
-        ensures total { (result ≡ Err SetFault.TotalTooLarge) ↔ (MAX_DEPTH < total) }
-        ensures reserved { (result ≡ Err SetFault.ReservedTooLarge) ↔ ((total ≤ MAX_DEPTH) × (total < reserved)) }
-        ensures shift { (result ≡ Err SetFault.ShiftTooLarge)
-            ↔ (HasRange total reserved × IsSomeAnd options.shift (λ s. MAX_SHIFT < s)) }
-        ensures callers { (result ≡ Err SetFault.CallerCount) ↔ (HasLayouts total reserved options × MiscountsAgents options) }
-        ensures life { (result ≡ Err SetFault.LifeTooLong)
-            ↔ (HasLayouts total reserved options × CountsAgents options × (MOST_WON < options.life)) }
-        ensures cap { (result ≡ Err SetFault.CapTooLarge) ↔ (HasLayouts total reserved options × CountsAgents options
-            × (options.life ≤ MOST_WON) × (2 ^ 56 < options.cap)) }
+        ensures refusals { RefusesOrRunsOut (open_checks total reserved options) SetFault.Memory result }
     {
         if total > MAX_DEPTH {
             return Err(SetFault::TotalTooLarge);

@@ -1,8 +1,9 @@
 //! The slots of held tags, and how tags pass from hand to hand.
-ghost use Rattle.std.specs.Prelude.{◌≡◌, ◌<◌, ◌≤◌, ◌↔◌, IfOk, IfErr, IsOk, OnOk, OnErr};
+ghost use Rattle.std.specs.Prelude.{◌≡◌, ◌<◌, ◌≤◌};
 ghost use mathlib.Core.Option.{some};
-ghost use Rattle.tag_sets.specs.Hands.{total_of, IsHandOf, Holds, slot_of, split_of};
-ghost use Rattle.tag_sets.specs.Slots.{Reads, Writes, Posts, Takes, RefusesTake};
+ghost use Rattle.tag_sets.specs.Hands.{IsHandOf, Holds, slot_of, split_of};
+ghost use Rattle.tag_sets.specs.Slots.{Reads, Writes};
+ghost use Rattle.tag_sets.specs.Calls.{DoesRead, DoesWrite, DoesPost, DoesTake};
 
 use crate::fault::TagFault;
 use crate::hand::Hand;
@@ -16,12 +17,7 @@ impl<R: Copy> Tags<R> {
     pub fn read(&self, hand: &mut Hand<R>, tag: u32) -> Result<R, TagFault>
         requires hand { IsHandOf self.now hand.old }
         ensures hand { IsHandOf self.now hand.new }
-        ensures no_such_tag { (result ≡ Err TagFault.NoSuchTag) ↔ (total_of self.now ≤ tag) }
-        ensures not_held { (result ≡ Err TagFault.NotHeld) ↔ ((tag < total_of self.now) × ¬ (Holds hand.old tag)) }
-        ensures succeeds { Holds hand.old tag → IsOk result }
-        ensures value { IfOk result (λ value. slot_of hand.old tag ≡ some value) }
-        ensures reads { IfOk result (λ value. Reads tag value hand.old hand.new) }
-        ensures err { OnErr result (hand.new ≡ hand.old) }
+        ensures does { DoesRead tag self.now result hand.old hand.new }
     {
         let SetTag { kind, number } = SetTag::of(tag, self.reserved_count);
         match kind {
@@ -36,12 +32,7 @@ impl<R: Copy> Tags<R> {
     pub fn write(&self, hand: &mut Hand<R>, tag: u32, value: R) -> Result<R, TagFault>
         requires hand { IsHandOf self.now hand.old }
         ensures hand { IsHandOf self.now hand.new }
-        ensures no_such_tag { (result ≡ Err TagFault.NoSuchTag) ↔ (total_of self.now ≤ tag) }
-        ensures not_held { (result ≡ Err TagFault.NotHeld) ↔ ((tag < total_of self.now) × ¬ (Holds hand.old tag)) }
-        ensures succeeds { Holds hand.old tag → IsOk result }
-        ensures former { IfOk result (λ former. slot_of hand.old tag ≡ some former) }
-        ensures writes { OnOk result (Writes tag value hand.old hand.new) }
-        ensures err { OnErr result (hand.new ≡ hand.old) }
+        ensures does { DoesWrite tag value self.now result hand.old hand.new }
     {
         let SetTag { kind, number } = SetTag::of(tag, self.reserved_count);
         match kind {
@@ -57,11 +48,7 @@ impl<R: Copy> Tags<R> {
     pub fn post(&self, hand: &mut Hand<R>, tag: u32) -> Result<(), TagFault>
         requires hand { IsHandOf self.now hand.old }
         ensures hand { IsHandOf self.now hand.new }
-        ensures no_such_tag { (result ≡ Err TagFault.NoSuchTag) ↔ (total_of self.now ≤ tag) }
-        ensures not_held { (result ≡ Err TagFault.NotHeld) ↔ ((tag < total_of self.now) × ¬ (Holds hand.old tag)) }
-        ensures succeeds { Holds hand.old tag → IsOk result }
-        ensures posts { OnOk result (Posts tag hand.old hand.new) }
-        ensures err { OnErr result (hand.new ≡ hand.old) }
+        ensures does { DoesPost tag self.now result hand.old hand.new }
     {
         let SetTag { kind, number } = SetTag::of(tag, self.reserved_count);
         match kind {
@@ -76,9 +63,7 @@ impl<R: Copy> Tags<R> {
     pub fn take(&self, hand: &mut Hand<R>, tag: u32) -> Result<(), TagFault>
         requires hand { IsHandOf self.now hand.old }
         ensures hand { IsHandOf self.now hand.new }
-        ensures no_such_tag { (result ≡ Err TagFault.NoSuchTag) ↔ (total_of self.now ≤ tag) }
-        ensures takes { OnOk result (Takes tag hand.old hand.new) }
-        ensures refuses { IfErr result (λ fault. RefusesTake tag fault hand.old hand.new) }
+        ensures does { DoesTake tag self.now result hand.old hand.new }
     {
         let SetTag { kind, number } = SetTag::of(tag, self.reserved_count);
         match kind {

@@ -1,13 +1,16 @@
 //! Waits for an ordinary tag.
-ghost use Rattle.std.specs.Prelude.{◌≡◌, ◌≤◌, ◌<◌, ◌↔◌, ◌∷◌, IfOk, IfErr, IfSome, IfNone, IsOk, IsSome, None};
+ghost use Rattle.std.specs.Prelude.{◌≡◌, ◌≤◌, ◌<◌, ◌∷◌, IfOk, IsSome, None};
 ghost use Rattle.wake_book.specs.Waits.{active_at, index_at};
 ghost use Rattle.wake_book.specs.Book.{counted_by};
 ghost use Rattle.wake_book.specs.declared.steps.BookStep.TheVariants.{LookCompletions, LookWakeups};
 ghost use Rattle.wake_book.specs.declared.steps.GroupStep.TheVariants.{Look};
 ghost use Rattle.tag_queue.specs.Agents.{teller_of};
 ghost use Rattle.tag_sets.specs.Hands.{IsHandOf, agent_of, standing_of, wait_index_of, book_steps, group_steps};
-ghost use Rattle.tag_sets.specs.Waits.{Enters, Leaves, StandsOn, Stays};
+ghost use Rattle.tag_sets.specs.Waits.{Leaves, Stays};
 ghost use Rattle.tag_sets.specs.declared.kind.Kind.TheVariants.{Ordinary};
+ghost use Rattle.refusals.specs.Refusals.{RefusesBy};
+ghost use Rattle.tag_sets.specs.Refusals.{leave_checks};
+ghost use Rattle.tag_sets.specs.Calls.{DoesPrepare, DoesFinish};
 
 use crate::fault::TagFault;
 use crate::hand::Hand;
@@ -22,9 +25,7 @@ impl<R: Copy> Tags<R> {
     pub fn prepare_wait(&self, hand: &mut Hand<R>) -> Result<u32, TagFault>
         requires hand { IsHandOf self.now hand.old }
         ensures hand { IsHandOf self.now hand.new }
-        ensures out { IsOk result ↔ (standing_of hand.old ≡ None) }
-        ensures enters { IfOk result (λ group. Enters group hand.old hand.new) }
-        ensures err { IfErr result (λ fault. (fault ≡ TagFault.Waiting) × (hand.new ≡ hand.old)) }
+        ensures does { DoesPrepare result hand.old hand.new }
     {
         Ok(self.ordinary.prepare_wait(&mut hand.ordinary)?)
     }
@@ -34,11 +35,10 @@ impl<R: Copy> Tags<R> {
     pub fn finish_wait<W: Wait>(&self, rt: &W, hand: &mut Hand<R>) -> Result<Left, TagFault>
         requires hand { IsHandOf self.now hand.old }
         ensures hand { IsHandOf self.now hand.new }
-        ensures stands { IsOk result ↔ IsSome (standing_of hand.old) }
+        ensures refusals { RefusesBy (leave_checks hand.old) (hand.new ≡ hand.old) result }
         ensures leaves { IfOk result (λ left. Leaves left hand.old hand.new) }
         ensures out { standing_of hand.new ≡ None }
         ensures next { wait_index_of hand.new ≡ wait_index_of hand.old }
-        ensures err { IfErr result (λ fault. (fault ≡ TagFault.NotWaiting) × (hand.new ≡ hand.old)) }
     {
         Ok(self.ordinary.finish_wait(rt, &mut hand.ordinary)?)
     }
@@ -48,12 +48,7 @@ impl<R: Copy> Tags<R> {
     pub fn try_finish_wait(&self, hand: &mut Hand<R>) -> Result<Option<Left>, TagFault>
         requires hand { IsHandOf self.now hand.old }
         ensures hand { IsHandOf self.now hand.new }
-        ensures stands { IsOk result ↔ IsSome (standing_of hand.old) }
-        ensures leaves { IfOk result (λ answer. IfSome answer (λ left. Leaves left hand.old hand.new)) }
-        ensures out { IfOk result (λ answer. IfSome answer (λ _. standing_of hand.new ≡ None)) }
-        ensures stays { IfOk result (λ answer. IfNone answer (StandsOn hand.old hand.new)) }
-        ensures next { wait_index_of hand.new ≡ wait_index_of hand.old }
-        ensures err { IfErr result (λ fault. (fault ≡ TagFault.NotWaiting) × (hand.new ≡ hand.old)) }
+        ensures does { DoesFinish result hand.old hand.new }
     {
         Ok(self.ordinary.try_finish_wait(&mut hand.ordinary)?)
     }

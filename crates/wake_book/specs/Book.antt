@@ -87,9 +87,9 @@ pub record Rebatches (old new : Book) (batch : ℕ) : Type 0 where
   pub table : new.table ≡ old.table
   pub limits : limits_of new ≡ limits_of old
 
--- the batch is not 1 to 8, or the number of tellers is not 1 to 64
-abbrev pub MiscountsBook : ℕ → ℕ → Type 0
-MiscountsBook batch tellers = (batch < 1) ⊎ (8 < batch) ⊎ (tellers < 1) ⊎ (64 < tellers)
+-- the batch is 1 to 8, and the number of tellers 1 to 64
+abbrev pub CountsBook : ℕ → ℕ → Type 0
+CountsBook batch tellers = (1 ≤ batch) × (batch ≤ 8) × (1 ≤ tellers) × (tellers ≤ 64)
 
 -- a new book, whose tellers are in the order of their numbers and have made no step
 pub record IsOpenBook (batch tellers cap : ℕ) (book : Book) (all : List Teller) : Type 0 where

@@ -25,7 +25,7 @@ taken_as batch Busy = 0
 abbrev pub looked : ℕ → ℕ → List BookStep → List BookStep
 looked start completions before = LookCompletions completions ∷ LookWakeups start ∷ before
 
--- that many tries, each of which found a batch open and lost its exchange
+-- that many tries, each of which found a batch due and lost its exchange
 abbrev pub LosesTries : ℕ → ℕ → List BookStep → List BookStep → Type 0
 LosesTries zero batch steps steps' = steps' ≡ steps
 LosesTries (suc tries) batch steps steps' = (start : ℕ) × (completions : ℕ) × (found : ℕ) × (before : List BookStep)

@@ -133,9 +133,9 @@ Loses expected step old new = (seen : ℕ) × (seen ≢ expected) × (steps_of n
 abbrev pub MovesMore : ℕ → Waiter → Waiter → Type 0
 MovesMore count old new = new.moved ≡ old.moved + count
 
--- the number of waiters is not 1 to 64
-abbrev pub MiscountsGroups : ℕ → Type 0
-MiscountsGroups waiters = (waiters < 1) ⊎ (64 < waiters)
+-- the number of waiters is one that groups can have, 1 to 64
+abbrev pub CountsGroups : ℕ → Type 0
+CountsGroups waiters = (1 ≤ waiters) × (waiters ≤ 64)
 
 -- the waiter is in no group, enters group 0 next, and has rung for nobody
 abbrev pub IsNew : Waiter → Type 0

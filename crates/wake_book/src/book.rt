@@ -1,4 +1,4 @@
-//! The charge book: completions are counted, and each full batch of them is charged once.
+//! The charge book: completions are counted, and each batch of them is charged once.
 ghost use Rattle.std.specs.Prelude.{◌≡◌, ◌-◌, ◌^◌, ◌≤◌, [], min};
 ghost use Rattle.step_ledger.specs.Records.{steps_of, sum_over};
 ghost use Rattle.step_ledger.specs.Views.{own_view};

@@ -2,7 +2,7 @@
 ghost use Rattle.std.specs.Prelude.{◌≡◌, ◌^◌, ◌<◌, ◌≤◌, [], ◌∷◌, All, IfOk};
 ghost use Rattle.refusals.specs.Refusals.{RefusesOrRunsOut};
 ghost use Rattle.step_ledger.specs.Records.{fresh_record};
-ghost use Rattle.wake_book.specs.Book.{IsTellerOf, record_of, tellers_of, IsOpenBook, MiscountsBook};
+ghost use Rattle.wake_book.specs.Book.{IsTellerOf, record_of, tellers_of, IsOpenBook, CountsBook};
 ghost use Rattle.wake_book.specs.Rest.{HasRestFrom};
 
 use crate::book::{BOOK_WORDS, Book, Limits, Teller};
@@ -12,8 +12,8 @@ use atomic_table::{Seat, Table};
 use std::alloc::{AllocError, Global};
 use step_ledger::{HandOut, MemberSource, Records, hand_out};
 
-/// The largest batch, in completions.
-const MAX_BATCH: u32 = 8;
+/// The largest wakeup batch, in completions.
+const MAX_WAKE_BATCH: u32 = 8;
 
 /// The most tellers that a book can have.
 const MAX_TELLERS: u32 = 64;
@@ -33,10 +33,10 @@ impl Book {
     ) -> Result<(Book, Vec<Teller>), BookFault>
         ensures ok { IfOk result (λ opened. IsOpenBook batch tellers cap opened.0 opened.1.items) }
 
-        ensures refusals { RefusesOrRunsOut ((BookFault.Count, MiscountsBook batch tellers)
-            ∷ (BookFault.CapTooLarge, 2 ^ 56 < cap) ∷ []) BookFault.Memory result }
+        ensures refusals { RefusesOrRunsOut ((CountsBook batch tellers, BookFault.Count)
+            ∷ (cap ≤ 2 ^ 56, BookFault.CapTooLarge) ∷ []) BookFault.Memory result }
     {
-        if batch == 0 || batch > MAX_BATCH || tellers == 0 || tellers > MAX_TELLERS {
+        if batch == 0 || batch > MAX_WAKE_BATCH || tellers == 0 || tellers > MAX_TELLERS {
             return Err(BookFault::Count);
         }
         if cap > MAX_CAP {

@@ -1,4 +1,4 @@
-//! Counts completions, and charges a batch of them if one is open.
+//! Counts completions, and charges a batch of them if one is due.
 ghost use Rattle.std.specs.Prelude.{◌≡◌, ◌≢◌, ℕ, ◌+◌, ◌-◌, ◌^◌, ◌<◌, ◌≤◌, ◌↔◌, List, ◌∷◌, length, IsTrue, IsFalse};
 ghost use Rattle.wake_book.specs.Book.{IsTellerOf, steps_of, number_of, counted_by, charged_by, cap_of, batch_of, JustSaw, LosesAdvance, Rebatches};
 ghost use Rattle.wake_book.specs.Charging.{IsCharge, counted_as, taken_as, count_steps};
@@ -11,12 +11,12 @@ use crate::steps::BookStep;
 /// Exchanges that a charge may lose before it leaves the batch to a later completion.
 const TRIES: u32 = 16;
 
-/// The outcome of a `count`. A batch is open if at least a batch of completions are not charged yet.
+/// The outcome of a `count`. A batch is due if at least a batch of completions are not charged yet.
 #[derive(Clone, Copy, Debug, PartialEq, Eq)]
 pub enum Charge {
     /// The teller's count would exceed the cap. Nothing was counted, and no step was made.
     Full,
-    /// The completions were counted, and no batch was open.
+    /// The completions were counted, and no batch was due.
     Below,
     /// The completions were counted and one batch charged: the wakeup count advanced by a batch from this number.
     Won(u64),
@@ -33,7 +33,7 @@ impl Book {
         self.batch = batch;
     }
 
-    /// Counts `n` completions, 1 to 64, and charges one batch if one is open. Other tellers may count and charge
+    /// Counts `n` completions, 1 to 64, and charges one batch if one is due. Other tellers may count and charge
     /// meanwhile. It is the counterpart of `sbitmap_queue_wake_up` (lib/sbitmap.c) up to the wakeups, with at most 16
     /// tries. This adds at most 49 steps to the teller's list; loads that are not recorded as steps are not counted.
     pub fn count(&self, teller: &mut Teller, n: u32) -> Charge

@@ -2,7 +2,7 @@
 ghost use Rattle.std.specs.Prelude.{◌≡◌, ◌≢◌, ◌<◌, ◌≤◌, [], ◌∷◌, All, IfOk};
 ghost use Rattle.refusals.specs.Refusals.{RefusesOrRunsOut};
 ghost use Rattle.step_ledger.specs.Records.{fresh_record};
-ghost use Rattle.wake_book.specs.Groups.{IsWaiterOf, IsNew, record_of, waiters_of, AreOpenGroups, MiscountsGroups};
+ghost use Rattle.wake_book.specs.Groups.{IsWaiterOf, IsNew, record_of, waiters_of, AreOpenGroups, CountsGroups};
 ghost use Rattle.wake_book.specs.Rest.{HasRestFrom};
 
 use crate::fault::BookFault;
@@ -25,7 +25,7 @@ impl Groups {
     pub fn open(alloc: Global, waiters: u32) -> Result<(Groups, Vec<Waiter>), BookFault>
         ensures ok { IfOk result (λ opened. AreOpenGroups waiters opened.0 opened.1.items) }
 
-        ensures refusals { RefusesOrRunsOut ((BookFault.Count, MiscountsGroups waiters) ∷ []) BookFault.Memory result }
+        ensures refusals { RefusesOrRunsOut ((CountsGroups waiters, BookFault.Count) ∷ []) BookFault.Memory result }
     {
         if waiters == 0 || waiters > MAX_WAITERS {
             return Err(BookFault::Count);

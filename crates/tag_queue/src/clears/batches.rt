@@ -1,10 +1,12 @@
 //! Clears of several tags at once.
-ghost use Rattle.std.specs.Prelude.{◌≡◌, ◌+◌, ◌≤◌, ◌↔◌, length, IfOk, IsOk, OnOk, OnErr, IsTrue};
+ghost use Rattle.std.specs.Prelude.{◌≡◌, ◌+◌, ◌≤◌, ◌↔◌, length, IfOk, OnOk, IsTrue, ⊤};
 ghost use Rattle.tag_core.specs.Callers.{IsCallerOf, record_of, layout_of as layout_of_map};
 ghost use Rattle.tag_queue.specs.Agents.{layout_of, IsAgentOf, step_count, caller_of, waiter_of, SameCounts};
 ghost use Rattle.tag_queue.specs.Batches.{CountsTags, AreTags, AreHeldOnce, GivesAll, GivesBack};
 ghost use Rattle.tag_queue.specs.Clears.{Counts, complete_steps};
 ghost use Rattle.tag_queue.specs.Tallies.{back_of};
+ghost use Rattle.refusals.specs.Refusals.{RefusesBy};
+ghost use Rattle.tag_queue.specs.Refusals.{list_checks};
 
 use crate::agent::Agent;
 use crate::clears::lists::{are_below, are_distinct};
@@ -30,19 +32,12 @@ impl<R: Copy> Queue<R> {
     ) -> Result<W::Answer, QueueFault>
         requires agent { IsAgentOf self.now agent.old }
         ensures agent { IsAgentOf self.now agent.new }
-
-        // The causes are checked in this order, each for the whole list.
-        ensures bad_count { (result ≡ Err QueueFault.BadCount) ↔ ¬ (CountsTags tags.now) }
-        ensures no_such_tag { (result ≡ Err QueueFault.NoSuchTag) ↔ (CountsTags tags.now × ¬ (AreTags (layout_of self.now) tags.now)) }
-        ensures not_held { (result ≡ Err QueueFault.NotHeld)
-            ↔ (CountsTags tags.now × AreTags (layout_of self.now) tags.now × ¬ (AreHeldOnce (caller_of agent.old) tags.now)) }
-        ensures succeeds { IsOk result ↔ (CountsTags tags.now × AreHeldOnce (caller_of agent.old) tags.now) }
+        ensures refusals { RefusesBy (list_checks self.now agent.old tags.now) (agent.new ≡ agent.old) result }
         ensures gives { OnOk result (GivesBack (layout_of self.now) tags.now agent.old agent.new) }
         ensures back { OnOk result (back_of agent.new ≡ back_of agent.old + length tags.now) }
         ensures counts { IfOk result (λ answer. Counts self.now (length tags.now) agent.old agent.new (W.woken answer)) }
         ensures tells { IfOk result (λ answer. W.tells answer (waiter_of agent.old) (waiter_of agent.new)) }
         ensures bound { OnOk result (step_count agent.new ≤ length tags.now + complete_steps + step_count agent.old) }
-        ensures err { OnErr result (agent.new ≡ agent.old) }
     {
         self.check_batch(agent, tags)?;
         Ok(self.clear_batch_held::<W>(agent, tags))
@@ -68,13 +63,7 @@ impl<R: Copy> Queue<R> {
     /// refusals, in order: `BadCount`, `NoSuchTag`, `NotHeld`.
     pub fn check_batch(&self, agent: &Agent<R>, tags: &[u32]) -> Result<(), QueueFault>
         requires agent { IsAgentOf self.now agent.now }
-
-        // The causes are checked in this order, each for the whole list.
-        ensures bad_count { (result ≡ Err QueueFault.BadCount) ↔ ¬ (CountsTags tags.now) }
-        ensures no_such_tag { (result ≡ Err QueueFault.NoSuchTag) ↔ (CountsTags tags.now × ¬ (AreTags (layout_of self.now) tags.now)) }
-        ensures not_held { (result ≡ Err QueueFault.NotHeld)
-            ↔ (CountsTags tags.now × AreTags (layout_of self.now) tags.now × ¬ (AreHeldOnce (caller_of agent.now) tags.now)) }
-        ensures succeeds { IsOk result ↔ (CountsTags tags.now × AreHeldOnce (caller_of agent.now) tags.now) }
+        ensures refusals { RefusesBy (list_checks self.now agent.now tags.now) ⊤ result }
     {
         if tags.is_empty() || tags.len() > MAX_BATCH {
             return Err(QueueFault::BadCount);

@@ -1,11 +1,12 @@
 //! Clears of the tags of a mask, as a batch get answers it.
-ghost use Rattle.std.specs.Prelude.{◌≡◌, ◌+◌, ◌≤◌, ◌↔◌, count_ones, All, IfOk, IsOk, OnOk, OnErr};
-ghost use Rattle.tag_core.specs.Callers.{record_of};
-ghost use Rattle.tag_queue.specs.Agents.{layout_of, IsAgentOf, Holds, step_count, caller_of, waiter_of, SameCounts};
-ghost use Rattle.tag_queue.specs.Batches.{AreTags, GivesBack};
+ghost use Rattle.std.specs.Prelude.{◌≡◌, ◌+◌, ◌≤◌, count_ones, All, IfOk, OnOk, ⊤};
+ghost use Rattle.tag_queue.specs.Agents.{layout_of, IsAgentOf, Holds, step_count, waiter_of, SameCounts};
+ghost use Rattle.tag_queue.specs.Batches.{GivesBack};
 ghost use Rattle.tag_queue.specs.Clears.{Counts, complete_steps};
 ghost use Rattle.tag_queue.specs.Masks.{tags_in, words_over};
 ghost use Rattle.tag_queue.specs.Tallies.{back_of};
+ghost use Rattle.refusals.specs.Refusals.{RefusesBy};
+ghost use Rattle.tag_queue.specs.Refusals.{mask_checks};
 
 use crate::agent::Agent;
 use crate::fault::QueueFault;
@@ -31,20 +32,13 @@ impl<R: Copy> Queue<R> {
     ) -> Result<W::Answer, QueueFault>
         requires agent { IsAgentOf self.now agent.old }
         ensures agent { IsAgentOf self.now agent.new }
-
-        // The causes are checked in this order, each for the whole mask.
-        ensures bad_count { (result ≡ Err QueueFault.BadCount) ↔ (mask ≡ 0) }
-        ensures no_such_tag { (result ≡ Err QueueFault.NoSuchTag) ↔ ¬ (AreTags (layout_of self.now) (tags_in first mask)) }
-        ensures not_held { (result ≡ Err QueueFault.NotHeld)
-            ↔ (AreTags (layout_of self.now) (tags_in first mask) × ¬ (All (Holds agent.old) (tags_in first mask))) }
-        ensures succeeds { IsOk result ↔ ((1 ≤ mask) × All (Holds agent.old) (tags_in first mask)) }
+        ensures refusals { RefusesBy (mask_checks self.now agent.old first mask) (agent.new ≡ agent.old) result }
         ensures gives { OnOk result (GivesBack (layout_of self.now) (tags_in first mask) agent.old agent.new) }
         ensures back { OnOk result (back_of agent.new ≡ back_of agent.old + count_ones mask) }
         ensures counts { IfOk result (λ answer. Counts self.now (count_ones mask) agent.old agent.new (W.woken answer)) }
         ensures tells { IfOk result (λ answer. W.tells answer (waiter_of agent.old) (waiter_of agent.new)) }
         ensures bound { OnOk result (step_count agent.new
             ≤ words_over (layout_of self.now) first (tags_in first mask) + complete_steps + step_count agent.old) }
-        ensures err { OnErr result (agent.new ≡ agent.old) }
     {
         self.check_mask(agent, first, mask)?;
         Ok(self.clear_mask_held::<W>(agent, first, mask))
@@ -78,13 +72,7 @@ impl<R: Copy> Queue<R> {
     #[inline]
     pub fn check_mask(&self, agent: &Agent<R>, first: u32, mask: u64) -> Result<(), QueueFault>
         requires agent { IsAgentOf self.now agent.now }
-
-        // The causes are checked in this order, each for the whole mask.
-        ensures bad_count { (result ≡ Err QueueFault.BadCount) ↔ (mask ≡ 0) }
-        ensures no_such_tag { (result ≡ Err QueueFault.NoSuchTag) ↔ ¬ (AreTags (layout_of self.now) (tags_in first mask)) }
-        ensures not_held { (result ≡ Err QueueFault.NotHeld)
-            ↔ (AreTags (layout_of self.now) (tags_in first mask) × ¬ (All (Holds agent.now) (tags_in first mask))) }
-        ensures succeeds { IsOk result ↔ ((1 ≤ mask) × All (Holds agent.now) (tags_in first mask)) }
+        ensures refusals { RefusesBy (mask_checks self.now agent.now first mask) ⊤ result }
     {
         if mask == 0 {
             return Err(QueueFault::BadCount);

@@ -1,10 +1,12 @@
 //! Blocking gets: an agent that finds no tag stays in a wait group until it is woken, and searches again.
-ghost use Rattle.std.specs.Prelude.{◌≡◌, ℕ, ◌≤◌, ◌↔◌, IfOk, IsOk, IsSome, OnErr, Some, None};
+ghost use Rattle.std.specs.Prelude.{◌≡◌, ℕ, IfOk, Some, None};
 ghost use Rattle.wake_book.specs.Groups.{IsWaiterOf, IsKeyFor, StandsAsBefore, steps_of, wait_index_of};
 ghost use Rattle.wake_book.specs.Groups.{announcement_of as announced};
 ghost use Rattle.tag_queue.specs.Agents.{layout_of, IsAgentOf, HasRoom, standing_of, waiter_of, group_steps, announcement_of};
 ghost use Rattle.tag_queue.specs.Waits.{SameTags};
 ghost use Rattle.tag_queue.specs.Blocking.{GetsPlainAndLooks, Rests, PassesOn, IsStay, WaitsFor, BlockingGets};
+ghost use Rattle.refusals.specs.Refusals.{RefusesBy};
+ghost use Rattle.tag_queue.specs.Refusals.{blocking_checks};
 
 use crate::agent::Agent;
 use crate::fault::QueueFault;
@@ -21,15 +23,9 @@ impl<R: Copy> Queue<R> {
     pub fn get_blocking<W: Wait>(&self, rt: &W, agent: &mut Agent<R>) -> Result<u32, QueueFault>
         requires agent { IsAgentOf self.now agent.old }
         ensures agent { IsAgentOf self.now agent.new }
-        ensures no_such_tag { (result ≡ Err QueueFault.NoSuchTag) ↔ ((layout_of self.now).depth ≡ 0) }
-        ensures waiting { (result ≡ Err QueueFault.Waiting) ↔ ((1 ≤ (layout_of self.now).depth) × IsSome (standing_of agent.old)) }
-        ensures spent { (result ≡ Err QueueFault.Spent)
-            ↔ ((1 ≤ (layout_of self.now).depth) × (standing_of agent.old ≡ None) × ¬ (HasRoom agent.old 1)) }
-        ensures succeeds { IsOk result
-            ↔ ((1 ≤ (layout_of self.now).depth) × (standing_of agent.old ≡ None) × HasRoom agent.old 1) }
+        ensures refusals { RefusesBy (blocking_checks self.now agent.old) (agent.new ≡ agent.old) result }
         ensures gets { IfOk result (λ tag. BlockingGets (layout_of self.now) tag agent.old agent.new) }
         ensures waits { IfOk result (λ tag. WaitsFor (layout_of self.now) tag agent.old agent.new) }
-        ensures err { OnErr result (agent.new ≡ agent.old) }
     {
         if self.map.layout().depth() == 0 {
             return Err(QueueFault::NoSuchTag);

@@ -1,9 +1,11 @@
 //! Gets that look for no sleeper and tell how many tags they left free, and the look that follows them.
-ghost use Rattle.std.specs.Prelude.{◌≡◌, ◌+◌, ◌<◌, ◌≤◌, ◌↔◌, false, IfOk, IfErr, OnErr, IsOk, IsTrue, IsOkAnd, None};
-ghost use Rattle.tag_queue.specs.Agents.{layout_of, least_of, IsAgentOf, HasRoom, caller_of, hint_of, step_count};
-ghost use Rattle.tag_queue.specs.Freed.{LooksAfter, LooksAndRings};
-ghost use Rattle.tag_queue.specs.Gets.{GetsPlain, GetsShallow, GetsBatch, MiscountsBatch, most_steps};
+ghost use Rattle.std.specs.Prelude.{◌≡◌, ◌+◌, ◌<◌, ◌≤◌, false, IfOk, IsTrue, IsOkAnd, None};
+ghost use Rattle.tag_queue.specs.Agents.{layout_of, IsAgentOf, caller_of, hint_of, step_count};
+ghost use Rattle.tag_queue.specs.Freed.{LooksAfter};
+ghost use Rattle.tag_queue.specs.Gets.{GetsPlain, GetsShallow, GetsBatch, most_steps, CountsBatch};
 ghost use Rattle.tag_search.specs.Freed.{left_free};
+ghost use Rattle.refusals.specs.Refusals.{RefusesBy};
+ghost use Rattle.tag_queue.specs.Refusals.{get_checks, shallow_checks, batch_checks};
 
 use crate::agent::Agent;
 use crate::fault::QueueFault;
@@ -17,11 +19,10 @@ impl<R: Copy> Queue<R> {
     pub fn get_freed(&self, agent: &mut Agent<R>) -> Result<Found<u32>, QueueFault>
         requires agent { IsAgentOf self.now agent.old }
         ensures agent { IsAgentOf self.now agent.new }
-        ensures room { IsOk result ↔ HasRoom agent.old 1 }
+        ensures refusals { RefusesBy (get_checks agent.old) (agent.new ≡ agent.old) result }
         ensures gets { IfOk result (λ found. GetsPlain (layout_of self.now) found.answer agent.old agent.new) }
         ensures left { IfOk result (λ found. found.left ≡ left_free (caller_of agent.old) (caller_of agent.new)) }
         ensures bound { step_count agent.new ≤ most_steps (layout_of self.now) + step_count agent.old }
-        ensures err { IfErr result (λ fault. (fault ≡ QueueFault.Spent) × (agent.new ≡ agent.old)) }
     {
         let Ok(found) = on_map::get(&self.map, &mut agent.caller, &mut agent.hint) else {
             return Err(QueueFault::Spent);
@@ -38,15 +39,10 @@ impl<R: Copy> Queue<R> {
     ) -> Result<Found<u32>, QueueFault>
         requires agent { IsAgentOf self.now agent.old }
         ensures agent { IsAgentOf self.now agent.new }
-
-        // The depth is checked first.
-        ensures too_shallow { (result ≡ Err QueueFault.TooShallow) ↔ (depth < least_of self.now) }
-        ensures spent { (result ≡ Err QueueFault.Spent) ↔ ((least_of self.now ≤ depth) × ¬ (HasRoom agent.old 1)) }
-        ensures succeeds { IsOk result ↔ ((least_of self.now ≤ depth) × HasRoom agent.old 1) }
+        ensures refusals { RefusesBy (shallow_checks self.now agent.old depth) (agent.new ≡ agent.old) result }
         ensures gets { IfOk result (λ found. GetsShallow (layout_of self.now) depth found.answer agent.old agent.new) }
         ensures left { IfOk result (λ found. found.left ≡ left_free (caller_of agent.old) (caller_of agent.new)) }
         ensures bound { step_count agent.new ≤ most_steps (layout_of self.now) + step_count agent.old }
-        ensures err { OnErr result (agent.new ≡ agent.old) }
     {
         if depth < self.shallowest {
             return Err(QueueFault::TooShallow);
@@ -69,19 +65,13 @@ impl<R: Copy> Queue<R> {
     ) -> Result<Found<(u32, u64)>, QueueFault>
         requires agent { IsAgentOf self.now agent.old }
         ensures agent { IsAgentOf self.now agent.new }
-
-        // The count is checked first, then round robin.
-        ensures bad_count { (result ≡ Err QueueFault.BadCount) ↔ MiscountsBatch (layout_of self.now) n }
-        ensures round_robin { ¬ (MiscountsBatch (layout_of self.now) n) → IsTrue (hint_of agent.old).round_robin
+        ensures refusals { RefusesBy (batch_checks self.now agent.old n) (agent.new ≡ agent.old) result }
+        ensures round_robin { CountsBatch (layout_of self.now) n → IsTrue (hint_of agent.old).round_robin
             → IsOkAnd result (λ found. found.answer ≡ None) × (agent.new ≡ agent.old) }
-        ensures spent { (result ≡ Err QueueFault.Spent)
-            ↔ (¬ (MiscountsBatch (layout_of self.now) n) × ((hint_of agent.old).round_robin ≡ false) × ¬ (HasRoom agent.old n)) }
-        ensures succeeds { ¬ (MiscountsBatch (layout_of self.now) n) → HasRoom agent.old n → IsOk result }
         ensures gets { (hint_of agent.old).round_robin ≡ false
             → IfOk result (λ found. GetsBatch (layout_of self.now) n found.answer agent.old agent.new) }
         ensures left { IfOk result (λ found. found.left ≡ left_free (caller_of agent.old) (caller_of agent.new)) }
         ensures bound { step_count agent.new ≤ most_steps (layout_of self.now) + step_count agent.old }
-        ensures err { OnErr result (agent.new ≡ agent.old) }
     {
         let bits = 1u32 << self.map.layout().shift();
         if n == 0 || n > bits {

@@ -1,9 +1,11 @@
 //! Where an agent's gets start.
-ghost use Rattle.std.specs.Prelude.{◌≡◌, All, IfOk, IfErr};
+ghost use Rattle.std.specs.Prelude.{◌≡◌, All, IfOk};
 ghost use Rattle.std.specs.List.{AllZip};
 ghost use Rattle.tag_queue.specs.Agents.{IsAgentOf, SameCounts, layout_of, fill_of, caller_of, hint_of};
-ghost use Rattle.tag_queue.specs.Opening.{IsLaidOut, CanOpen, RefusesOpen, IsOpenPlaced};
+ghost use Rattle.tag_queue.specs.Opening.{IsLaidOut, IsOpenPlaced};
 ghost use Rattle.tag_queue.specs.Placing.{hint_in_part, IsPlaced};
+ghost use Rattle.refusals.specs.Refusals.{RefusesOrRunsOut};
+ghost use Rattle.tag_queue.specs.Refusals.{open_checks};
 
 use crate::agent::Agent;
 use crate::fault::QueueOpenFault;
@@ -21,8 +23,7 @@ impl<R: Copy> Queue<R> {
         ensures ok { IfOk result (λ opened. IsOpenPlaced options opened.0 opened.1.items) }
         ensures layout { IfOk result (λ opened. IsLaidOut depth options (layout_of opened.0)) }
         ensures fill { IfOk result (λ opened. fill_of opened.0 ≡ fill) }
-        ensures can { IfOk result (λ opened. CanOpen depth options) }
-        ensures err { IfErr result (RefusesOpen depth options) }
+        ensures refusals { RefusesOrRunsOut (open_checks depth options) QueueOpenFault.Memory result }
     {
         let (queue, mut agents) = Queue::open(alloc, depth, options, fill)?;
         place_all(&queue, agents.as_mut_slice());

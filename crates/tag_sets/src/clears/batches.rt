@@ -1,10 +1,13 @@
 //! Clears of several ordinary tags at once.
-ghost use Rattle.std.specs.Prelude.{◌≡◌, ◌+◌, ◌≤◌, ◌↔◌, length, take, All, IfOk, IfSome, IsOk, IsSome, OnOk, OnErr};
+ghost use Rattle.std.specs.Prelude.{◌≡◌, ◌+◌, ◌≤◌, ◌↔◌, length, take, All, IfSome, IsSome, ⊤};
 ghost use Rattle.tag_sets.specs.Hands.{IsHandOf, waiter_of, step_count};
 ghost use Rattle.tag_sets.specs.Batches.{CountsTags, AreOrdinary, AreHeldOnce, GivesBack, numbers_of};
 ghost use Rattle.tag_sets.specs.Clears.{Counts, back_of};
 ghost use Rattle.tag_sets.specs.declared.kind.Kind.TheVariants.{Ordinary};
 ghost use Rattle.tag_queue.specs.Clears.{complete_steps};
+ghost use Rattle.refusals.specs.Refusals.{RefusesBy};
+ghost use Rattle.tag_sets.specs.Refusals.{list_checks};
+ghost use Rattle.tag_sets.specs.Calls.{DoesClearBatch};
 
 use crate::fault::TagFault;
 use crate::hand::Hand;
@@ -25,24 +28,18 @@ impl<R: Copy> Tags<R> {
     ) -> Result<W::Answer, TagFault>
         requires hand { IsHandOf self.now hand.old }
         ensures hand { IsHandOf self.now hand.new }
-
-        // The causes are checked in this order, each for the whole list.
-        ensures bad_count { (result ≡ Err TagFault.BadCount) ↔ ¬ (CountsTags tags.now) }
-        ensures no_such_tag { (result ≡ Err TagFault.NoSuchTag)
-            ↔ (CountsTags tags.now × ¬ (AreOrdinary self.now tags.now)) }
-        ensures not_held { (result ≡ Err TagFault.NotHeld)
-            ↔ (CountsTags tags.now × AreOrdinary self.now tags.now × ¬ (AreHeldOnce hand.old tags.now)) }
-        ensures succeeds { IsOk result
-            ↔ (CountsTags tags.now × AreOrdinary self.now tags.now × AreHeldOnce hand.old tags.now) }
-        ensures gives { OnOk result (GivesBack self.now tags.now hand.old hand.new) }
-        ensures back { OnOk result (back_of hand.new Ordinary ≡ back_of hand.old Ordinary + length tags.now) }
-        ensures counts { IfOk result (λ answer. Counts self.now Ordinary (length tags.now) hand.old hand.new (W.woken answer)) }
-        ensures tells { IfOk result (λ answer. W.tells answer (waiter_of hand.old) (waiter_of hand.new)) }
-        ensures bound { OnOk result (step_count hand.new ≤ length tags.now + complete_steps + step_count hand.old) }
-        ensures err { OnErr result (hand.new ≡ hand.old) }
+        ensures does { DoesClearBatch W.woken W.tells tags.now self.now result hand.old hand.new }
     {
-        self.check_batch(hand, tags)?;
-        Ok(self.clear_batch_held::<W>(hand, tags))
+        if tags.is_empty() || tags.len() > MAX_BATCH {
+            return Err(TagFault::BadCount);
+        }
+        let Some(numbers) = ordinary_numbers(tags, self.reserved_count) else {
+            return Err(TagFault::NoSuchTag);
+        };
+        let numbers = &numbers[..tags.len()];
+        self.ordinary
+            .clear_batch::<W>(&mut hand.ordinary, numbers)
+            .map_err(TagFault::from)
     }
 
     /// Clears 1 to 64 ordinary tags that the hand holds, like `clear_batch` but for the tests.
@@ -70,15 +67,7 @@ impl<R: Copy> Tags<R> {
     /// refusals, in order: `BadCount`, `NoSuchTag`, `NotHeld`.
     pub fn check_batch(&self, hand: &Hand<R>, tags: &[u32]) -> Result<(), TagFault>
         requires hand { IsHandOf self.now hand.now }
-
-        // The causes are checked in this order, each for the whole list.
-        ensures bad_count { (result ≡ Err TagFault.BadCount) ↔ ¬ (CountsTags tags.now) }
-        ensures no_such_tag { (result ≡ Err TagFault.NoSuchTag)
-            ↔ (CountsTags tags.now × ¬ (AreOrdinary self.now tags.now)) }
-        ensures not_held { (result ≡ Err TagFault.NotHeld)
-            ↔ (CountsTags tags.now × AreOrdinary self.now tags.now × ¬ (AreHeldOnce hand.now tags.now)) }
-        ensures succeeds { IsOk result
-            ↔ (CountsTags tags.now × AreOrdinary self.now tags.now × AreHeldOnce hand.now tags.now) }
+        ensures refusals { RefusesBy (list_checks self.now hand.now tags.now) ⊤ result }
     {
         if tags.is_empty() || tags.len() > MAX_BATCH {
             return Err(TagFault::BadCount);

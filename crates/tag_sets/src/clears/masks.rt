@@ -1,5 +1,5 @@
 //! Clears of the ordinary tags of a mask, as a batch get answers it.
-ghost use Rattle.std.specs.Prelude.{◌≡◌, ◌+◌, ◌-◌, ◌≤◌, ◌↔◌, count_ones, All, IfOk, IfSome, IsOk, IsSome, OnOk, OnErr};
+ghost use Rattle.std.specs.Prelude.{◌≡◌, ◌+◌, ◌-◌, ◌≤◌, ◌↔◌, count_ones, All, IfSome, IsSome, ⊤};
 ghost use Rattle.tag_queue.specs.Clears.{complete_steps};
 ghost use Rattle.tag_queue.specs.Masks.{tags_in};
 ghost use Rattle.tag_sets.specs.Hands.{IsHandOf, waiter_of, Holds, step_count};
@@ -7,6 +7,9 @@ ghost use Rattle.tag_sets.specs.Batches.{AreOrdinary, GivesBack, numbers_of};
 ghost use Rattle.tag_sets.specs.Clears.{Counts, back_of};
 ghost use Rattle.tag_sets.specs.Masks.{words_over};
 ghost use Rattle.tag_sets.specs.declared.kind.Kind.TheVariants.{Ordinary};
+ghost use Rattle.refusals.specs.Refusals.{RefusesBy};
+ghost use Rattle.tag_sets.specs.Refusals.{mask_checks};
+ghost use Rattle.tag_sets.specs.Calls.{DoesClearMask};
 
 use crate::fault::TagFault;
 use crate::hand::Hand;
@@ -28,21 +31,7 @@ impl<R: Copy> Tags<R> {
     ) -> Result<W::Answer, TagFault>
         requires hand { IsHandOf self.now hand.old }
         ensures hand { IsHandOf self.now hand.new }
-
-        // The causes are checked in this order, each for the whole mask.
-        ensures bad_count { (result ≡ Err TagFault.BadCount) ↔ (mask ≡ 0) }
-        ensures no_such_tag { (result ≡ Err TagFault.NoSuchTag) ↔ ¬ (AreOrdinary self.now (tags_in first mask)) }
-        ensures not_held { (result ≡ Err TagFault.NotHeld)
-            ↔ (AreOrdinary self.now (tags_in first mask) × ¬ (All (Holds hand.old) (tags_in first mask))) }
-        ensures succeeds { IsOk result
-            ↔ ((1 ≤ mask) × AreOrdinary self.now (tags_in first mask) × All (Holds hand.old) (tags_in first mask)) }
-        ensures gives { OnOk result (GivesBack self.now (tags_in first mask) hand.old hand.new) }
-        ensures back { OnOk result (back_of hand.new Ordinary ≡ back_of hand.old Ordinary + count_ones mask) }
-        ensures counts { IfOk result (λ answer. Counts self.now Ordinary (count_ones mask) hand.old hand.new (W.woken answer)) }
-        ensures tells { IfOk result (λ answer. W.tells answer (waiter_of hand.old) (waiter_of hand.new)) }
-        ensures bound { OnOk result (step_count hand.new
-            ≤ words_over self.now first (tags_in first mask) + complete_steps + step_count hand.old) }
-        ensures err { OnErr result (hand.new ≡ hand.old) }
+        ensures does { DoesClearMask W.woken W.tells first mask self.now result hand.old hand.new }
     {
         self.check_mask(hand, first, mask)?;
         Ok(self.clear_mask_held::<W>(hand, first, mask))
@@ -75,14 +64,7 @@ impl<R: Copy> Tags<R> {
     #[inline]
     pub fn check_mask(&self, hand: &Hand<R>, first: u32, mask: u64) -> Result<(), TagFault>
         requires hand { IsHandOf self.now hand.now }
-
-        // The causes are checked in this order, each for the whole mask.
-        ensures bad_count { (result ≡ Err TagFault.BadCount) ↔ (mask ≡ 0) }
-        ensures no_such_tag { (result ≡ Err TagFault.NoSuchTag) ↔ ¬ (AreOrdinary self.now (tags_in first mask)) }
-        ensures not_held { (result ≡ Err TagFault.NotHeld)
-            ↔ (AreOrdinary self.now (tags_in first mask) × ¬ (All (Holds hand.now) (tags_in first mask))) }
-        ensures succeeds { IsOk result
-            ↔ ((1 ≤ mask) × AreOrdinary self.now (tags_in first mask) × All (Holds hand.now) (tags_in first mask)) }
+        ensures refusals { RefusesBy (mask_checks self.now hand.now first mask) ⊤ result }
     {
         if mask == 0 {
             return Err(TagFault::BadCount);

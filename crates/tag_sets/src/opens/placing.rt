@@ -1,13 +1,15 @@
 //! Where a hand's gets start.
-ghost use Rattle.std.specs.Prelude.{◌≡◌, ◌-◌, All, IfOk, IfErr};
+ghost use Rattle.std.specs.Prelude.{◌≡◌, ◌-◌, All, IfOk};
 ghost use Rattle.std.specs.List.{AllZip};
 ghost use Rattle.tag_layout.specs.Layout.{HasShift};
 ghost use Rattle.tag_queue.specs.Placing.{hint_in_part};
 ghost use Rattle.tag_sets.specs.declared.kind.Kind.{Kind};
 ghost use Rattle.tag_sets.specs.declared.kind.Kind.TheVariants.{Ordinary, Reserved};
 ghost use Rattle.tag_sets.specs.Hands.{IsHandOf, queue_of, agent_of, hint_of, layout_of, reserved_of, total_of};
-ghost use Rattle.tag_sets.specs.Opening.{CanOpen, RefusesOpen, IsOpenPlaced};
+ghost use Rattle.tag_sets.specs.Opening.{IsOpenPlaced};
 ghost use Rattle.tag_sets.specs.Placing.{SameButHint, IsPlaced};
+ghost use Rattle.refusals.specs.Refusals.{RefusesOrRunsOut};
+ghost use Rattle.tag_sets.specs.Refusals.{open_checks};
 
 use crate::fault::SetFault;
 use crate::hand::Hand;
@@ -30,8 +32,7 @@ impl<R: Copy> Tags<R> {
         ensures ordinary_shift { IfOk result (λ opened.
             HasShift (total - reserved) options.shift (layout_of opened.0 Ordinary).shift) }
         ensures reserved_shift { IfOk result (λ opened. HasShift reserved options.shift (layout_of opened.0 Reserved).shift) }
-        ensures can { IfOk result (λ opened. CanOpen total reserved options) }
-        ensures err { IfErr result (RefusesOpen total reserved options) }
+        ensures refusals { RefusesOrRunsOut (open_checks total reserved options) SetFault.Memory result }
     {
         let (tags, mut hands) = Tags::open(alloc, total, reserved, options, fill)?;
         place_all(&tags, hands.as_mut_slice());

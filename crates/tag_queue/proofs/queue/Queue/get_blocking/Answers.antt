@@ -1,5 +1,5 @@
 -- Each turn is a round that found no tag and used up none of the agent's life; the last get or stay finds one.
-use Rattle.std.proofs.Common.{None, inl, inr, suc, refl}
+use Rattle.std.proofs.Common.{None, inl, inr, suc}
 use Rattle.wake_book.specs.Groups.{wait_index_of}
 use Rattle.tag_queue.specs.Agents.{layout_of, waiter_of}
 use Rattle.tag_queue.proofs.Looking.{searched_plain}
@@ -64,15 +64,3 @@ loop-preserved g c =
         ),
       );
     }
-
-pub returns-in-Some-try_get-clause-succeeds : goal.returns-in-Some-try_get-clause-succeeds
-returns-in-Some-try_get-clause-succeeds g c = (λ ok. c.loop.invariant.free, λ free. refl)
-
-pub returns-in-Some-stay-clause-spent : goal.returns-in-Some-stay-clause-spent
-returns-in-Some-stay-clause-spent g c = (
-  λ e. absurd (let z = e in cc),
-  λ spent. absurd (spent.2 c.loop.invariant.free.2),
-)
-
-pub returns-in-Some-stay-clause-succeeds : goal.returns-in-Some-stay-clause-succeeds
-returns-in-Some-stay-clause-succeeds g c = (λ ok. c.loop.invariant.free, λ free. refl)

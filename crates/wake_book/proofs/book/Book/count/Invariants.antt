@@ -1,4 +1,4 @@
--- Each turn so far found a batch open and lost its exchange, so nothing was charged; the completions are counted once.
+-- Each turn so far found a batch due and lost its exchange, so nothing was charged; the completions are counted once.
 use Rattle.std.proofs.Common.{◌≡◌, ℕ, ◌+◌, ◌≤◌, ◌∷◌}
 use Rattle.step_ledger.specs.History.{total}
 use Rattle.wake_book.specs.declared.steps.BookStep.TheVariants.{Add}
