@@ -17,7 +17,12 @@ use Rattle.tag_sets.specs.Sets.{number_in_set}
 use Rattle.tag_sets.specs.Hands.{agent_of, split_of, layout_of, reserved_of, IsHandOf, Holds}
 use Rattle.tag_sets.specs.Batches.{CountsTags, AreOrdinary, AreHeldOnce, numbers_of, GivesBack}
 use Rattle.tag_sets.proofs.Numbering.{ordinary_above}
-use Rattle.tag_sets.proofs.Told.{IsTold, told_fault, told_ok}
+use Rattle.tag_sets.specs.Faults.{of_queue}
+use Rattle.tag_sets.specs.Refusals.{list_checks}
+use Rattle.tag_queue.specs.Refusals as queue_refusals
+use Rattle.std.specs.Result.{IsErrAnd}
+use Rattle.refusals.specs.Refusals.{FailsFirst, PassesAll, RefusesBy}
+use Rattle.tag_sets.proofs.Told.{Alike, refused_alike, passes_alike}
 use Rattle.tag_sets.proofs.Lifting.{InSet, less, less_like}
 use Rattle.tag_sets.proofs.Getting.{ordinary_like}
 
@@ -86,11 +91,6 @@ module _ {R : Type 0} (tags : Tags R) (hand : Hand R) (own : IsHandOf tags hand)
         h.1 j k d less (omega arith) (omega arith),
   )
 
-  -- numbers that are held are tags of the set
-  are_tags : queue_batches.AreHeldOnce (queue.caller_of hand.ordinary) named
-      → queue_batches.AreTags (layout_of tags Ordinary) named
-  are_tags h k d l = subst (λ (s : Shape). get_or named k d < s.layout.depth) own.1.0.1 (h.0 k d l).0
-
   pub gives_back : (agent : Agent R) → queue_batches.GivesBack (layout_of tags Ordinary) named hand.ordinary agent
       → GivesBack tags list hand (record hand { ordinary = agent })
   gives_back agent g = let new = record hand { ordinary = agent } in
@@ -104,32 +104,18 @@ module _ {R : Type 0} (tags : Tags R) (hand : Hand R) (own : IsHandOf tags hand)
         set = record { changed = given; other = refl; split = refl };
       }
 
-  -- what a caller is told of the tags by a refusal
-  pub record Refusals {A : Type 0} (told : Result A TagFault) : Type 0 where
-    pub no_such_tag : (told ≡ Err NoSuchTag) ↔ (CountsTags list × ¬ (AreOrdinary tags list))
-    pub not_held : (told ≡ Err NotHeld) ↔ (CountsTags list × AreOrdinary tags list × ¬ (AreHeldOnce hand list))
-    pub succeeds : IsOk told ↔ (CountsTags list × AreOrdinary tags list × AreHeldOnce hand list)
+  -- what is checked of the numbers is what is checked of the tags
+  pub list_alike : Alike of_queue (queue_refusals.list_checks tags.ordinary hand.ordinary named) (list_checks tags hand list)
+  list_alike = ((counts_back, counts_there), refl, ((tags_back, tags_there), refl, ((held_back, held_there), refl, tt)))
 
-  -- a condition on the numbers holds exactly if the same condition on the tags does
-  pub refused : {A : Type 0} (r : Result A QueueFault) (told : Result A TagFault) → IsTold r told
-      → (r ≡ Err queue_fault.NoSuchTag)
-      ↔ (queue_batches.CountsTags named × ¬ (queue_batches.AreTags (layout_of tags Ordinary) named))
-      → (r ≡ Err queue_fault.NotHeld)
-      ↔ (queue_batches.CountsTags named × queue_batches.AreTags (layout_of tags Ordinary) named
-      × ¬ (queue_batches.AreHeldOnce (queue.caller_of hand.ordinary) named))
-      → IsOk r ↔ (queue_batches.CountsTags named × queue_batches.AreHeldOnce (queue.caller_of hand.ordinary) named)
-      → Refusals told
-  refused r told is none not_held ok = record {
-    no_such_tag = told_fault r told is queue_fault.NoSuchTag _ (
-      λ e. let h = none.0 e in (counts_back h.0, λ o. h.1 (tags_there o)),
-      λ h. none.1 (counts_there h.0, λ t. h.1 (tags_back t)),
-    );
-    not_held = told_fault r told is queue_fault.NotHeld _ (
-      λ e. let h = not_held.0 e in (counts_back h.0, tags_back h.1, λ o. h.2 (held_there o)),
-      λ h. not_held.1 (counts_there h.0, tags_there h.1, λ t. h.2 (held_back t)),
-    );
-    succeeds = told_ok r told is _ (
-      λ e. let h = ok.0 e in (counts_back h.0, tags_back (are_tags h.1), held_back h.1),
-      λ h. ok.1 (counts_there h.0, held_there h.2),
-    );
-  }
+  pub list_refused : {A : Type 0} (fault : QueueFault) (told : Result A TagFault) → IsErrAnd told (λ f. f ≡ of_queue fault)
+      → FailsFirst (queue_refusals.list_checks tags.ordinary hand.ordinary named) fault → (same : Type 0) → same
+      → RefusesBy (list_checks tags hand list) same told
+  list_refused fault told is first = refused_alike of_queue
+      (queue_refusals.list_checks tags.ordinary hand.ordinary named) (list_checks tags hand list) list_alike fault told is
+      first
+
+  pub list_passes : PassesAll (queue_refusals.list_checks tags.ordinary hand.ordinary named)
+      → PassesAll (list_checks tags hand list)
+  list_passes = passes_alike of_queue (queue_refusals.list_checks tags.ordinary hand.ordinary named)
+      (list_checks tags hand list) list_alike

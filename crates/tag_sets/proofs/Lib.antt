@@ -15,7 +15,6 @@ pub mod Around
 pub mod Sizes
 pub mod Writings
 pub mod Dumped
-pub mod Ranges
 pub mod Marking
 pub mod Listing
 pub mod Reuniting

@@ -18,8 +18,6 @@ module _ {R : Type 0} where
     set = record { changed = looks; other = refl; split = refl };
   }
 
-  }
-
   -- a hand that made no step left no tag free
   pub none_left : (hand : Hand R) → left_free hand hand ≡ 0
   none_left hand = omega arith

@@ -26,6 +26,24 @@ use Rattle.tag_sets.specs.Sets.{kind_of, number_in_set}
 use Rattle.tag_sets.specs.Hands.{agent_of, split_of, reserved_of}
 use Rattle.tag_sets.specs.Opening as sets_opening
 use Rattle.tag_sets.specs.Opening.{reserved_part, ordinary_part, AreParts, HoldsNone}
+use Rattle.std.proofs.Common.{◌≡◌, ◌<◌, ◌≤◌, ℕ, Option, None, Some, sym, ◌∙◌, ⊎_elim, arith}
+use Rattle.std.proofs.lemmas.Bool.{cases_lt}
+use Rattle.tag_layout.specs.Layout.{Layout, HasShift}
+use Rattle.tag_queue.specs.declared.queue.Options.{Options}
+use Rattle.tag_queue.specs.Opening.{IsLaidOut}
+
+-- the depth and the options determine the shift, and so the layout
+one_shift : (depth : ℕ) (asked : Option ℕ) (a b : ℕ) → HasShift depth asked a → HasShift depth asked b → a ≡ b
+one_shift depth (Some s) a b is also = is ∙ sym also
+one_shift depth None a b is also = ⊎_elim (λ (few : depth < 4). is.few few ∙ sym (also.few few))
+    (λ (more : 4 ≤ depth). let low = is.greatest more b also.within (also.four_words more) in
+    let high = also.greatest more a is.within (is.four_words more) in omega arith) (cases_lt depth 4)
+
+pub one_layout : (depth : ℕ) (options : Options) (a b : Layout) → IsLaidOut depth options a → IsLaidOut depth options b
+    → a ≡ b
+one_layout depth options a b is also = let depths = is.0 ∙ sym also.0 in
+    let shifts = one_shift depth options.shift a.shift b.shift is.1 also.1 in
+    λ i. record { depth = depths i; shift = shifts i }
 
 -- if P holds of all images, it holds of the image of each entry
 pub all_part : {A B : Type 0} (P : B → Type 0) (f : A → B) (xs : List A) → All P (map f xs) → (k : ℕ) (d : A)

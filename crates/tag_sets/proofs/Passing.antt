@@ -22,6 +22,16 @@ use Rattle.tag_sets.specs.Sets.{kind_of, number_in_set, other_kind}
 use Rattle.tag_sets.specs.Hands.{agent_of, split_of, slot_of, layout_of, reserved_of, IsHandOf, Changes, ChangesAt}
 use Rattle.tag_sets.specs.Clears.{Clears}
 use Rattle.tag_sets.specs.Slots.{Reads, Writes, Posts, Takes, Misses, RefusesTake}
+use Rattle.std.proofs.Common.{◌≤◌, ◌+◌, ◌↔◌, arith, refl, Result}
+use Rattle.std.specs.Result.{IsErrAnd}
+use Rattle.refusals.specs.Refusals.{FailsFirst, RefusesBy}
+use Rattle.tag_queue.specs.Refusals as queue_refusals
+use Rattle.tag_sets.specs.declared.fault.TagFault.{TagFault}
+use Rattle.tag_sets.specs.declared.kind.Kind.TheVariants.{Ordinary, Reserved}
+use Rattle.tag_sets.specs.Hands.{total_of, queue_of, Holds}
+use Rattle.tag_sets.specs.Refusals.{tag_checks}
+use Rattle.tag_sets.proofs.Numbering.{ordinary_at, reserved_at}
+use Rattle.tag_sets.proofs.Told.{Alike, refused_alike}
 use Rattle.tag_sets.proofs.Lifting.{less, more, same, same_but, none_new, less_like, more_like, one_like}
 
 -- the tag is in this set and has this number there
@@ -59,6 +69,32 @@ module _ {R : Type 0} where
     kind_is = sym is ∙ k ∙ ap (λ (s : ℕ). kind_of s tag) (sym own.2);
     number_is = n ∙ ap (λ (s : ℕ). number_in_set s tag) (sym own.2);
   }
+
+  -- what the agent in the tag's set checks of its number there is what is checked of the tag
+  tag_alike : (tags : Tags R) (hand : Hand R) (tag number : ℕ) (kind : Kind) → IsHandOf tags hand → IsAt hand tag kind number
+      → Alike of_queue (queue_refusals.tag_checks (queue_of tags kind) (agent_of hand kind) number) (tag_checks tags hand tag)
+  tag_alike tags hand tag number kind own at = (is_low kind at.kind_is, refl, (held, refl, tt))
+    where
+      held : queue.Holds (agent_of hand kind) number ↔ Holds hand tag
+      held = rw (at.number_is, at.kind_is) (λ h. h, λ h. h)
+
+      is_low : (k : Kind) → k ≡ kind_of (split_of hand) tag
+          → number < (queue.layout_of (queue_of tags k)).depth ↔ tag < total_of tags
+      is_low Ordinary e = let split = own.2 in let o = ordinary_at (split_of hand) tag (sym e) in let n = o.number in
+          let same = at.number_is in (λ low. omega arith, λ low. omega arith)
+      is_low Reserved e = let split = own.2 in let r = reserved_at (split_of hand) tag (sym e) in let n = r.number in
+          let below = r.below in let same = at.number_is in let depth = tags.reserved_is in
+          (λ low. omega arith, λ low. omega arith)
+
+  -- a refusal by the agent in the tag's set is one of the hand's
+  pub refused_at : {A : Type 0} (tags : Tags R) (hand : Hand R) (tag number : ℕ) (kind : Kind) → IsHandOf tags hand
+      → IsAt hand tag kind number → (fault : QueueFault) (told : Result A TagFault)
+      → IsErrAnd told (λ f. f ≡ of_queue fault)
+      → FailsFirst (queue_refusals.tag_checks (queue_of tags kind) (agent_of hand kind) number) fault
+      → (same : Type 0) → same → RefusesBy (tag_checks tags hand tag) same told
+  refused_at tags hand tag number kind own at fault told is first = refused_alike of_queue
+      (queue_refusals.tag_checks (queue_of tags kind) (agent_of hand kind) number) (tag_checks tags hand tag)
+      (tag_alike tags hand tag number kind own at) fault told is first
 
   module _ (old new : Hand R) (kind : Kind) (number tag : ℕ) (at : IsAt old tag kind number)
       (other : agent_of new (other_kind kind) ≡ agent_of old (other_kind kind)) (split : split_of new ≡ split_of old)

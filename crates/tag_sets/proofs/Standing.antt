@@ -1,5 +1,5 @@
 -- What an agent does as it enters or leaves its wait group is what its hand does.
-use Rattle.std.proofs.Common.{◌≡◌, ℕ, Result, Ok, Err, IfOk, OnErr, refl, sym, ap, ◌∙◌, subst}
+use Rattle.std.proofs.Common.{Option, None, Some, IfSome, IfNone, ◌≡◌, ℕ, Result, Ok, Err, IfOk, OnErr, refl, sym, ap, ◌∙◌, subst}
 use Rattle.tag_core.specs.declared.caller.Caller.{Caller}
 use Rattle.tag_core.specs.Holdings.{KeepsAll}
 use Rattle.wake_book.specs.declared.waiting.Left.{Left}
@@ -13,7 +13,7 @@ use Rattle.tag_queue.specs.Holding as queue_holding
 use Rattle.tag_queue.specs.Waits as queue_waits
 use Rattle.tag_sets.specs.declared.hand.Hand.{Hand}
 use Rattle.tag_sets.specs.declared.kind.Kind.TheVariants.{Ordinary}
-use Rattle.tag_sets.specs.Waits.{Enters, Leaves, AgentLeaves}
+use Rattle.tag_sets.specs.Waits.{Enters, Leaves, StandsOn, AgentLeaves}
 use Rattle.tag_sets.proofs.Lifting.{same}
 
 -- an agent has its number, whether or not a clear is refused
@@ -46,4 +46,22 @@ module _ {R : Type 0} (hand : Hand R) (agent : Agent R) where
   leaves_of left l = record {
     same = same hand (record hand { ordinary = agent }) Ordinary refl refl (same_tags l.1.0);
     set = record { changed = l; other = refl; split = refl };
+  }
+
+  -- how an agent left its group or stands on in it is how the hand did
+  pub leaves_as : (answer : Option Left) → queue_waits.SameTags hand.ordinary agent
+      → IfSome answer (groups.LeavesAs (queue.waiter_of hand.ordinary) (queue.waiter_of agent))
+      → IfSome answer (λ left. Leaves left hand (record hand { ordinary = agent }))
+  leaves_as None kept how = tt
+  leaves_as (Some left) kept how = leaves_of left (how, kept)
+
+  pub stands_on : (answer : Option Left) → queue_waits.SameTags hand.ordinary agent
+      → IfNone answer (queue.standing_of agent ≡ queue.standing_of hand.ordinary)
+      → IfNone answer (groups.IdlesOnce (queue.waiter_of hand.ordinary) (queue.waiter_of agent))
+      → IfNone answer (StandsOn hand (record hand { ordinary = agent }))
+  stands_on (Some left) kept stands idle = tt
+  stands_on None kept stands idle = record {
+    stands = stands;
+    same = same hand (record hand { ordinary = agent }) Ordinary refl refl (same_tags kept.0);
+    set = record { changed = (idle, kept); other = refl; split = refl };
   }

@@ -1,105 +1,60 @@
 -- A caller of the sets is told a queue's answer: its value, or the fault of the same name.
-use Rattle.std.proofs.Common.{◌≡◌, ◌≢◌, ◌↔◌, Option, None, Some, Result, Ok, Err, IsOk, IfOk, OnOk, OnErr, refl, sym, ap, ◌∙◌}
+use Rattle.std.proofs.Common.{◌≡◌, ◌↔◌, ◌∙◌, Result, Ok, Err, List, [], ◌∷◌, ⊎_elim, inl, inr, sym, ap}
+use Rattle.std.specs.Prelude.{⊤, OnErr}
 use Rattle.std.specs.Result.{MatchResult, IsErrAnd}
-use Rattle.tag_queue.specs.declared.fault.QueueFault.{QueueFault}
-use Rattle.tag_queue.specs.declared.fault.QueueFault.TheVariants as queue
-use Rattle.tag_queue.specs.declared.fault.QueueOpenFault.{QueueOpenFault}
-use Rattle.tag_queue.specs.declared.fault.QueueOpenFault.TheVariants as opening
-use Rattle.tag_sets.specs.declared.fault.SetFault.{SetFault}
-use Rattle.tag_sets.specs.declared.fault.SetFault.TheVariants.{Memory, TotalTooLarge, ReservedTooLarge, ShiftTooLarge, CallerCount, LifeTooLong, CapTooLarge}
-use Rattle.tag_sets.specs.declared.fault.TagFault.{TagFault}
-use Rattle.tag_sets.specs.declared.fault.TagFault.TheVariants.{NoSuchTag, NoReserved, NotHeld, NotPosted, BadCount, TooShallow, Spent, Waiting, NotWaiting}
-use Rattle.tag_sets.specs.Faults.{of_queue, of_opening}
+use Rattle.refusals.specs.Refusals.{Checks, FailsFirst, PassesAll, RefusesBy}
 
--- the queue's fault of the same name, if it has one
-abbrev in_queue : TagFault → Option QueueFault
-in_queue NoSuchTag = Some queue.NoSuchTag
-in_queue NoReserved = None
-in_queue NotHeld = Some queue.NotHeld
-in_queue NotPosted = Some queue.NotPosted
-in_queue BadCount = Some queue.BadCount
-in_queue TooShallow = Some queue.TooShallow
-in_queue Spent = Some queue.Spent
-in_queue Waiting = Some queue.Waiting
-in_queue NotWaiting = Some queue.NotWaiting
+module _ {F G : Type 0} (turn : F → G) where
+  -- checks that correspond in order: each passes exactly if the other does, and their faults are of one name
+  abbrev pub Alike : Checks F → Checks G → Type 0
+  Alike [] [] = ⊤
+  Alike ((there, fault) ∷ a) ((here, told) ∷ b) = (there ↔ here) × (told ≡ turn fault) × Alike a b
+  Alike _ _ = ⊥
 
-in_queue-of_queue : (fault : QueueFault) → in_queue (of_queue fault) ≡ Some fault
-in_queue-of_queue queue.NoSuchTag = refl
-in_queue-of_queue queue.NotHeld = refl
-in_queue-of_queue queue.NotPosted = refl
-in_queue-of_queue queue.BadCount = refl
-in_queue-of_queue queue.TooShallow = refl
-in_queue-of_queue queue.Spent = refl
-in_queue-of_queue queue.Waiting = refl
-in_queue-of_queue queue.NotWaiting = refl
+  -- the first that fails is the same
+  pub fails_alike : (a : Checks F) (b : Checks G) → Alike a b → (fault : F) → FailsFirst a fault → FailsFirst b (turn fault)
+  fails_alike [] [] like fault first = first
+  fails_alike ((there, known) ∷ a) ((here, told) ∷ b) like fault (inl first) =
+      inl (λ passes. first.0 (like.0.1 passes), ap turn first.1 ∙ sym like.1)
+  fails_alike ((there, known) ∷ a) ((here, told) ∷ b) like fault (inr first) =
+      inr (like.0.0 first.0, fails_alike a b like.2 fault first.1)
+  fails_alike [] (_ ∷ _) like fault first = absurd like
+  fails_alike (_ ∷ _) [] like fault first = absurd like
 
--- no two faults of a queue become one
-pub same_fault : (a b : QueueFault) → of_queue a ≡ of_queue b → a ≡ b
-same_fault a b e = let both : Some a ≡ Some b = sym (in_queue-of_queue a) ∙ ap in_queue e ∙ in_queue-of_queue b in cc
+  -- and if all pass, all pass
+  pub passes_alike : (a : Checks F) (b : Checks G) → Alike a b → PassesAll a → PassesAll b
+  passes_alike [] [] like passed = passed
+  passes_alike ((there, known) ∷ a) ((here, told) ∷ b) like passed =
+      (like.0.0 passed.0, passes_alike a b like.2 passed.1)
+  passes_alike [] (_ ∷ _) like passed = absurd like
+  passes_alike (_ ∷ _) [] like passed = absurd like
 
--- and none becomes `NoReserved`
-pub never_no_reserved : (fault : QueueFault) → of_queue fault ≢ NoReserved
-never_no_reserved fault e = let both : Some fault ≡ None = sym (in_queue-of_queue fault) ∙ ap in_queue e in absurd cc
+  -- a caller that is told the fault of the same name is refused by the checks that correspond
+  pub refused_alike : {A : Type 0} (a : Checks F) (b : Checks G) → Alike a b → (fault : F) (told : Result A G)
+      → IsErrAnd told (λ f. f ≡ turn fault) → FailsFirst a fault → (same : Type 0) → same → RefusesBy b same told
+  refused_alike a b like fault (Ok x) is first same still = absurd is
+  refused_alike a b like fault (Err f) is first same still = record {
+    first = rw is (fails_alike a b like fault first);
+    passes = tt;
+    same = still;
+  }
 
--- the queue's refusal of the same name, if it has one
-abbrev in_opening : SetFault → Option QueueOpenFault
-in_opening Memory = Some opening.Memory
-in_opening TotalTooLarge = Some opening.TotalTooLarge
-in_opening ReservedTooLarge = None
-in_opening ShiftTooLarge = Some opening.ShiftTooLarge
-in_opening CallerCount = Some opening.CallerCount
-in_opening LifeTooLong = Some opening.LifeTooLong
-in_opening CapTooLarge = Some opening.CapTooLarge
+  -- the caller is told the queue's answer
+  abbrev pub IsTold : {A : Type 0} → Result A F → Result A G → Type 0
+  IsTold r told = MatchResult r (λ x. told ≡ Ok x) (λ fault. IsErrAnd told (λ f. f ≡ turn fault))
 
-in_opening-of_opening : (fault : QueueOpenFault) → in_opening (of_opening fault) ≡ Some fault
-in_opening-of_opening opening.Memory = refl
-in_opening-of_opening opening.TotalTooLarge = refl
-in_opening-of_opening opening.ShiftTooLarge = refl
-in_opening-of_opening opening.CallerCount = refl
-in_opening-of_opening opening.LifeTooLong = refl
-in_opening-of_opening opening.CapTooLarge = refl
-
--- no two refusals to open a queue become one
-pub same_refusal : (a b : QueueOpenFault) → of_opening a ≡ of_opening b → a ≡ b
-same_refusal a b e =
-    let both : Some a ≡ Some b = sym (in_opening-of_opening a) ∙ ap in_opening e ∙ in_opening-of_opening b in cc
-
--- and none becomes `ReservedTooLarge`
-pub never_reserved_too_large : (fault : QueueOpenFault) → of_opening fault ≢ ReservedTooLarge
-never_reserved_too_large fault e =
-    let both : Some fault ≡ None = sym (in_opening-of_opening fault) ∙ ap in_opening e in absurd cc
-
--- the caller is told the queue's answer
-abbrev pub IsTold : {A : Type 0} → Result A QueueFault → Result A TagFault → Type 0
-IsTold r told = MatchResult r (λ x. told ≡ Ok x) (λ fault. IsErrAnd told (λ f. f ≡ of_queue fault))
-
-err_is : {A : Type 0} (told : Result A TagFault) (fault : TagFault) → IsErrAnd told (λ f. f ≡ fault) → told ≡ Err fault
-err_is (Ok x) fault h = absurd h
-err_is (Err f) fault h = ap Err h
-
--- the caller is told a fault exactly where the queue tells the one of the same name
-pub told_fault : {A : Type 0} (r : Result A QueueFault) (told : Result A TagFault) → IsTold r told
-    → (fault : QueueFault) (P : Type 0) → (r ≡ Err fault) ↔ P → (told ≡ Err (of_queue fault)) ↔ P
-told_fault (Ok x) told is fault P h = (λ e. absurd cc, λ p. absurd (let e = h.1 p in cc))
-told_fault (Err e) told is fault P h = let t = err_is told (of_queue e) is in (
-  λ same. h.0 (ap Err (same_fault e fault (let both : Err (of_queue e) ≡ Err (of_queue fault) = sym t ∙ same in cc))),
-  λ p. let at : Err e ≡ Err fault = h.1 p in t ∙ ap Err (ap of_queue cc),
-)
-
--- and a value exactly where the queue tells one
-pub told_ok : {A : Type 0} (r : Result A QueueFault) (told : Result A TagFault) → IsTold r told
-    → (P : Type 0) → IsOk r ↔ P → IsOk told ↔ P
-told_ok (Ok x) told is P h = rw is h
-told_ok (Err e) told is P h = rw (err_is told (of_queue e) is) h
-
--- what holds where the queue tells a value holds where the caller is told one
-pub told_on : {A : Type 0} (r : Result A QueueFault) (told : Result A TagFault) → IsTold r told
-    → (P : Type 0) → OnOk r P → OnOk told P
-told_on (Ok x) told is P h = rw is h
-told_on (Err e) told is P h = rw (err_is told (of_queue e) is) tt
-
--- and what holds where the queue refuses the call holds where the caller is told so
-pub told_err : {A : Type 0} (r : Result A QueueFault) (told : Result A TagFault) → IsTold r told
-    → (P : Type 0) → OnErr r P → OnErr told P
-told_err (Ok x) told is P h = rw is tt
-told_err (Err e) told is P h = rw (err_is told (of_queue e) is) h
+  -- and is refused as the queue refuses
+  pub refuses_alike : {A : Type 0} (a : Checks F) (b : Checks G) → Alike a b → (was is : Type 0) → (was → is)
+      → (r : Result A F) (told : Result A G) → IsTold r told → RefusesBy a was r → RefusesBy b is told
+  refuses_alike a b like was is still (Ok x) (Ok y) same r = record {
+    first = tt;
+    passes = passes_alike a b like r.passes;
+    same = tt;
+  }
+  refuses_alike a b like was is still (Ok x) (Err e) same r = absurd (let z = same in cc)
+  refuses_alike a b like was is still (Err e) (Ok y) same r = absurd same
+  refuses_alike a b like was is still (Err e) (Err f) same r = record {
+    first = rw same (fails_alike a b like e r.first);
+    passes = tt;
+    same = still r.same;
+  }

@@ -1,5 +1,5 @@
 //! The two sets, and which of them a tag is in.
-ghost use Rattle.std.specs.Prelude.{◌≡◌, ◌<◌, IfOk, ⊤, ◌∷◌};
+ghost use Rattle.std.specs.Prelude.{[], ◌≡◌, ◌<◌, IfOk, ⊤, ◌∷◌};
 ghost use Rattle.tag_sets.specs.Sets.{kind_of, number_in_set};
 ghost use Rattle.tag_sets.specs.Hands.{reserved_of, total_of, IsHandOf};
 ghost use Rattle.refusals.specs.Refusals.{RefusesBy};

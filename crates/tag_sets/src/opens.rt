@@ -1,8 +1,8 @@
 //! Opens two sets of tags with their hands.
-ghost use Rattle.std.specs.Prelude.{◌≡◌, ◌-◌, ◌<◌, length, IfOk};
+ghost use Rattle.std.specs.Prelude.{IfSome, ◌≤◌, ◌≡◌, ◌-◌, ◌<◌, length, IfOk};
 ghost use Rattle.tag_layout.specs.Layout.{HasShift};
-ghost use Rattle.tag_layout.specs.declared.layout.TheConstants.{MAX_DEPTH};
-ghost use Rattle.tag_queue.specs.Opening.{HasLayout, IsLaidOut};
+ghost use Rattle.tag_layout.specs.declared.layout.TheConstants.{MAX_DEPTH, MAX_SHIFT};
+ghost use Rattle.tag_queue.specs.Opening.{IsLaidOut};
 ghost use Rattle.tag_sets.specs.Hands.{layout_of, reserved_of, total_of};
 ghost use Rattle.tag_sets.specs.Opening.{AreParts, IsOpen};
 ghost use Rattle.tag_sets.specs.declared.kind.Kind.TheVariants.{Ordinary, Reserved};
@@ -74,7 +74,7 @@ impl<R: Copy> Tags<R> {
 
 /// Returns the layout of a set that was opened with this depth and these options.
 fn lay_out(depth: u32, options: Options) -> Layout
-    requires { HasLayout depth options }
+    requires { (depth ≤ MAX_DEPTH) × IfSome options.shift (λ s. s ≤ MAX_SHIFT) }
     ensures { IsLaidOut depth options result }
 {
     let Ok(layout) = Layout::new(depth, options.shift) else {

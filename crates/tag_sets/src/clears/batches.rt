@@ -37,9 +37,9 @@ impl<R: Copy> Tags<R> {
             return Err(TagFault::NoSuchTag);
         };
         let numbers = &numbers[..tags.len()];
-        self.ordinary
-            .clear_batch::<W>(&mut hand.ordinary, numbers)
-            .map_err(TagFault::from)
+        Ok(self
+            .ordinary
+            .clear_batch::<W>(&mut hand.ordinary, numbers)?)
     }
 
     /// Clears 1 to 64 ordinary tags that the hand holds, like `clear_batch` but for the tests.

@@ -1,58 +1,15 @@
 -- The mask's numbers correspond one to one to its tags, so what the ordinary set answers for them holds of the tags.
 use Rattle.std.proofs.Common.{arith, ◌≤◌, refl}
-use Rattle.tag_queue.specs.Masks.{tags_in}
-use Rattle.tag_queue.specs.declared.fault.QueueFault.TheVariants.{BadCount}
-use Rattle.tag_queue.proofs.MaskHolds.{none_in_zero}
-use Rattle.tag_sets.specs.Gets.{IsOrdinaryTag}
-use Rattle.tag_sets.specs.Hands.{Holds}
-use Rattle.tag_sets.proofs.Told.{told_fault}
-use Rattle.tag_sets.proofs.MaskAnswers.{Refusals, refused, still_some}
-use Rattle.tag_sets.proofs.tags.Tags.check_mask.Given as given
-use Rattle.tag_sets.proofs.tags.Tags.check_mask.Goals.{After-map_err}
+use Rattle.tag_sets.specs.Faults.{of_queue}
+use Rattle.tag_sets.proofs.MaskAnswers.{mask_alike, still_some}
+use Rattle.tag_sets.proofs.Told.{refuses_alike}
 use Rattle.tag_sets.proofs.tags.Tags.check_mask.Goals as goal
 
-pub returns-then-mask-eq0-clause-no_such_tag : goal.returns-then-mask-eq0-clause-no_such_tag
-returns-then-mask-eq0-clause-no_such_tag g c = (
-  λ e. absurd (let z = e in cc),
-  λ n. absurd (n (none_in_zero c.args.first c.args.mask c.ranges.mask.fits c.if-mask-eq0.true
-      (IsOrdinaryTag c.args.self.now))),
-)
-
-pub returns-then-mask-eq0-clause-not_held : goal.returns-then-mask-eq0-clause-not_held
-returns-then-mask-eq0-clause-not_held g c = (
-  λ e. absurd (let z = e in cc),
-  λ n. absurd (n.1 (none_in_zero c.args.first c.args.mask c.ranges.mask.fits c.if-mask-eq0.true
-      (Holds c.args.hand.now))),
-)
-
--- the mask of the numbers is not 0 either
-some : (g : given.Over) (c : After-map_err g) → (1 ≤ c.args.mask) × (1 ≤ c.in-Some.mask)
-some g c = let whole : 1 ≤ c.args.mask = let ne = c.if-mask-eq0.false in omega arith in
-    (whole, still_some c.args.mask c.in-Some.mask c.ranges.mask.fits whole c.in-Some.ensures.ones)
-
-told : (g : given.Over) (c : After-map_err g) → Refusals c.args.self.now c.args.hand.now c.requires.hand
-    (tags_in c.args.first c.args.mask) (tags_in c.in-Some.first c.in-Some.mask) (c.in-Some.ensures.ordinary.0 refl)
-    c.in-Some.ensures.numbers.1 c.map_err.result
-told g c = let e = c.check_mask.ensures in refused c.args.self.now c.args.hand.now c.requires.hand
-    (tags_in c.args.first c.args.mask) (tags_in c.in-Some.first c.in-Some.mask) (c.in-Some.ensures.ordinary.0 refl)
-    c.in-Some.ensures.numbers.1 c.check_mask.result c.map_err.result c.map_err.ensures.cases (1 ≤ c.in-Some.mask)
-    (some g c).1 e.no_such_tag e.not_held e.succeeds
-
-pub returns-clause-bad_count : goal.returns-clause-bad_count
-returns-clause-bad_count g c = let s = some g c in let whole = s.0 in let part = s.1 in (
-  λ e. absurd (let zero = (told_fault c.check_mask.result c.map_err.result c.map_err.ensures.cases BadCount _
-      c.check_mask.ensures.bad_count).0 e in omega arith),
-  λ z. absurd (omega arith),
-)
-
-pub returns-clause-no_such_tag : goal.returns-clause-no_such_tag
-returns-clause-no_such_tag g c = (told g c).no_such_tag
-
-pub returns-clause-not_held : goal.returns-clause-not_held
-returns-clause-not_held g c = (told g c).not_held
-
-pub returns-clause-succeeds : goal.returns-clause-succeeds
-returns-clause-succeeds g c = let ok = (told g c).succeeds in (
-  λ t. let h = ok.0 t in ((some g c).0, h.0, h.1),
-  λ h. ok.1 (h.1, h.2),
-)
+pub returns : goal.returns
+returns g c = let whole : 1 ≤ c.args.mask = let ne = c.if-mask-eq0.false in omega arith in
+    let part = still_some c.args.mask c.in-Some.mask c.ranges.mask.fits whole c.in-Some.ensures.ones in record {
+      refusals = refuses_alike of_queue _ _ (mask_alike c.args.self.now c.args.hand.now c.requires.hand _ _
+          (c.in-Some.ensures.ordinary.0 refl) c.in-Some.ensures.numbers.1 c.args.first c.args.mask c.in-Some.first
+          c.in-Some.mask refl refl (λ some. whole, λ some. part)) _ _ (λ same. same) c.check_mask.result
+          c.map_err.result c.map_err.ensures.cases c.check_mask.ensures.refusals;
+    }

@@ -1,15 +1,32 @@
--- It is refused exactly as the test, whose fault it passes on.
-use Rattle.std.proofs.Common.{rules, ◌≡◌, Err}
-use Rattle.tag_queue.proofs.PassedOn.{refused_alike}
-use Rattle.tag_sets.specs.declared.fault.TagFault.TheVariants.{NoSuchTag, NotHeld}
+-- The list's numbers correspond one to one to its tags, so what the ordinary set answers for them holds of the tags.
+use Rattle.std.proofs.Common.{rules, refl}
+use Rattle.tag_sets.proofs.Batching.{list_refused, list_passes, gives_back}
 use Rattle.tag_sets.proofs.tags.Tags.clear_batch.Goals as goal
 
-pub returns-in_err-check_batch-clause-no_such_tag : goal.returns-in_err-check_batch-clause-no_such_tag
-returns-in_err-check_batch-clause-no_such_tag g c = let same : c.from_residual.result ≡ Err c.in_err-check_batch.field-0.0 = first_of (cc, search rules) in
-    refused_alike c.check_batch.result c.from_residual.result c.in_err-check_batch.field-0.0 NoSuchTag _ c.in_err-check_batch.was same
-    c.check_batch.ensures.no_such_tag
+pub returns-in_err-clear_batch-clause-does : goal.returns-in_err-clear_batch-clause-does
+returns-in_err-clear_batch-clause-does g c = record {
+  refusals = list_refused c.args.self.now c.args.hand.now c.requires.hand c.args.tags.now _
+      (c.in-Some.ensures.ordinary.0 refl) c.in-Some.ensures.numbers _ c.from_residual.result c.from_residual.ensures.1
+      c.in_err-clear_batch.ensures.refusals.first _ (search rules);
+  gives = search rules;
+  back = search rules;
+  counts = search rules;
+  tells = search rules;
+  bound = search rules;
+}
 
-pub returns-in_err-check_batch-clause-not_held : goal.returns-in_err-check_batch-clause-not_held
-returns-in_err-check_batch-clause-not_held g c = let same : c.from_residual.result ≡ Err c.in_err-check_batch.field-0.0 = first_of (cc, search rules) in
-    refused_alike c.check_batch.result c.from_residual.result c.in_err-check_batch.field-0.0 NotHeld _ c.in_err-check_batch.was same
-    c.check_batch.ensures.not_held
+pub returns-clause-does : goal.returns-clause-does
+returns-clause-does g c = let above = c.in-Some.ensures.ordinary.0 refl in record {
+  refusals = record {
+    first = tt;
+    passes = list_passes c.args.self.now c.args.hand.now c.requires.hand c.args.tags.now _ above
+        c.in-Some.ensures.numbers c.in_ok-clear_batch.ensures.refusals.passes;
+    same = tt;
+  };
+  gives = gives_back c.args.self.now c.args.hand.now c.requires.hand c.args.tags.now _ above c.in-Some.ensures.numbers
+      c.clear_batch.new.agent c.in_ok-clear_batch.ensures.gives;
+  back = search rules;
+  counts = search rules;
+  tells = search rules;
+  bound = search rules;
+}

@@ -1,5 +1,5 @@
 -- The first number is below the depth of its set, so adding the reserved tags gives an ordinary tag without overflow.
-use Rattle.std.proofs.Common.{arith, ◌≡◌, ℕ, ◌+◌, ◌<◌, Bool, true, false, Option, None, Some, sym, ap, ◌∙◌, subst, refl}
+use Rattle.std.proofs.Common.{rules, arith, ◌≡◌, ℕ, ◌+◌, ◌<◌, Bool, true, false, Option, None, Some, sym, ap, ◌∙◌, subst, refl}
 use Rattle.tag_queue.specs.Agents.{number_of}
 use Rattle.tag_queue.specs.Gets.{GetsBatch}
 use Rattle.tag_sets.specs.declared.kind.Kind.TheVariants.{Ordinary}
@@ -9,12 +9,17 @@ use Rattle.tag_sets.proofs.Getting.{batch_low, batch_of}
 use Rattle.tag_sets.proofs.Standing.{number_stays}
 use Rattle.tag_sets.proofs.tags.Tags.get_batch_freed.Goals as goal
 
-pub returns-in_default-clause-gets : goal.returns-in_default-clause-gets
-returns-in_default-clause-gets g c = λ plain. let tags = c.args.self.now in
-    let none : c.in_ok-answer.field-0.answer ≡ None = cc in
-    batch_of tags c.args.hand.now c.get_batch_freed.new.agent c.requires.hand c.args.n c.in_ok-answer.field-0.answer None
-    (ap (whole_run (reserved_of tags)) (sym none))
-    (c.in_ok-answer.ensures.gets plain)
+pub returns-in_default-clause-does : goal.returns-in_default-clause-does
+returns-in_default-clause-does g c = let tags = c.args.self.now in
+    let none : c.in_ok-answer.field-0.answer ≡ None = cc in record {
+      refusals = search rules;
+      round_robin = search rules;
+      gets = λ plain. batch_of tags c.args.hand.now c.get_batch_freed.new.agent c.requires.hand c.args.n
+          c.in_ok-answer.field-0.answer None (ap (whole_run (reserved_of tags)) (sym none))
+          (c.in_ok-answer.ensures.gets plain);
+      left = search rules;
+      bound = search rules;
+    }
 
 pub overflow_add-run : goal.overflow_add-run
 overflow_add-run g c = let tags = c.args.self.now in let hand = c.args.hand.now in
@@ -22,7 +27,7 @@ overflow_add-run g c = let tags = c.args.self.now in let hand = c.args.hand.now 
     elim ((hint_of hand Ordinary).round_robin) as
     (λ (b : Bool). (hint_of hand Ordinary).round_robin ≡ b → c.in-Some.first < (layout_of tags Ordinary).depth) [
       | true ↦ (λ t. absurd (let none = (c.in_ok-answer.ensures.round_robin
-          (λ m. let bad = c.in_ok-answer.ensures.bad_count.1 m in cc) (search t)).0 in cc))
+          c.in_ok-answer.ensures.refusals.passes.0 (search t)).0 in cc))
       | false ↦ (λ f. batch_low tags hand c.get_batch_freed.new.agent c.requires.hand c.args.n
           (c.in-Some.first, c.in-Some.won)
           (subst (λ (o : Option (ℕ × ℕ)). GetsBatch (layout_of tags Ordinary) c.args.n o hand.ordinary
@@ -30,28 +35,24 @@ overflow_add-run g c = let tags = c.args.self.now in let hand = c.args.hand.now 
     ] refl in
     let fits = tags.fits in omega arith
 
-pub returns-clause-gets : goal.returns-clause-gets
-returns-clause-gets g c = λ plain. let tags = c.args.self.now in
-    let is : c.in_ok-answer.field-0.answer ≡ Some (c.in-Some.first, c.in-Some.won) = cc in
-    batch_of tags c.args.hand.now c.get_batch_freed.new.agent c.requires.hand c.args.n c.in_ok-answer.field-0.answer
-    (Some (reserved_of tags + c.in-Some.first, c.in-Some.won))
-    (ap (whole_run (reserved_of tags)) (sym is)) (c.in_ok-answer.ensures.gets plain)
-
 pub returns-clause-hand : goal.returns-clause-hand
 returns-clause-hand g c = let own = c.requires.hand in let hand = c.args.hand.now in
     let agent = c.get_batch_freed.new.agent in let e = c.in_ok-answer.ensures in
     let same : number_of agent ≡ number_of hand.ordinary = elim ((hint_of hand Ordinary).round_robin) as
     (λ (b : Bool). (hint_of hand Ordinary).round_robin ≡ b → number_of agent ≡ number_of hand.ordinary) [
-      | true ↦ (λ t. ap number_of (e.round_robin (λ m. let bad = e.bad_count.1 m in cc) (search t)).1)
+      | true ↦ (λ t. ap number_of (e.round_robin e.refusals.passes.0 (search t)).1)
       | false ↦ (λ f. number_stays hand.ordinary agent (e.gets f).others.1)
     ] refl in (own.0, e.agent, own.2, own.3 ∙ sym same)
 
-pub returns-clause-round_robin : goal.returns-clause-round_robin
-returns-clause-round_robin g c = λ counts robin.
-    absurd (let none = (c.in_ok-answer.ensures.round_robin counts robin).0 in let some = c.in-Some.is in cc)
-
-pub returns-clause-spent : goal.returns-clause-spent
-returns-clause-spent g c = (
-  λ e. absurd cc,
-  λ h. absurd (let spent = c.in_ok-answer.ensures.spent.1 h in cc),
-)
+pub returns-clause-does : goal.returns-clause-does
+returns-clause-does g c = let tags = c.args.self.now in
+    let is : c.in_ok-answer.field-0.answer ≡ Some (c.in-Some.first, c.in-Some.won) = cc in record {
+      refusals = search rules;
+      round_robin = λ counts robin. absurd (let none = (c.in_ok-answer.ensures.round_robin counts robin).0 in
+          let some = c.in-Some.is in cc);
+      gets = λ plain. batch_of tags c.args.hand.now c.get_batch_freed.new.agent c.requires.hand c.args.n
+          c.in_ok-answer.field-0.answer (Some (reserved_of tags + c.in-Some.first, c.in-Some.won))
+          (ap (whole_run (reserved_of tags)) (sym is)) (c.in_ok-answer.ensures.gets plain);
+      left = search rules;
+      bound = search rules;
+    }

@@ -1,5 +1,5 @@
 -- The number found is below the depth of its set, so adding the reserved tags gives an ordinary tag without overflow.
-use Rattle.std.proofs.Common.{arith, ◌≡◌, ℕ, ◌+◌, ◌<◌, Option, None, Some, sym, ap, subst}
+use Rattle.std.proofs.Common.{rules, arith, ◌≡◌, ℕ, ◌+◌, ◌<◌, Option, None, Some, sym, ap, subst}
 use Rattle.tag_queue.specs.Gets.{GetsPlain}
 use Rattle.tag_sets.specs.declared.kind.Kind.TheVariants.{Ordinary}
 use Rattle.tag_sets.specs.Hands.{layout_of, reserved_of}
@@ -7,10 +7,15 @@ use Rattle.tag_sets.specs.Gets.{whole}
 use Rattle.tag_sets.proofs.Getting.{number_low, gets_of}
 use Rattle.tag_sets.proofs.tags.Tags.get_freed.Goals as goal
 
-pub returns-in_default-clause-gets : goal.returns-in_default-clause-gets
-returns-in_default-clause-gets g c = let tags = c.args.self.now in let none : c.in_ok-answer.field-0.answer ≡ None = cc in
+pub returns-in_default-clause-does : goal.returns-in_default-clause-does
+returns-in_default-clause-does g c = record {
+  gets = let tags = c.args.self.now in let none : c.in_ok-answer.field-0.answer ≡ None = cc in
     gets_of tags c.args.hand.now c.get_freed.new.agent c.requires.hand c.in_ok-answer.field-0.answer None
-    (ap (whole (reserved_of tags)) (sym none)) c.in_ok-answer.ensures.gets
+    (ap (whole (reserved_of tags)) (sym none)) c.in_ok-answer.ensures.gets;
+  refusals = search rules;
+  left = search rules;
+  bound = search rules;
+}
 
 pub overflow_add-answer : goal.overflow_add-answer
 overflow_add-answer g c = let tags = c.args.self.now in let hand = c.args.hand.now in
@@ -20,8 +25,13 @@ overflow_add-answer g c = let tags = c.args.self.now in let hand = c.args.hand.n
     c.in_ok-answer.ensures.gets) in
     let fits = tags.fits in omega arith
 
-pub returns-clause-gets : goal.returns-clause-gets
-returns-clause-gets g c = let tags = c.args.self.now in
+pub returns-clause-does : goal.returns-clause-does
+returns-clause-does g c = record {
+  gets = let tags = c.args.self.now in
     gets_of tags c.args.hand.now c.get_freed.new.agent c.requires.hand c.in_ok-answer.field-0.answer
     (Some (reserved_of tags + c.in-Some.number))
-    (ap (whole (reserved_of tags)) (sym c.in-Some.is)) c.in_ok-answer.ensures.gets
+    (ap (whole (reserved_of tags)) (sym c.in-Some.is)) c.in_ok-answer.ensures.gets;
+  refusals = search rules;
+  left = search rules;
+  bound = search rules;
+}

@@ -1,19 +1,41 @@
 -- The tag's number in its set is unique, so the post of the agent there is a post of this tag alone.
-use Rattle.std.proofs.Common.{refl}
+use Rattle.std.proofs.Common.{rules, refl}
 use Rattle.tag_sets.specs.declared.kind.Kind.TheVariants.{Ordinary, Reserved}
-use Rattle.tag_sets.proofs.Passing.{placed, posts_at}
+use Rattle.tag_sets.proofs.Passing.{placed, refused_at, posts_at}
 use Rattle.tag_sets.proofs.tags.Tags.post.Goals as goal
 
-pub returns-in_ok-post-in-Ordinary-clause-posts : goal.returns-in_ok-post-in-Ordinary-clause-posts
-returns-in_ok-post-in-Ordinary-clause-posts g c = let hand = c.args.hand.now in
+pub returns-in_ok-post-in-Ordinary-clause-does : goal.returns-in_ok-post-in-Ordinary-clause-does
+returns-in_ok-post-in-Ordinary-clause-does g c = record {
+  posts = let hand = c.args.hand.now in
     let new = record hand { ordinary = c.post.new.agent } in
     let at = placed c.args.self.now hand c.args.tag c.of-kind.result Ordinary c.requires.hand c.in-Ordinary.is
     c.of-kind.ensures.kind c.of-kind.ensures.number in
-    posts_at hand new Ordinary _ c.args.tag at refl refl c.in_ok-post-in-Ordinary.ensures.posts
+    posts_at hand new Ordinary _ c.args.tag at refl refl c.in_ok-post-in-Ordinary.ensures.posts;
+  refusals = search rules;
+}
 
-pub returns-in_ok-post-in-Reserved-clause-posts : goal.returns-in_ok-post-in-Reserved-clause-posts
-returns-in_ok-post-in-Reserved-clause-posts g c = let hand = c.args.hand.now in
+pub returns-in_ok-post-in-Reserved-clause-does : goal.returns-in_ok-post-in-Reserved-clause-does
+returns-in_ok-post-in-Reserved-clause-does g c = record {
+  posts = let hand = c.args.hand.now in
     let new = record hand { reserved = c.post-in-Reserved.new.agent } in
     let at = placed c.args.self.now hand c.args.tag c.of-kind.result Reserved c.requires.hand c.in-Reserved.is
     c.of-kind.ensures.kind c.of-kind.ensures.number in
-    posts_at hand new Reserved _ c.args.tag at refl refl c.in_ok-post-in-Reserved.ensures.posts
+    posts_at hand new Reserved _ c.args.tag at refl refl c.in_ok-post-in-Reserved.ensures.posts;
+  refusals = search rules;
+}
+
+pub returns-in_err-post-in-Ordinary-clause-does : goal.returns-in_err-post-in-Ordinary-clause-does
+returns-in_err-post-in-Ordinary-clause-does g c = let at = placed c.args.self.now c.args.hand.now c.args.tag
+    c.of-kind.result Ordinary c.requires.hand c.in-Ordinary.is c.of-kind.ensures.kind c.of-kind.ensures.number in record {
+      refusals = refused_at c.args.self.now c.args.hand.now c.args.tag _ Ordinary c.requires.hand at _ c.from_residual.result
+          c.from_residual.ensures.1 c.in_err-post-in-Ordinary.ensures.refusals.first _ (search rules);
+      posts = search rules;
+    }
+
+pub returns-in_err-post-in-Reserved-clause-does : goal.returns-in_err-post-in-Reserved-clause-does
+returns-in_err-post-in-Reserved-clause-does g c = let at = placed c.args.self.now c.args.hand.now c.args.tag
+    c.of-kind.result Reserved c.requires.hand c.in-Reserved.is c.of-kind.ensures.kind c.of-kind.ensures.number in record {
+      refusals = refused_at c.args.self.now c.args.hand.now c.args.tag _ Reserved c.requires.hand at _ c.from_residual-in_err-post-in-Reserved.result
+          c.from_residual-in_err-post-in-Reserved.ensures.1 c.in_err-post-in-Reserved.ensures.refusals.first _ (search rules);
+      posts = search rules;
+    }
