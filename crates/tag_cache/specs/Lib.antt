@@ -1,4 +1,6 @@
 pub mod Windows
+pub mod Refusals
+pub mod Calls
 pub mod Caches
 pub mod Changes
 pub mod Holding

@@ -1,14 +1,11 @@
 -- What the ordinary set answers for the numbers of a list holds for the ordinary tags of the list.
-use Rattle.std.proofs.Common.{◌≡◌, ℕ, ◌+◌, ◌-◌, ◌<◌, ◌≤◌, ◌↔◌, List, All, Contains, length, get_or, Result, Err, IsOk, arith, refl, sym, ap, ◌∙◌, subst}
+use Rattle.std.proofs.Common.{◌≡◌, ℕ, ◌+◌, ◌-◌, ◌<◌, ◌≤◌, List, All, Contains, length, get_or, Result, arith, refl, sym, ap, ◌∙◌, subst}
 use Rattle.std.proofs.lemmas.List.{length-map, get_or-map}
-use Rattle.tag_core.specs.declared.shape.Shape.{Shape}
 use Rattle.tag_queue.specs.declared.agent.Agent.{Agent}
 use Rattle.tag_queue.specs.declared.fault.QueueFault.{QueueFault}
-use Rattle.tag_queue.specs.declared.fault.QueueFault.TheVariants as queue_fault
 use Rattle.tag_queue.specs.Agents as queue
 use Rattle.tag_queue.specs.Batches as queue_batches
 use Rattle.tag_sets.specs.declared.fault.TagFault.{TagFault}
-use Rattle.tag_sets.specs.declared.fault.TagFault.TheVariants.{NoSuchTag, NotHeld}
 use Rattle.tag_sets.specs.declared.hand.Hand.{Hand}
 use Rattle.tag_sets.specs.declared.kind.Kind.{Kind}
 use Rattle.tag_sets.specs.declared.kind.Kind.TheVariants.{Ordinary}

@@ -1,21 +1,12 @@
 -- What the ordinary set answers for the numbers of a list holds for the tags of the list, each of which stands there once.
-use Rattle.std.proofs.Common.{refl, ◌≡◌, ℕ, ◌^◌, ◌<◌, ◌≤◌, ◌↔◌, List, All, length, get_or, count_ones, Result, Err, IsOk, arith, subst}
+use Rattle.std.proofs.Common.{refl, ◌≡◌, ℕ, ◌^◌, ◌<◌, ◌≤◌, ◌↔◌, List, All, length, get_or, count_ones, arith}
 use Rattle.std.proofs.lemmas.Nat.{ones_le_self}
-use Rattle.tag_layout.specs.Layout.{Layout}
-use Rattle.tag_core.specs.declared.shape.Shape.{Shape}
-use Rattle.tag_queue.specs.declared.fault.QueueFault.{QueueFault}
-use Rattle.tag_queue.specs.declared.fault.QueueFault.TheVariants as queue_fault
 use Rattle.tag_queue.specs.Agents as queue
-use Rattle.tag_queue.specs.Batches as queue_batches
-use Rattle.tag_queue.specs.Masks.{words_over}
 use Rattle.tag_queue.proofs.MaskHolds.{few_ones}
-use Rattle.tag_sets.specs.declared.fault.TagFault.{TagFault}
-use Rattle.tag_sets.specs.declared.fault.TagFault.TheVariants.{NoSuchTag, NotHeld}
 use Rattle.tag_sets.specs.declared.hand.Hand.{Hand}
-use Rattle.tag_sets.specs.declared.kind.Kind.TheVariants.{Ordinary}
 use Rattle.tag_sets.specs.declared.tags.Tags.{Tags}
-use Rattle.tag_sets.specs.Hands.{layout_of, reserved_of, IsHandOf, Holds}
-use Rattle.tag_sets.specs.Batches.{AreOrdinary, numbers_of}
+use Rattle.tag_sets.specs.Hands.{reserved_of, IsHandOf, Holds}
+use Rattle.tag_sets.specs.Batches.{numbers_of}
 use Rattle.tag_sets.specs.Faults.{of_queue}
 use Rattle.tag_sets.specs.Refusals.{mask_checks}
 use Rattle.tag_queue.specs.Refusals as queue_refusals

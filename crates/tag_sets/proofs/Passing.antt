@@ -22,7 +22,7 @@ use Rattle.tag_sets.specs.Sets.{kind_of, number_in_set, other_kind}
 use Rattle.tag_sets.specs.Hands.{agent_of, split_of, slot_of, layout_of, reserved_of, IsHandOf, Changes, ChangesAt}
 use Rattle.tag_sets.specs.Clears.{Clears}
 use Rattle.tag_sets.specs.Slots.{Reads, Writes, Posts, Takes, Misses, RefusesTake}
-use Rattle.std.proofs.Common.{◌≤◌, ◌+◌, ◌↔◌, arith, refl, Result}
+use Rattle.std.proofs.Common.{◌↔◌, arith, refl, Result}
 use Rattle.std.specs.Result.{IsErrAnd}
 use Rattle.refusals.specs.Refusals.{FailsFirst, RefusesBy}
 use Rattle.tag_queue.specs.Refusals as queue_refusals

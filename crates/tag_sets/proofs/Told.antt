@@ -1,6 +1,6 @@
 -- A caller of the sets is told a queue's answer: its value, or the fault of the same name.
-use Rattle.std.proofs.Common.{◌≡◌, ◌↔◌, ◌∙◌, Result, Ok, Err, List, [], ◌∷◌, ⊎_elim, inl, inr, sym, ap}
-use Rattle.std.specs.Prelude.{⊤, OnErr}
+use Rattle.std.proofs.Common.{◌≡◌, ◌↔◌, ◌∙◌, Result, Ok, Err, [], ◌∷◌, inl, inr, sym, ap}
+use Rattle.std.specs.Prelude.{⊤}
 use Rattle.std.specs.Result.{MatchResult, IsErrAnd}
 use Rattle.refusals.specs.Refusals.{Checks, FailsFirst, PassesAll, RefusesBy}
 
