@@ -1,8 +1,11 @@
 -- A tag that is posted leaves the hand's steps on the wait groups as they are, and what it won and gave back.
-use Rattle.std.proofs.Common.{◌≡◌, ℕ, Result, Ok, Err, OnOk, OnErr, refl, ap, subst}
+use Rattle.std.proofs.Common.{◌≡◌, ℕ, Result, Ok, Err, OnOk, OnErr, refl, sym, ap, subst}
 use Rattle.tag_core.specs.declared.record.Record.{Record}
 use Rattle.wake_book.specs.declared.groups.Waiter.{Waiter}
+use Rattle.wake_book.specs.declared.grants.TheConstants.{NO_GRANTS}
+use Rattle.wake_book.specs.Grants.{AreGrantsOf}
 use Rattle.wake_book.specs.Groups.{steps_of}
+use Rattle.tag_queue.proofs.Granted.{none_granted}
 use Rattle.tag_queue.specs.declared.agent.Agent.{Agent}
 use Rattle.tag_queue.specs.Agents as queue
 use Rattle.tag_queue.specs.Slots as queue_slots
@@ -38,8 +41,10 @@ module _ {R : Type 0} where
   posts_waiter tag a b p = waiter_in (kind_of (split_of a) tag) _ a b
       (λ c d (x : queue_slots.Posts _ c d). x.same_else.1.1) p.set
 
-  pub posts_steps : (tag : ℕ) (a b : Hand R) → Posts tag a b → group_steps b ≡ group_steps a
-  posts_steps tag a b p = ap (λ (w : Waiter). steps_of w) (posts_waiter tag a b p)
+  -- so it grants nobody a wakeup
+  pub grants_none : (a b : Hand R) → waiter_of b ≡ waiter_of a → AreGrantsOf NO_GRANTS (group_steps a) (group_steps b)
+  grants_none a b same = subst (λ (w : Waiter). AreGrantsOf NO_GRANTS (group_steps a) (steps_of w)) (sym same)
+      (none_granted (group_steps a))
 
   pub posts_moves : (tag : ℕ) (a b : Hand R) → Posts tag a b → Moves 0 0 a b
   posts_moves tag a b p = moves_in (kind_of (split_of a) tag) 0 0 _ a b (λ c d (x : queue_slots.Posts _ c d). record {
