@@ -52,10 +52,6 @@ module _ {R : Type 0} where
       → All (λ tag. ¬ (IsKept cache tag)) list
   none_is_kept cache list h = λ k d l. (h.0 k d l).1
 
-  pub not_in_list : (cache : Cache R) (list : List ℕ) → AreHeldOnce cache list → (tag : ℕ) → Contains list tag
-      → ¬ (IsKept cache tag)
-  not_in_list cache list h tag i = subst (λ (t : ℕ). ¬ (IsKept cache t)) i.2 (h.0 i.0 tag i.1).1
-
   -- the user still holds the tags after the look, whether the kept ones may stay or not
   pub on_same : (left : ℕ) (old mid : Cache R) → GoesOn left old mid → HoldsSame old mid
   on_same left old mid o = same old mid o.kept o.looked.stays.same
@@ -92,8 +88,8 @@ module _ {R : Type 0} (tags : Tags R) (list : List ℕ) (left : ℕ) (old : Cach
   })
 
   -- where they have to go, it goes after them
-  pub goes_after : (woken : ℕ) (mid new : Cache R) → CallsForKept left old mid → GivesKeptAndList tags list woken mid new
-      → ListGoes tags list woken old new
+  pub goes_after : (woken : ℕ) (mid new : Cache R) → CallsForKept left old mid
+      → GivesKeptAndList tags list woken mid new → ListGoes tags list woken old new
   goes_after woken mid new c g = let f = c.fields in inr (record {
     found = c.found;
     between = mid.hand;
@@ -110,23 +106,31 @@ module _ {R : Type 0} (tags : Tags R) (list : List ℕ) (left : ℕ) (old : Cach
     reused = g.reused ∙ f.reused;
   })
 
-  -- the mask is of the same tags after a look that changed the hand alone
-  pub left_still : (mid : Cache R) → SameFields old mid → (other : ℕ)
-      → IsIn mid.first left other ↔ (IsLent mid other × ¬ (Contains list other))
-  left_still mid f other = let s = same_loans old mid f.first f.lent other in (
-    (λ i. let x = (is other).0 (subst (λ (n : ℕ). IsIn n left other) f.first i) in (s.1 x.0, x.1)),
-    (λ x. subst (λ (n : ℕ). IsIn n left other) (sym f.first) ((is other).1 (s.0 x.0, x.1))),
+module _ {R : Type 0} (list : List ℕ) (old mid : Cache R) where
+  -- what the user is known to hold after the list went alone
+  pub lends_alone : (left : ℕ) → ((other : ℕ) → IsIn old.first left other ↔ (IsLent old other × ¬ (Contains list other)))
+      → GoesOn left old mid → LendsNoneOf list old mid
+  lends_alone left is o other = (
+    (λ l. (is other).0 ((o.loans other).0 l)),
+    (λ l. (o.loans other).1 ((is other).1 l)),
   )
 
-  -- what the user is known to hold in the end
-  pub lends_alone : (mid : Cache R) → GoesOn left old mid → LendsNoneOf list old mid
-  lends_alone mid o other = ((λ l. (is other).0 ((o.loans other).0 l)), (λ l. (o.loans other).1 ((is other).1 l)))
+  module _ (f : SameFields old mid) where
+    -- the mask is of the same tags after a look that changed the hand alone
+    pub left_still : (left : ℕ)
+        → ((other : ℕ) → IsIn old.first left other ↔ (IsLent old other × ¬ (Contains list other)))
+        → (other : ℕ) → IsIn mid.first left other ↔ (IsLent mid other × ¬ (Contains list other))
+    left_still left is other = let s = same_loans old mid f.first f.lent other in (
+      (λ i. let x = (is other).0 (subst (λ (n : ℕ). IsIn n left other) f.first i) in (s.1 x.0, x.1)),
+      (λ x. subst (λ (n : ℕ). IsIn n left other) (sym f.first) ((is other).1 (s.0 x.0, x.1))),
+    )
 
-  pub lends_after : (mid new : Cache R) → SameFields old mid → LendsNoneOf list mid new → LendsNoneOf list old new
-  lends_after mid new f n other = let s = same_loans old mid f.first f.lent other in (
-    (λ l. let x = (n other).0 l in (s.0 x.0, x.1)),
-    (λ x. (n other).1 (s.1 x.0, x.1)),
-  )
+    -- what the user is known to hold after the list went with the kept tags
+    pub lends_after : (new : Cache R) → LendsNoneOf list mid new → LendsNoneOf list old new
+    lends_after new n other = let s = same_loans old mid f.first f.lent other in (
+      (λ l. let x = (n other).0 l in (s.0 x.0, x.1)),
+      (λ x. (n other).1 (s.1 x.0, x.1)),
+    )
 
 module _ {R : Type 0} (tags : Tags R) where
   pub list_less : (list : List ℕ) (woken : ℕ) (old new : Cache R) → ListGoes tags list woken old new

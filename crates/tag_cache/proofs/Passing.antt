@@ -21,6 +21,7 @@ use Rattle.tag_cache.specs.declared.cache.Cache.{Cache}
 use Rattle.tag_cache.specs.Caches.{IsLast, IsLent, KeepsNone}
 use Rattle.tag_cache.specs.Changes.{Forgets, KeepsSame, SameTerms, SameWindow}
 use Rattle.tag_cache.specs.Holding.{HoldsSame}
+use Rattle.tag_cache.specs.Rings.{GrantsNone}
 use Rattle.tag_cache.specs.Slots.{Passes, PassesAlone, PostsLast}
 use Rattle.tag_cache.specs.Tallies.{Tallies}
 use Rattle.tag_cache.proofs.Carrying.{keeps_twice, less, none_after, same_then_less, same_user, terms_twice}
@@ -36,13 +37,13 @@ module _ {R : Type 0} where
   waiter_in Ordinary change a b same c = same a.ordinary b.ordinary c.changed
   waiter_in Reserved change a b same c = ap (λ (x : Agent R). queue.waiter_of x) c.other
 
-  -- a post makes no step on the groups, and rings nobody
+  -- a post makes no step on the groups, and wakes nobody
   pub posts_waiter : (tag : ℕ) (a b : Hand R) → Posts tag a b → waiter_of b ≡ waiter_of a
   posts_waiter tag a b p = waiter_in (kind_of (split_of a) tag) _ a b
       (λ c d (x : queue_slots.Posts _ c d). x.same_else.1.1) p.set
 
   -- so it grants nobody a wakeup
-  pub grants_none : (a b : Hand R) → waiter_of b ≡ waiter_of a → AreGrantsOf NO_GRANTS (group_steps a) (group_steps b)
+  pub grants_none : (a b : Hand R) → waiter_of b ≡ waiter_of a → GrantsNone a b
   grants_none a b same = subst (λ (w : Waiter). AreGrantsOf NO_GRANTS (group_steps a) (steps_of w)) (sym same)
       (none_granted (group_steps a))
 

@@ -99,7 +99,7 @@ reserved_woken tags tag woken a b below g = kind_woken tags (kind_of (reserved_o
     (reserved_below (reserved_of tags) tag below).kind 1 woken a b g.counts
 
 module _ {R : Type 0} (tags : Tags R) (a b c : Hand R) (r : MakesNoStep b c) where
-  pub less_still : (named : ℕ → Type 0) → hand_holding.HoldsLess named a b → hand_holding.HoldsLess named a c
+  less_still : (named : ℕ → Type 0) → hand_holding.HoldsLess named a b → hand_holding.HoldsLess named a c
   less_still named l = record {
     gone = λ tag n h. l.gone tag n (r.stays.same.none_else tag h);
     kept = λ tag n h. let x = l.kept tag n h in let y = r.stays.same.kept tag x.0 in (y.0, y.1 ∙ x.1);
@@ -142,7 +142,8 @@ module _ {R : Type 0} (tags : Tags R) (a b c : Hand R) (r : MakesNoStep b c) whe
           (puts_still a.ordinary b.ordinary c.ordinary s.0 s.1 (layout_of tags Ordinary)
           (number_in_set (split_of a) tag)) g.clears.set;
     };
-    counts = kind_counts (kind_of (reserved_of tags) tag) (ordinary_above (reserved_of tags) tag above).kind 1 woken g.counts;
+    counts = kind_counts (kind_of (reserved_of tags) tag) (ordinary_above (reserved_of tags) tag above).kind 1 woken
+        g.counts;
   }
 
   -- a list of them

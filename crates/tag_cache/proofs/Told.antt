@@ -132,7 +132,10 @@ module _ {R : Type 0} (woken : ℕ) (mid new : Cache R) (r : HasTold woken mid n
             some = a.some;
             gives = with_kept_still a.found above a.gives;
           }))
-          (λ (l : GoesLast tags tag woken old mid). inr (record { last = l.last; gives = with_kept_still 0 above l.gives }))
+          (λ (l : GoesLast tags tag woken old mid). inr (record {
+            last = l.last;
+            gives = with_kept_still 0 above l.gives;
+          }))
           rest)) rest)) rest)) g
 
       pub goes_told : Goes tags tag woken old mid → Goes tags tag woken old new

@@ -46,7 +46,7 @@ pub record CallsForKept {R : Type 0} (left : ℕ) (old new : Cache R) : Type 0 w
   pub why : (1 ≤ found) ⊎ LeavesNone left old
   pub fields : SameFields old new
 
--- all kept tags went back together and then the list, so that nothing is kept any more, and woke that many waiters in all
+-- all kept tags went back together and then the list, so that nothing is kept any more, and that many waiters were woken
 pub record GivesKeptAndList {R : Type 0} (tags : Tags R) (list : List ℕ) (woken : ℕ) (old new : Cache R) : Type 0 where
   pub between : Hand R
   pub sooner : ℕ

@@ -1,15 +1,14 @@
 //! Clears of several ordinary tags at once.
 ghost use Rattle.std.specs.Prelude.{◌≡◌, ◌≢◌, ◌↔◌, ℕ, length, All, Contains, IfOk, IsOk, OnOk, OnErr, IsTrue};
-ghost use Rattle.wake_book.specs.Grants.{AreGrantsOf};
-ghost use Rattle.wake_book.specs.declared.grants.TheConstants.{NO_GRANTS};
 ghost use Rattle.tag_sets.specs.Batches.{CountsTags, AreOrdinary};
-ghost use Rattle.tag_sets.specs.Hands.{group_steps, waiter_of};
+ghost use Rattle.tag_sets.specs.Hands.{waiter_of};
 ghost use Rattle.tag_sets.specs.declared.hand.Hand.{Hand};
 ghost use Rattle.tag_cache.specs.Windows.{IsIn};
 ghost use Rattle.tag_cache.specs.Batches.{AreHeldOnce, GivesKeptAndList, ListGoes};
 ghost use Rattle.tag_cache.specs.Caches.{IsCacheOf, IsKept, IsLent, hand_of};
 ghost use Rattle.tag_cache.specs.Changes.{IsUnchanged, LendsNoneOf};
 ghost use Rattle.tag_cache.specs.Holding.{HoldsLess};
+ghost use Rattle.tag_cache.specs.Rings.{GrantsNone};
 ghost use Rattle.tag_cache.specs.Tallies.{Tallies};
 
 use crate::cache::{Cache, WINDOW};
@@ -39,7 +38,8 @@ impl<R: Copy> Cache<R> {
         ensures succeeds { IsOk result
             ↔ (CountsTags list.now × AreOrdinary tags.now list.now × AreHeldOnce self.old list.now) }
         ensures less { OnOk result (HoldsLess (Contains list.now) self.old self.new) }
-        ensures way { IfOk result (λ answer. ListGoes tags.now list.now (W.woken answer) self.old self.new) }
+        ensures way { IfOk result (λ answer.
+            ListGoes tags.now list.now (W.woken answer) self.old self.new) }
         ensures tells { IfOk result (λ answer.
             W.tells answer (waiter_of (hand_of self.old)) (waiter_of (hand_of self.new))) }
         ensures loans { OnOk result (LendsNoneOf list.now self.old self.new) }
@@ -86,7 +86,7 @@ impl<R: Copy> Cache<R> {
         requires held { AreHeldOnce self.old list.now }
         ensures cache { IsCacheOf tags.now self.new }
         ensures gives { GivesKeptAndList tags.now list.now (W.woken result) self.old self.new }
-        ensures tells { (before : Hand R) → AreGrantsOf NO_GRANTS (group_steps before) (group_steps (hand_of self.old))
+        ensures tells { (before : Hand R) → GrantsNone before (hand_of self.old)
             → W.tells result (waiter_of before) (waiter_of (hand_of self.new)) }
         ensures loans { LendsNoneOf list.now self.old self.new }
     {

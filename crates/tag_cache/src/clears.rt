@@ -1,12 +1,12 @@
 //! Clears of one tag.
 ghost use Rattle.std.specs.Prelude.{◌≡◌, ◌⊎◌, ◌<◌, ◌≤◌, ◌↔◌, IfOk, IsOk, OnOk, OnErr};
 ghost use Rattle.wake_book.specs.Grants.{AreGrantsOf};
-ghost use Rattle.wake_book.specs.declared.grants.TheConstants.{NO_GRANTS};
 ghost use Rattle.tag_sets.specs.declared.hand.Hand.{Hand};
 ghost use Rattle.tag_sets.specs.Hands.{total_of, group_steps, waiter_of};
 ghost use Rattle.tag_cache.specs.Caches.{IsCacheOf, Holds, HasPlace, IsLast, IsLent, IsWithin, IsFixed, KeepsNone, LeavesWindow, hand_of, split_of, reused_of};
 ghost use Rattle.tag_cache.specs.Changes.{IsUnchanged, KeepsSame, SameTerms, SameWindow, LendsLess};
 ghost use Rattle.tag_cache.specs.Holding.{HoldsLess};
+ghost use Rattle.tag_cache.specs.Rings.{GrantsNone};
 ghost use Rattle.tag_cache.specs.Tallies.{Tallies};
 ghost use Rattle.tag_cache.specs.Clears.{Goes, GoesOrdinary, MakesRoom, GivesOne, GivesWith};
 
@@ -68,8 +68,9 @@ impl<R: Copy> Cache<R> {
         requires held { Holds self.old tag }
         requires ordinary { split_of self.old ≤ tag }
         ensures cache { IsCacheOf tags.now self.new }
-        ensures gives { GivesWith tags.now tag (W.woken result) self.old (hand_of self.old) (hand_of self.new) }
-        ensures tells { (before : Hand R) → AreGrantsOf NO_GRANTS (group_steps before) (group_steps (hand_of self.old))
+        ensures gives { GivesWith tags.now tag (W.woken result) self.old
+            (hand_of self.old) (hand_of self.new) }
+        ensures tells { (before : Hand R) → GrantsNone before (hand_of self.old)
             → W.tells result (waiter_of before) (waiter_of (hand_of self.new)) }
         ensures loans { LendsLess tag self.old self.new }
         ensures none { KeepsNone self.new }

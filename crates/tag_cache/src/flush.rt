@@ -21,7 +21,8 @@ impl<R: Copy> Cache<R> {
         ensures cache { IsCacheOf tags.now self.new }
         ensures same { HoldsSame self.old self.new }
         ensures none { KeepsNone self.new }
-        ensures gives { GivesKept tags.now (W.woken result) self.old (hand_of self.old) (hand_of self.new) }
+        ensures gives { GivesKept tags.now (W.woken result) self.old
+            (hand_of self.old) (hand_of self.new) }
         ensures tells { W.tells result (waiter_of (hand_of self.old)) (waiter_of (hand_of self.new)) }
         ensures tally { Tallies 0 0 self.old self.new }
         ensures terms { SameTerms self.old self.new }

@@ -1,16 +1,15 @@
 //! Clears of the ordinary tags of a mask, as a batch get answers it.
 ghost use Rattle.std.specs.Prelude.{◌≡◌, ◌<◌, ◌≤◌, ◌↔◌, ◌^◌, ℕ, count_ones, All, Contains, IfOk, IsOk, OnOk, OnErr};
-ghost use Rattle.wake_book.specs.Grants.{AreGrantsOf};
-ghost use Rattle.wake_book.specs.declared.grants.TheConstants.{NO_GRANTS};
 ghost use Rattle.tag_queue.specs.Masks.{tags_in};
 ghost use Rattle.tag_sets.specs.Batches.{AreOrdinary};
-ghost use Rattle.tag_sets.specs.Hands.{group_steps, waiter_of};
+ghost use Rattle.tag_sets.specs.Hands.{waiter_of};
 ghost use Rattle.tag_sets.specs.declared.hand.Hand.{Hand};
 ghost use Rattle.tag_cache.specs.Windows.{IsIn};
 ghost use Rattle.tag_cache.specs.Batches.{GivesKeptAndList, ListGoes};
 ghost use Rattle.tag_cache.specs.Caches.{IsCacheOf, IsWithin, IsLent, Holds, hand_of};
 ghost use Rattle.tag_cache.specs.Changes.{IsUnchanged, LendsNoneOf};
 ghost use Rattle.tag_cache.specs.Holding.{HoldsLess};
+ghost use Rattle.tag_cache.specs.Rings.{GrantsNone};
 ghost use Rattle.tag_cache.specs.Tallies.{Tallies};
 
 use crate::cache::{Cache, WINDOW};
@@ -110,7 +109,7 @@ impl<R: Copy> Cache<R> {
         requires held { All (Holds self.old) (tags_in first mask) }
         ensures cache { IsCacheOf tags.now self.new }
         ensures gives { GivesKeptAndList tags.now (tags_in first mask) (W.woken result) self.old self.new }
-        ensures tells { (before : Hand R) → AreGrantsOf NO_GRANTS (group_steps before) (group_steps (hand_of self.old))
+        ensures tells { (before : Hand R) → GrantsNone before (hand_of self.old)
             → W.tells result (waiter_of before) (waiter_of (hand_of self.new)) }
         ensures loans { LendsNoneOf (tags_in first mask) self.old self.new }
     {

@@ -14,11 +14,13 @@ use tag_sets::{Grants, Tags, Waking};
 impl<R: Copy> Cache<R> {
     /// Passes grants on as `W` does, and answers as it says: with `Ring`, it wakes a sleeper for each grant, in its group.
     /// The grants of a call are passed to it once. This makes no step, and changes nothing if there are none.
+    #[inline]
     pub fn tell<W: Waking>(&mut self, tags: &Tags<R>, grants: Grants) -> W::Answer
         requires { IsCacheOf tags.now self.old }
         ensures cache { IsCacheOf tags.now self.new }
         ensures woken { W.woken result ≡ grants.woken }
-        ensures tells { (before : Hand R) → AreGrantsOf grants (group_steps before) (group_steps (hand_of self.old))
+        ensures tells { (before : Hand R)
+            → AreGrantsOf grants (group_steps before) (group_steps (hand_of self.old))
             → W.tells result (waiter_of before) (waiter_of (hand_of self.new)) }
         ensures passes { 1 ≤ grants.woken
             → W.passes grants (waiter_of (hand_of self.old)) (waiter_of (hand_of self.new)) }

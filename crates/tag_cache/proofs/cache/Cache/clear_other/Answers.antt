@@ -15,5 +15,5 @@ pub returns-in-Ordinary-clause-loans : goal.returns-in-Ordinary-clause-loans
 returns-in-Ordinary-clause-loans g c = c.keep_or_give_back_other.ensures.loans
 
 pub returns-in-Reserved-clause-loans : goal.returns-in-Reserved-clause-loans
-returns-in-Reserved-clause-loans g c = λ leaves. unlent_less c.args.tag c.args.self.now c.give_back.new.self c.requires.unlent
-    c.give_back.ensures.window.loans
+returns-in-Reserved-clause-loans g c = λ leaves. unlent_less c.args.tag c.args.self.now c.give_back.new.self
+    c.requires.unlent c.give_back.ensures.window.loans

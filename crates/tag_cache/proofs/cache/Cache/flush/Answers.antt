@@ -4,7 +4,7 @@ use Rattle.tag_cache.specs.Clears.{GivesKept}
 use Rattle.tag_cache.proofs.Carrying.{same_then_same, terms_twice}
 use Rattle.tag_cache.proofs.Giving.{flushed, flush_tallies}
 use Rattle.tag_cache.proofs.Looking.{same_window, window_twice}
-use Rattle.tag_cache.proofs.Told.{kept_told, none_still}
+use Rattle.tag_cache.proofs.Told.{HasTold, kept_told, none_still}
 use Rattle.tag_cache.proofs.Tallying.{tallies_on}
 use Rattle.tag_cache.proofs.cache.Cache.flush.Goals as goal
 
@@ -12,12 +12,13 @@ pub returns : goal.returns
 returns g c = let tags = c.args.tags.now in let old = c.args.self.now in
     let mid = c.give_back_kept-grants.new.self in let new = c.tell.new.self in
     let woken : ℕ = c.give_back_kept-grants.result.woken in let e = c.give_back_kept-grants.ensures in
-    let t = c.tell.ensures in record {
+    let t = c.tell.ensures in let told : HasTold woken mid new =
+    record { none = t.none; hand = t.hand; same = t.same } in record {
       cache = t.cache;
       same = same_then_same old mid new (flushed tags old mid woken e.gives e.none) t.same.held;
-      none = none_still woken mid new (record { none = t.none; hand = t.hand; same = t.same }) e.none;
+      none = none_still woken mid new told e.none;
       gives = subst (λ (n : ℕ). GivesKept tags n old old.hand new.hand) (sym t.woken)
-          (kept_told woken mid new (record { none = t.none; hand = t.hand; same = t.same }) tags old e.gives);
+          (kept_told woken mid new told tags old e.gives);
       tells = t.tells old.hand e.grants;
       tally = tallies_on 0 0 old mid new (flush_tallies tags old mid woken e.gives e.none e.reused) t.same.tally;
       terms = terms_twice e.terms t.same.kept.terms;

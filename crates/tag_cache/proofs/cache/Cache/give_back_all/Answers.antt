@@ -7,8 +7,8 @@ use Rattle.tag_cache.proofs.cache.Cache.give_back_all.Goals as goal
 
 pub give_back_alone-later-requires-clause-held : goal.give_back_alone-later-requires-clause-held
 give_back_alone-later-requires-clause-held g c = let e = c.give_back_kept-sooner.ensures in
-    ((flushed c.args.tags.now c.args.self.now c.give_back_kept-sooner.new.self c.give_back_kept-sooner.result.woken e.gives
-    e.none).kept c.args.tag c.requires.held).0
+    ((flushed c.args.tags.now c.args.self.now c.give_back_kept-sooner.new.self c.give_back_kept-sooner.result.woken
+    e.gives e.none).kept c.args.tag c.requires.held).0
 
 pub give_back_alone-later-requires-clause-other : goal.give_back_alone-later-requires-clause-other
 give_back_alone-later-requires-clause-other g c = inl c.give_back_kept-sooner.ensures.none

@@ -21,8 +21,8 @@ returns-clause-gives g c = subst (λ (h : Hand g.row.R.Denot).
     c.give_back.ensures.gives
 
 pub returns-clause-grants : goal.returns-clause-grants
-returns-clause-grants g c = before_same c.give_back.result c.args.self.now.hand c.forget.new.self.hand c.give_back.new.self.hand
-    c.forget.ensures.same.hand c.give_back.ensures.grants
+returns-clause-grants g c = before_same c.give_back.result c.args.self.now.hand c.forget.new.self.hand
+    c.give_back.new.self.hand c.forget.ensures.same.hand c.give_back.ensures.grants
 
 pub returns-clause-kept : goal.returns-clause-kept
 returns-clause-kept g c = keeps_twice c.args.self.now c.forget.new.self c.give_back.new.self c.forget.ensures.same.kept

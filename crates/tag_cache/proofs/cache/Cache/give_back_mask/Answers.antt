@@ -13,16 +13,16 @@ goes_on-requires-clause-left g c = λ other i. ((c.lent_outside-left.ensures oth
 
 pub clear_mask_held-requires-clause-held : goal.clear_mask_held-requires-clause-held
 clear_mask_held-requires-clause-held g c = let old = c.args.self.now in let mid = c.goes_on.new.self in
-    λ k d l. (all_still old mid (tags_in c.args.first c.args.mask) (on_same c.lent_outside-left.result old mid
-    (c.goes_on.ensures.on c.if-goes_on.true)) c.requires.held k d l).0
+    let same = on_same c.lent_outside-left.result old mid (c.goes_on.ensures.on c.if-goes_on.true) in
+    λ k d l. (all_still old mid (tags_in c.args.first c.args.mask) same c.requires.held k d l).0
 
 pub invariant_of-self-clause-own : goal.invariant_of-self-clause-own
 invariant_of-self-clause-own g c = let old = c.args.self.now in let mid = c.goes_on.new.self in
-    let e = c.clear_mask_held.ensures in own_after c.args.tags.now mid.first mid.kept mid.hand
-    c.clear_mask_held.new.hand c.goes_on.ensures.cache e.hand mid.own (λ other h i. (e.gives.less.kept other
-    (λ inside. not_listed mid (tags_in c.args.first c.args.mask) (all_still old mid (tags_in c.args.first c.args.mask) (on_same
-    c.lent_outside-left.result old mid (c.goes_on.ensures.on c.if-goes_on.true)) c.requires.held) other inside i)
-    h).0)
+    let list = tags_in c.args.first c.args.mask in let e = c.clear_mask_held.ensures in
+    let same = on_same c.lent_outside-left.result old mid (c.goes_on.ensures.on c.if-goes_on.true) in
+    own_after c.args.tags.now mid.first mid.kept mid.hand c.clear_mask_held.new.hand c.goes_on.ensures.cache e.hand
+    mid.own (λ other h i. (e.gives.less.kept other
+    (λ inside. not_listed mid list (all_still old mid list same c.requires.held) other inside i) h).0)
 
 pub invariant_of-self-clause-loans : goal.invariant_of-self-clause-loans
 invariant_of-self-clause-loans g c = let mid = c.goes_on.new.self in let e = c.clear_mask_held.ensures in
@@ -31,44 +31,34 @@ invariant_of-self-clause-loans g c = let mid = c.goes_on.new.self in let e = c.c
     mid.loans (λ other h i. (e.gives.less.kept other
     (λ inside. ((c.lent_outside-left.ensures other).0 ((on.loans other).0 i)).1 inside) h).0)
 
-pub returns-then-goes_on-clause-way : goal.returns-then-goes_on-clause-way
-returns-then-goes_on-clause-way g c = let mid = c.goes_on.new.self in let e = c.clear_mask_held.ensures in
-    goes_alone c.args.tags.now (tags_in c.args.first c.args.mask) c.lent_outside-left.result c.args.self.now
-    c.lent_outside-left.type_inv c.lent_outside-left.ensures _ mid _ (c.goes_on.ensures.on c.if-goes_on.true)
-    (mask_gives c.args.tags.now c.args.first c.args.mask c.ranges.mask.fits _ mid.hand c.clear_mask_held.new.hand
-    e.gives e.back e.counts) (same_fields mid _ refl refl refl refl refl)
-
-pub returns-then-goes_on-clause-tells : goal.returns-then-goes_on-clause-tells
-returns-then-goes_on-clause-tells g c = c.clear_mask_held.ensures.tells (waiter_of c.args.self.now.hand)
-    (look_grants_none 0 (group_steps c.args.self.now.hand) _ (c.goes_on.ensures.on c.if-goes_on.true).looked.looks)
-
-pub returns-then-goes_on-clause-loans : goal.returns-then-goes_on-clause-loans
-returns-then-goes_on-clause-loans g c = lends_alone c.args.tags.now (tags_in c.args.first c.args.mask) c.lent_outside-left.result
-    c.args.self.now c.lent_outside-left.type_inv c.lent_outside-left.ensures c.goes_on.new.self
-    (c.goes_on.ensures.on c.if-goes_on.true)
+pub returns-then-goes_on : goal.returns-then-goes_on
+returns-then-goes_on g c = let old = c.args.self.now in let mid = c.goes_on.new.self in
+    let list = tags_in c.args.first c.args.mask in let left = c.lent_outside-left in let on = c.goes_on.ensures.on c.if-goes_on.true in
+    let e = c.clear_mask_held.ensures in record {
+      cache = e.hand;
+      way = goes_alone c.args.tags.now list left.result old left.type_inv left.ensures _ mid _ on
+          (mask_gives c.args.tags.now c.args.first c.args.mask c.ranges.mask.fits _ mid.hand c.clear_mask_held.new.hand
+          e.gives e.back e.counts) (same_fields mid _ refl refl refl refl refl);
+      tells = e.tells (waiter_of old.hand) (look_grants_none 0 (group_steps old.hand) _ on.looked.looks);
+      loans = lends_alone list old mid left.result left.ensures on;
+    }
 
 pub give_back_kept_and_mask-requires-clause-left : goal.give_back_kept_and_mask-requires-clause-left
-give_back_kept_and_mask-requires-clause-left g c = left_still c.args.tags.now (tags_in c.args.first c.args.mask)
-    c.lent_outside-left.result c.args.self.now c.lent_outside-left.type_inv c.lent_outside-left.ensures
-    c.goes_on.new.self (c.goes_on.ensures.ends c.if-goes_on.false).fields
+give_back_kept_and_mask-requires-clause-left g c = left_still (tags_in c.args.first c.args.mask) c.args.self.now c.goes_on.new.self
+    (c.goes_on.ensures.ends c.if-goes_on.false).fields c.lent_outside-left.result c.lent_outside-left.ensures
 
 pub give_back_kept_and_mask-requires-clause-held : goal.give_back_kept_and_mask-requires-clause-held
 give_back_kept_and_mask-requires-clause-held g c = let old = c.args.self.now in let mid = c.goes_on.new.self in
-    all_still old mid (tags_in c.args.first c.args.mask) (call_same c.lent_outside-left.result old mid
-    (c.goes_on.ensures.ends c.if-goes_on.false)) c.requires.held
+    let same = call_same c.lent_outside-left.result old mid (c.goes_on.ensures.ends c.if-goes_on.false) in
+    all_still old mid (tags_in c.args.first c.args.mask) same c.requires.held
 
-pub returns-clause-way : goal.returns-clause-way
-returns-clause-way g c = goes_after c.args.tags.now (tags_in c.args.first c.args.mask) c.lent_outside-left.result c.args.self.now
-    c.lent_outside-left.type_inv c.lent_outside-left.ensures _ c.goes_on.new.self
-    c.give_back_kept_and_mask.new.self (c.goes_on.ensures.ends c.if-goes_on.false) c.give_back_kept_and_mask.ensures.gives
-
-pub returns-clause-tells : goal.returns-clause-tells
-returns-clause-tells g c = let call = c.goes_on.ensures.ends c.if-goes_on.false in
-    c.give_back_kept_and_mask.ensures.tells c.args.self.now.hand
-    (look_grants_none call.found (group_steps c.args.self.now.hand) _ call.looked.looks)
-
-pub returns-clause-loans : goal.returns-clause-loans
-returns-clause-loans g c = lends_after c.args.tags.now (tags_in c.args.first c.args.mask) c.lent_outside-left.result c.args.self.now
-    c.lent_outside-left.type_inv c.lent_outside-left.ensures c.goes_on.new.self
-    c.give_back_kept_and_mask.new.self (c.goes_on.ensures.ends c.if-goes_on.false).fields
-    c.give_back_kept_and_mask.ensures.loans
+pub returns : goal.returns
+returns g c = let old = c.args.self.now in let mid = c.goes_on.new.self in
+    let list = tags_in c.args.first c.args.mask in
+    let new = c.give_back_kept_and_mask.new.self in let left = c.lent_outside-left in
+    let call = c.goes_on.ensures.ends c.if-goes_on.false in let e = c.give_back_kept_and_mask.ensures in record {
+      cache = e.cache;
+      way = goes_after c.args.tags.now list left.result old left.type_inv left.ensures _ mid new call e.gives;
+      tells = e.tells old.hand (look_grants_none call.found (group_steps old.hand) _ call.looked.looks);
+      loans = lends_after list old mid call.fields new e.loans;
+    }

@@ -23,7 +23,8 @@ returns-then-leaves_none-clause-ends g c = λ no. record {
 
 pub returns-clause-on : goal.returns-clause-on
 returns-clause-on g c = let zero : c.active.result ≡ 0 = omega arith in λ yes. record {
-  more = not_true c.leaves_none.result (LeavesNone c.args.left c.args.self.now) c.leaves_none.ensures c.if-leaves_none.false;
+  more = not_true c.leaves_none.result (LeavesNone c.args.left c.args.self.now) c.leaves_none.ensures
+      c.if-leaves_none.false;
   looked = found_none c.args.tags.now c.active.result c.args.self.now.hand c.active.new.hand zero
       (record { looks = c.active.ensures.looks; counts = c.active.ensures.counts; stays = c.active.ensures.same });
   kept = same_fields c.args.self.now _ refl refl refl refl refl;

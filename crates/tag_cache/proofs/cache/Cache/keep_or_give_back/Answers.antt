@@ -30,7 +30,8 @@ returns-then-active-ne0-clause-way g c = inr (inr (inr (inl (record {
       (record { first = refl; kept = refl; lent = refl; most = refl; keeping = refl; reused = refl })
       c.active.result c.give_back_all.result.woken c.give_back_all.new.self
       (record { looks = c.active.ensures.looks; counts = c.active.ensures.counts; stays = c.active.ensures.same })
-      c.give_back_all.ensures.gives c.give_back_all.ensures.none c.give_back_all.ensures.terms c.give_back_all.ensures.reused;
+      c.give_back_all.ensures.gives c.give_back_all.ensures.none c.give_back_all.ensures.terms
+      c.give_back_all.ensures.reused;
 }))))
 
 pub returns-then-active-ne0-clause-grants : goal.returns-then-active-ne0-clause-grants
@@ -56,7 +57,8 @@ returns-then-is_last-clause-grants g c = after_look c.give_back_all-then-is_last
 
 pub returns-then-keep-clause-way : goal.returns-then-keep-clause-way
 returns-then-keep-clause-way g c = let zero : c.active.result ≡ 0 = omega arith in inl (kept_unseen c.args.tags.now
-    c.args.tag c.args.self.now _ (record { first = refl; kept = refl; lent = refl; most = refl; keeping = refl; reused = refl })
+    c.args.tag c.args.self.now _
+    (record { first = refl; kept = refl; lent = refl; most = refl; keeping = refl; reused = refl })
     0 c.keep.new.self refl (found_none c.args.tags.now c.active.result c.args.self.now.hand c.active.new.hand zero
     (record { looks = c.active.ensures.looks; counts = c.active.ensures.counts; stays = c.active.ensures.same }))
     c.if-keep.ensures.1 c.if-keep.ensures.2 c.if-keep.ensures.0)

@@ -27,20 +27,22 @@ returns-then-active-ne0-clause-way g c = inr (inr (inr (inl (record {
       (record { first = refl; kept = refl; lent = refl; most = refl; keeping = refl; reused = refl })
       c.active.result _ c.give_back_all_and_tell.new.self
       (record { looks = c.active.ensures.looks; counts = c.active.ensures.counts; stays = c.active.ensures.same })
-      c.give_back_all_and_tell.ensures.gives c.give_back_all_and_tell.ensures.none c.give_back_all_and_tell.ensures.terms
-      c.give_back_all_and_tell.ensures.reused;
+      c.give_back_all_and_tell.ensures.gives c.give_back_all_and_tell.ensures.none
+      c.give_back_all_and_tell.ensures.terms c.give_back_all_and_tell.ensures.reused;
 }))))
 
 pub returns-clause-way : goal.returns-clause-way
 returns-clause-way g c = let zero : c.active.result ≡ 0 = omega arith in inl (kept_at_once c.args.tags.now
-    c.args.tag c.args.self.now _ (record { first = refl; kept = refl; lent = refl; most = refl; keeping = refl; reused = refl })
-    _ c.keep_at.new.self c.nobody.ensures.woken (found_none c.args.tags.now c.active.result c.args.self.now.hand c.active.new.hand zero
+    c.args.tag c.args.self.now _
+    (record { first = refl; kept = refl; lent = refl; most = refl; keeping = refl; reused = refl })
+    _ c.keep_at.new.self c.nobody.ensures.woken
+    (found_none c.args.tags.now c.active.result c.args.self.now.hand c.active.new.hand zero
     (record { looks = c.active.ensures.looks; counts = c.active.ensures.counts; stays = c.active.ensures.same }))
     c.requires.place c.keep_at.ensures)
 
 pub give_back_all_and_tell-requires-clause-held : goal.give_back_all_and_tell-requires-clause-held
-give_back_all_and_tell-requires-clause-held g c = let held = lent_held c.args.self.now c.args.tag c.requires.place.lent in
-    ((c.active.ensures.same.same.kept c.args.tag held.0).0, held.1)
+give_back_all_and_tell-requires-clause-held g c =
+    let held = lent_held c.args.self.now c.args.tag c.requires.place.lent in ((c.active.ensures.same.same.kept c.args.tag held.0).0, held.1)
 
 pub returns-then-active-ne0-clause-tells : goal.returns-then-active-ne0-clause-tells
 returns-then-active-ne0-clause-tells g c = c.give_back_all_and_tell.ensures.tells c.args.self.now.hand
@@ -56,8 +58,8 @@ keep_at-requires-clause-offset g c = c.offset-offset.ensures.offset
     (c.offset-offset.ensures.within.1 (lent_within c.args.self.now c.args.tag c.requires.place.lent))
 
 pub give_back_all_and_tell-requires-clause-ordinary : goal.give_back_all_and_tell-requires-clause-ordinary
-give_back_all_and_tell-requires-clause-ordinary g c = subst (λ (s : ℕ). s ≤ c.args.tag) (sym c.active.ensures.same.set.split)
-    (lent_ordinary c.args.self.now c.args.tag c.requires.place.lent)
+give_back_all_and_tell-requires-clause-ordinary g c = subst (λ (s : ℕ). s ≤ c.args.tag)
+    (sym c.active.ensures.same.set.split) (lent_ordinary c.args.self.now c.args.tag c.requires.place.lent)
 
 pub keep_at-requires-clause-place : goal.keep_at-requires-clause-place
 keep_at-requires-clause-place g c = let p = c.requires.place in record {

@@ -11,20 +11,21 @@ use Rattle.tag_cache.proofs.Moving.{goes_from}
 use Rattle.tag_cache.proofs.cache.Cache.keep_or_give_back_other.Goals as goal
 
 pub returns-clause-way : goal.returns-clause-way
-returns-clause-way g c = goes_from c.args.tags.now c.args.tag c.keep_or_give_back.result.woken c.args.self.now c.follow.new.self
-    c.keep_or_give_back.new.self c.follow.ensures.same c.follow.ensures.moved (λ careful. c.follow.ensures.still (inr careful)) c.keep_or_give_back.ensures.way
+returns-clause-way g c = goes_from c.args.tags.now c.args.tag c.keep_or_give_back.result.woken c.args.self.now
+    c.follow.new.self c.keep_or_give_back.new.self c.follow.ensures.same c.follow.ensures.moved
+    (λ careful. c.follow.ensures.still (inr careful)) c.keep_or_give_back.ensures.way
 
 pub returns-clause-grants : goal.returns-clause-grants
-returns-clause-grants g c = before_same c.keep_or_give_back.result c.args.self.now.hand c.follow.new.self.hand c.keep_or_give_back.new.self.hand
-    c.follow.ensures.same.hand c.keep_or_give_back.ensures.grants
+returns-clause-grants g c = before_same c.keep_or_give_back.result c.args.self.now.hand c.follow.new.self.hand
+    c.keep_or_give_back.new.self.hand c.follow.ensures.same.hand c.keep_or_give_back.ensures.grants
 
 pub keep_or_give_back-requires-clause-cache : goal.keep_or_give_back-requires-clause-cache
 keep_or_give_back-requires-clause-cache g c = subst (λ (h : Hand g.row.R.Denot). hands.IsHandOf c.args.tags.now h)
     (sym c.follow.ensures.same.hand) c.requires.cache
 
 pub keep_or_give_back-requires-clause-held : goal.keep_or_give_back-requires-clause-held
-keep_or_give_back-requires-clause-held g c = held_still c.args.self.now c.follow.new.self c.args.tag c.follow.ensures.same
-    c.requires.held
+keep_or_give_back-requires-clause-held g c = held_still c.args.self.now c.follow.new.self c.args.tag
+    c.follow.ensures.same c.requires.held
 
 pub keep_or_give_back-requires-clause-ordinary : goal.keep_or_give_back-requires-clause-ordinary
 keep_or_give_back-requires-clause-ordinary g c = subst (λ (h : Hand g.row.R.Denot). hands.split_of h ≤ c.args.tag)

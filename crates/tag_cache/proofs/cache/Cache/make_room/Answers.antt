@@ -17,8 +17,9 @@ returns-then-not-can_keep-clause-way g c = inr (
 )
 
 pub keep_first-requires-clause-held : goal.keep_first-requires-clause-held
-keep_first-requires-clause-held g c = let e = c.give_back_kept-grants.ensures in ((flushed c.args.tags.now c.args.self.now
-    c.give_back_kept-grants.new.self c.give_back_kept-grants.result.woken e.gives e.none).kept c.args.tag c.requires.held).0
+keep_first-requires-clause-held g c = let e = c.give_back_kept-grants.ensures in
+    ((flushed c.args.tags.now c.args.self.now c.give_back_kept-grants.new.self c.give_back_kept-grants.result.woken
+    e.gives e.none).kept c.args.tag c.requires.held).0
 
 pub keep_first-requires-clause-ordinary : goal.keep_first-requires-clause-ordinary
 keep_first-requires-clause-ordinary g c = subst (λ (s : ℕ). s ≤ c.args.tag)
@@ -44,7 +45,8 @@ returns-clause-way g c = let e = c.give_back_kept-grants.ensures in let old = c.
 
 pub returns-clause-grants : goal.returns-clause-grants
 returns-clause-grants g c = subst (λ (h : Hand g.row.R.Denot). AreGrantsOf c.give_back_kept-grants.result
-    (group_steps c.args.self.now.hand) (group_steps h)) (sym c.keep_first.ensures.hand) c.give_back_kept-grants.ensures.grants
+    (group_steps c.args.self.now.hand) (group_steps h)) (sym c.keep_first.ensures.hand)
+    c.give_back_kept-grants.ensures.grants
 
 pub returns-then-not-can_keep-clause-loans : goal.returns-then-not-can_keep-clause-loans
 returns-then-not-can_keep-clause-loans g c = λ leaves. c.give_back_alone.ensures.loans
