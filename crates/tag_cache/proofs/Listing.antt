@@ -1,5 +1,5 @@
 -- What becomes of a list of tags that is cleared, and what that is for the user and for the tallies.
-use Rattle.std.proofs.Common.{arith, ◌≡◌, ◌↔◌, ℕ, ◌+◌, ◌^◌, ◌<◌, ◌≤◌, List, length, All, Result, Err, inl, inr, sym, ◌∙◌, subst, ⊎_elim}
+use Rattle.std.proofs.Common.{arith, ◌≡◌, ◌↔◌, ℕ, ◌^◌, ◌<◌, ◌≤◌, List, length, All, Result, Err, inl, inr, sym, ◌∙◌, subst, ⊎_elim}
 use Rattle.std.specs.Prelude.{Contains, IsOk}
 use Rattle.std.proofs.lemmas.Bool.{false≢true}
 use Rattle.tag_sets.specs.declared.fault.TagFault.{TagFault}
@@ -15,7 +15,7 @@ use Rattle.tag_cache.specs.Clears.{GivesList}
 use Rattle.tag_cache.specs.Holding.{HoldsLess, HoldsSame}
 use Rattle.tag_cache.specs.Tallies.{Tallies}
 use Rattle.tag_cache.proofs.Carrying.{less, same, same_fields, keeps_twice}
-use Rattle.tag_cache.proofs.Giving.{kept_less, kept_moves, list_moves}
+use Rattle.tag_cache.proofs.Giving.{kept_moves, list_moves}
 use Rattle.tag_cache.proofs.Going.{looks_less, both_less}
 use Rattle.tag_cache.proofs.Looking.{kept_same, same_loans}
 use Rattle.tag_cache.proofs.Reusing.{no_count}

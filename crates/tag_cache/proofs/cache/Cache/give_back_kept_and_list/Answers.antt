@@ -1,5 +1,5 @@
 -- The kept tags go first, and then the list; telling makes no step.
-use Rattle.std.proofs.Common.{ℕ, ◌∙◌, refl}
+use Rattle.std.proofs.Common.{◌∙◌, refl}
 use Rattle.tag_queue.proofs.Granted.{granted_since}
 use Rattle.tag_sets.specs.Hands.{group_steps}
 use Rattle.tag_cache.proofs.Carrying.{own_after, same_fields}
