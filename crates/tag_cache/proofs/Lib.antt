@@ -19,6 +19,6 @@ pub mod Gaining
 pub mod Listing
 pub mod Passing
 pub mod Getting
-pub mod Ringing
-pub mod Rung
+pub mod Telling
+pub mod Told
 pub mod Joining

@@ -1,5 +1,5 @@
 -- What becomes of a list of tags that is cleared, and what that is for the user and for the tallies.
-use Rattle.std.proofs.Common.{arith, ◌≡◌, ◌↔◌, ℕ, ◌+◌, ◌^◌, ◌<◌, ◌≤◌, List, length, All, Result, Err, inl, inr, ◌∙◌, subst, ⊎_elim}
+use Rattle.std.proofs.Common.{arith, ◌≡◌, ◌↔◌, ℕ, ◌^◌, ◌<◌, ◌≤◌, List, length, All, Result, Err, inl, inr, sym, ◌∙◌, subst, ⊎_elim}
 use Rattle.std.specs.Prelude.{Contains, IsOk}
 use Rattle.std.proofs.lemmas.Bool.{false≢true}
 use Rattle.tag_sets.specs.declared.fault.TagFault.{TagFault}
@@ -8,15 +8,16 @@ use Rattle.tag_sets.specs.declared.tags.Tags.{Tags}
 use Rattle.tag_sets.specs.Batches as hand_batches
 use Rattle.tag_cache.specs.declared.cache.Cache.{Cache}
 use Rattle.tag_cache.specs.Windows.{IsIn}
-use Rattle.tag_cache.specs.Batches.{AreHeldOnce, AreLast, LeavesNone, GoesOn, GoesEmpty, GoesBefore, ListGoesAlone, ListGoesWithKept, ListGoes}
+use Rattle.tag_cache.specs.Batches.{AreHeldOnce, AreLast, LeavesNone, GoesOn, CallsForKept, GivesKeptAndList, ListGoesAlone, ListGoesWithKept, ListGoes}
 use Rattle.tag_cache.specs.Caches.{IsKept, IsLent, Holds}
-use Rattle.tag_cache.specs.Changes.{KeepsSame}
+use Rattle.tag_cache.specs.Changes.{KeepsSame, LendsNoneOf, SameFields}
 use Rattle.tag_cache.specs.Clears.{GivesList}
 use Rattle.tag_cache.specs.Holding.{HoldsLess, HoldsSame}
 use Rattle.tag_cache.specs.Tallies.{Tallies}
-use Rattle.tag_cache.proofs.Carrying.{less, same, keeps_twice, none_after, terms_twice}
-use Rattle.tag_cache.proofs.Giving.{kept_less, kept_moves, list_moves}
+use Rattle.tag_cache.proofs.Carrying.{less, same, same_fields, keeps_twice}
+use Rattle.tag_cache.proofs.Giving.{kept_moves, list_moves}
 use Rattle.tag_cache.proofs.Going.{looks_less, both_less}
+use Rattle.tag_cache.proofs.Looking.{kept_same, same_loans}
 use Rattle.tag_cache.proofs.Reusing.{no_count}
 use Rattle.tag_cache.proofs.Tallying.{stays_moves}
 use Rattle.tag_cache.proofs.Windows.{none_in, emptied}
@@ -51,29 +52,16 @@ module _ {R : Type 0} where
       → All (λ tag. ¬ (IsKept cache tag)) list
   none_is_kept cache list h = λ k d l. (h.0 k d l).1
 
-  pub not_in_list : (cache : Cache R) (list : List ℕ) → AreHeldOnce cache list → (tag : ℕ) → Contains list tag
-      → ¬ (IsKept cache tag)
-  not_in_list cache list h tag i = subst (λ (t : ℕ). ¬ (IsKept cache t)) i.2 (h.0 i.0 tag i.1).1
+  -- the user still holds the tags after the look, whether the kept ones may stay or not
+  pub on_same : (left : ℕ) (old mid : Cache R) → GoesOn left old mid → HoldsSame old mid
+  on_same left old mid o = same old mid o.kept o.looked.stays.same
 
-  -- the user still holds the tags after the kept ones went back, or did not
-  pub before_same : (tags : Tags R) (left woken : ℕ) (old new : Cache R) → GoesBefore tags left woken old new
-      → HoldsSame old new
-  before_same tags left woken old new g = ⊎_elim
-      (λ (o : GoesOn left woken old new). same old new o.kept o.looked.stays.same)
-      (λ (e : GoesEmpty tags left woken old new).
-      let given = kept_less tags woken old e.between new.hand e.gives in let s = e.looked.stays.same in record {
-        kept = λ tag h. let x = s.kept tag h.0 in let y = given.kept tag h.1 x.0 in ((y.0, e.none tag), y.1 ∙ x.1);
-        none_else = λ tag h. (s.none_else tag (given.none_else tag h.0), λ k. given.gone tag k h.0);
-      }) g
+  pub call_same : (left : ℕ) (old mid : Cache R) → CallsForKept left old mid → HoldsSame old mid
+  call_same left old mid k = let f = k.fields in
+      same old mid (same_fields old mid f.first f.kept f.most f.keeping f.reused) k.looked.stays.same
 
-  pub held_before : (tags : Tags R) (left woken : ℕ) (old mid : Cache R) (list : List ℕ)
-      → GoesBefore tags left woken old mid → AreHeldOnce old list → AreHeldOnce mid list
-  held_before tags left woken old mid list g h =
-      ((λ k d l. ((before_same tags left woken old mid g).kept _ (h.0 k d l)).0), h.1)
-
-  pub all_before : (tags : Tags R) (left woken : ℕ) (old mid : Cache R) (list : List ℕ)
-      → GoesBefore tags left woken old mid → All (Holds old) list → All (Holds mid) list
-  all_before tags left woken old mid list g h = λ k d l. ((before_same tags left woken old mid g).kept _ (h k d l)).0
+  pub all_still : (old mid : Cache R) (list : List ℕ) → HoldsSame old mid → All (Holds old) list → All (Holds mid) list
+  all_still old mid list s h = λ k d l. (s.kept _ (h k d l)).0
 
   pub not_listed : (cache : Cache R) (list : List ℕ) → All (Holds cache) list → (tag : ℕ) → Contains list tag
       → ¬ (IsKept cache tag)
@@ -88,34 +76,61 @@ module _ {R : Type 0} (tags : Tags R) (list : List ℕ) (left : ℕ) (old : Cach
   one_last : AreLast list old → LeavesNone left old
   one_last l = (l.0, emptied old.first left fits (λ other i. let a = (is other).0 i in l.1 other a.1 a.0))
 
-  -- after what went before, the list goes
-  pub list_goes : (sooner later woken : ℕ) (mid new : Cache R) → GoesBefore tags left sooner old mid
-      → GivesList tags list later mid.hand new.hand → KeepsSame mid new → woken ≡ sooner + later
-      → ListGoes tags list woken old new
-  list_goes sooner later woken mid new g gives k sum = ⊎_elim
-      (λ (o : GoesOn left sooner old mid). let nobody = o.nobody in let same : later ≡ woken = omega arith in
-      inl (record {
-        more = λ last. o.more (one_last last);
-        between = mid.hand;
-        looked = o.looked;
-        gives = subst (λ (n : ℕ). GivesList tags list n mid.hand new.hand) same gives;
-        kept = keeps_twice old mid new o.kept k;
-      }))
-      (λ (e : GoesEmpty tags left sooner old mid). inr (record {
-        found = e.found;
-        between = e.between;
-        looked = e.looked;
-        why = ⊎_elim (λ (some : 1 ≤ e.found). inl some) (λ (l : LeavesNone left old). inr (last_one l)) e.why;
-        flushed = mid.hand;
-        sooner = sooner;
-        kept = e.gives;
-        later = later;
-        gives = gives;
-        woken_is = sum;
-        none = none_after mid new e.none k;
-        terms = terms_twice e.terms k.terms;
-        reused = k.reused ∙ e.reused;
-      })) g
+  -- where the kept tags may stay, the list goes alone
+  pub goes_alone : (woken : ℕ) (mid new : Cache R) → GoesOn left old mid → GivesList tags list woken mid.hand new.hand
+      → KeepsSame mid new → ListGoes tags list woken old new
+  goes_alone woken mid new o gives k = inl (record {
+    more = λ last. o.more (one_last last);
+    between = mid.hand;
+    looked = o.looked;
+    gives = gives;
+    kept = keeps_twice old mid new o.kept k;
+  })
+
+  -- where they have to go, it goes after them
+  pub goes_after : (woken : ℕ) (mid new : Cache R) → CallsForKept left old mid
+      → GivesKeptAndList tags list woken mid new → ListGoes tags list woken old new
+  goes_after woken mid new c g = let f = c.fields in inr (record {
+    found = c.found;
+    between = mid.hand;
+    looked = c.looked;
+    why = ⊎_elim (λ (some : 1 ≤ c.found). inl some) (λ (l : LeavesNone left old). inr (last_one l)) c.why;
+    flushed = g.between;
+    sooner = g.sooner;
+    kept = kept_same tags 0 old mid f g.sooner mid.hand g.between g.kept;
+    later = g.later;
+    gives = g.gives;
+    woken_is = g.woken_is;
+    none = g.none;
+    terms = record { most = g.terms.most ∙ f.most; keeping = g.terms.keeping ∙ f.keeping };
+    reused = g.reused ∙ f.reused;
+  })
+
+module _ {R : Type 0} (list : List ℕ) (old mid : Cache R) where
+  -- what the user is known to hold after the list went alone
+  pub lends_alone : (left : ℕ) → ((other : ℕ) → IsIn old.first left other ↔ (IsLent old other × ¬ (Contains list other)))
+      → GoesOn left old mid → LendsNoneOf list old mid
+  lends_alone left is o other = (
+    (λ l. (is other).0 ((o.loans other).0 l)),
+    (λ l. (o.loans other).1 ((is other).1 l)),
+  )
+
+  module _ (f : SameFields old mid) where
+    -- the mask is of the same tags after a look that changed the hand alone
+    pub left_still : (left : ℕ)
+        → ((other : ℕ) → IsIn old.first left other ↔ (IsLent old other × ¬ (Contains list other)))
+        → (other : ℕ) → IsIn mid.first left other ↔ (IsLent mid other × ¬ (Contains list other))
+    left_still left is other = let s = same_loans old mid f.first f.lent other in (
+      (λ i. let x = (is other).0 (subst (λ (n : ℕ). IsIn n left other) f.first i) in (s.1 x.0, x.1)),
+      (λ x. subst (λ (n : ℕ). IsIn n left other) (sym f.first) ((is other).1 (s.0 x.0, x.1))),
+    )
+
+    -- what the user is known to hold after the list went with the kept tags
+    pub lends_after : (new : Cache R) → LendsNoneOf list mid new → LendsNoneOf list old new
+    lends_after new n other = let s = same_loans old mid f.first f.lent other in (
+      (λ l. let x = (n other).0 l in (s.0 x.0, x.1)),
+      (λ x. (n other).1 (s.1 x.0, x.1)),
+    )
 
 module _ {R : Type 0} (tags : Tags R) where
   pub list_less : (list : List ℕ) (woken : ℕ) (old new : Cache R) → ListGoes tags list woken old new

@@ -1,23 +1,15 @@
 -- What becomes of a tag after a look at the active count, which changes the hand alone.
-use Rattle.std.proofs.Common.{arith, ◌≡◌, ◌⊎◌, ◌↔◌, ℕ, ◌≤◌, List, inl, inr, refl, sym, ap, ◌∙◌, subst, ⊎_elim}
+use Rattle.std.proofs.Common.{arith, ◌≡◌, ◌⊎◌, ◌↔◌, ℕ, ◌≤◌, List, inl, inr, sym, ap, ◌∙◌, subst, ⊎_elim}
 use Rattle.tag_queue.specs.Masks.{tags_in}
 use Rattle.tag_sets.specs.declared.hand.Hand.{Hand}
 use Rattle.tag_sets.specs.declared.tags.Tags.{Tags}
 use Rattle.tag_cache.specs.declared.cache.Cache.{Cache}
 use Rattle.tag_cache.specs.Windows.{IsIn}
 use Rattle.tag_cache.specs.Caches.{IsLent, KeepsNone, HasNoPlace, HasPlace, CanBeKept, kept_tags, count_of, reused_of}
-use Rattle.tag_cache.specs.Changes.{KeepsSame, Keeps, SameTerms, SameWindow, LendsLess}
+use Rattle.tag_cache.specs.Changes.{KeepsSame, Keeps, SameFields, SameTerms, SameWindow, LendsLess}
 use Rattle.tag_cache.specs.Clears.{LooksOnce, GivesList, GivesKept, GivesWith, KeptUnseen, KeptInstead, GoesAlone, GoesWithKept, MakesRoom}
 use Rattle.tag_cache.proofs.Carrying.{same_fields, keeps_twice}
 use Rattle.tag_cache.proofs.Moving.{also_from, can_also, only_from}
-
--- the fields that say what is kept, and what may be, are as before
-pub record SameFields {R : Type 0} (old mid : Cache R) : Type 0 where
-  pub first : mid.first ≡ old.first
-  pub kept : mid.kept ≡ old.kept
-  pub most : mid.most ≡ old.most
-  pub keeping : mid.keeping ≡ old.keeping
-  pub reused : mid.reused ≡ old.reused
 
 module _ {R : Type 0} (tags : Tags R) (tag : ℕ) (old mid : Cache R) (s : SameFields old mid) where
   same : KeepsSame old mid
@@ -70,19 +62,19 @@ module _ {R : Type 0} (tags : Tags R) (tag : ℕ) (old mid : Cache R) (s : SameF
     reused = reused ∙ s.reused;
   }
 
-  pub kept_unseen : (new : Cache R) → LooksOnce 0 old.hand mid.hand → ¬ (HasNoPlace tag old) → CanBeKept tag mid
-      → Keeps tag mid new → KeptUnseen tag 0 old new
-  kept_unseen new looked place can k = record {
+  pub kept_unseen : (woken : ℕ) (new : Cache R) → woken ≡ 0 → LooksOnce 0 old.hand mid.hand → ¬ (HasNoPlace tag old)
+      → CanBeKept tag mid → Keeps tag mid new → KeptUnseen tag woken old new
+  kept_unseen woken new nobody looked place can k = record {
     looked = subst (λ (h : Hand R). LooksOnce 0 old.hand h) (sym k.hand) looked;
     place = place;
     can = can_from can;
     also = also_from tag old mid new same k.also;
-    none = refl;
+    none = nobody;
   }
 
-  pub kept_at_once : (new : Cache R) → LooksOnce 0 old.hand mid.hand → HasPlace tag old → Keeps tag mid new
-      → KeptUnseen tag 0 old new
-  kept_at_once new looked p k = kept_unseen new looked p.place (can_to p.can) k
+  pub kept_at_once : (woken : ℕ) (new : Cache R) → woken ≡ 0 → LooksOnce 0 old.hand mid.hand → HasPlace tag old
+      → Keeps tag mid new → KeptUnseen tag woken old new
+  kept_at_once woken new nobody looked p k = kept_unseen woken new nobody looked p.place (can_to p.can) k
 
   -- there was no place for the tag, or it may not be kept
   pub room_goes : (woken : ℕ) (before new : Cache R) → LooksOnce 0 old.hand mid.hand → before ≡ mid

@@ -1,8 +1,11 @@
 -- A tag that is posted leaves the hand's steps on the wait groups as they are, and what it won and gave back.
-use Rattle.std.proofs.Common.{◌≡◌, ℕ, Result, Ok, Err, OnOk, OnErr, refl, ap, subst}
+use Rattle.std.proofs.Common.{◌≡◌, ℕ, Result, Ok, Err, OnOk, OnErr, refl, sym, ap, subst}
 use Rattle.tag_core.specs.declared.record.Record.{Record}
 use Rattle.wake_book.specs.declared.groups.Waiter.{Waiter}
+use Rattle.wake_book.specs.declared.grants.TheConstants.{NO_GRANTS}
+use Rattle.wake_book.specs.Grants.{AreGrantsOf}
 use Rattle.wake_book.specs.Groups.{steps_of}
+use Rattle.tag_queue.proofs.Granted.{none_granted}
 use Rattle.tag_queue.specs.declared.agent.Agent.{Agent}
 use Rattle.tag_queue.specs.Agents as queue
 use Rattle.tag_queue.specs.Slots as queue_slots
@@ -18,6 +21,7 @@ use Rattle.tag_cache.specs.declared.cache.Cache.{Cache}
 use Rattle.tag_cache.specs.Caches.{IsLast, IsLent, KeepsNone}
 use Rattle.tag_cache.specs.Changes.{Forgets, KeepsSame, SameTerms, SameWindow}
 use Rattle.tag_cache.specs.Holding.{HoldsSame}
+use Rattle.tag_cache.specs.Rings.{GrantsNone}
 use Rattle.tag_cache.specs.Slots.{Passes, PassesAlone, PostsLast}
 use Rattle.tag_cache.specs.Tallies.{Tallies}
 use Rattle.tag_cache.proofs.Carrying.{keeps_twice, less, none_after, same_then_less, same_user, terms_twice}
@@ -33,13 +37,15 @@ module _ {R : Type 0} where
   waiter_in Ordinary change a b same c = same a.ordinary b.ordinary c.changed
   waiter_in Reserved change a b same c = ap (λ (x : Agent R). queue.waiter_of x) c.other
 
-  -- a post makes no step on the groups, and rings nobody
+  -- a post makes no step on the groups, and wakes nobody
   pub posts_waiter : (tag : ℕ) (a b : Hand R) → Posts tag a b → waiter_of b ≡ waiter_of a
   posts_waiter tag a b p = waiter_in (kind_of (split_of a) tag) _ a b
       (λ c d (x : queue_slots.Posts _ c d). x.same_else.1.1) p.set
 
-  pub posts_steps : (tag : ℕ) (a b : Hand R) → Posts tag a b → group_steps b ≡ group_steps a
-  posts_steps tag a b p = ap (λ (w : Waiter). steps_of w) (posts_waiter tag a b p)
+  -- so it grants nobody a wakeup
+  pub grants_none : (a b : Hand R) → waiter_of b ≡ waiter_of a → GrantsNone a b
+  grants_none a b same = subst (λ (w : Waiter). AreGrantsOf NO_GRANTS (group_steps a) (steps_of w)) (sym same)
+      (none_granted (group_steps a))
 
   pub posts_moves : (tag : ℕ) (a b : Hand R) → Posts tag a b → Moves 0 0 a b
   posts_moves tag a b p = moves_in (kind_of (split_of a) tag) 0 0 _ a b (λ c d (x : queue_slots.Posts _ c d). record {

@@ -1,11 +1,12 @@
 -- Batches of tags over a cache.
-use Rattle.std.specs.Prelude.{◌≡◌, ◌≢◌, ◌⊎◌, ℕ, ◌+◌, ◌≤◌, List, All, AllPairs, Contains, Option, Some, None, count_ones}
+use Rattle.std.specs.Prelude.{◌≡◌, ◌≢◌, ◌⊎◌, ◌↔◌, ℕ, ◌+◌, ◌≤◌, List, All, AllPairs, Contains, Option, Some, None, count_ones}
 use Rattle.tag_sets.specs.declared.hand.Hand.{Hand}
 use Rattle.tag_sets.specs.declared.tags.Tags.{Tags}
 use Rattle.tag_cache.specs.declared.cache.Cache.{Cache}
 use Rattle.tag_cache.specs.declared.keeping.Keeping.TheVariants.{WhileHolding}
 use Rattle.tag_cache.specs.Caches.{IsLent, KeepsNone, Holds, keeping_of, reused_of}
-use Rattle.tag_cache.specs.Changes.{KeepsSame, SameTerms}
+use Rattle.tag_cache.specs.Changes.{KeepsSame, SameFields, SameTerms}
+use Rattle.tag_cache.specs.Windows.{IsIn}
 use Rattle.tag_cache.specs.Clears.{LooksOnce, GivesList, GivesKept}
 
 -- how many tags an answer has: bit 0 of the mask is the first tag
@@ -31,27 +32,31 @@ CallsForAll found list cache = (1 ≤ found) ⊎ AreLast list cache
 abbrev pub LeavesNone : {R : Type 0} → ℕ → Cache R → Type 0
 LeavesNone left cache = (keeping_of cache ≡ WhileHolding) × (left ≡ 0)
 
--- a look found nobody waiting, and the same tags are kept
-pub record GoesOn {R : Type 0} (left woken : ℕ) (old new : Cache R) : Type 0 where
+-- a look found nobody waiting, and the same tags are kept; the user is known to hold those of this mask of the window
+pub record GoesOn {R : Type 0} (left : ℕ) (old new : Cache R) : Type 0 where
   pub more : ¬ (LeavesNone left old)
   pub looked : LooksOnce 0 old.hand new.hand
   pub kept : KeepsSame old new
-  pub nobody : woken ≡ 0
+  pub loans : (other : ℕ) → IsLent new other ↔ IsIn old.first left other
 
--- a look called for all kept tags to go back, and they did
-pub record GoesEmpty {R : Type 0} (tags : Tags R) (left woken : ℕ) (old new : Cache R) : Type 0 where
+-- a look called for all kept tags to go back, and changed the hand alone
+pub record CallsForKept {R : Type 0} (left : ℕ) (old new : Cache R) : Type 0 where
   pub found : ℕ
-  pub between : Hand R
-  pub looked : LooksOnce found old.hand between
+  pub looked : LooksOnce found old.hand new.hand
   pub why : (1 ≤ found) ⊎ LeavesNone left old
-  pub gives : GivesKept tags woken old between new.hand
+  pub fields : SameFields old new
+
+-- all kept tags went back together and then the list, so that nothing is kept any more, and that many waiters were woken
+pub record GivesKeptAndList {R : Type 0} (tags : Tags R) (list : List ℕ) (woken : ℕ) (old new : Cache R) : Type 0 where
+  pub between : Hand R
+  pub sooner : ℕ
+  pub kept : GivesKept tags sooner old old.hand between
+  pub later : ℕ
+  pub gives : GivesList tags list later between new.hand
+  pub woken_is : woken ≡ sooner + later
   pub none : KeepsNone new
   pub terms : SameTerms old new
   pub reused : reused_of new ≡ reused_of old
-
--- what becomes of the kept tags before others go back, after which the user is known to hold those of the mask
-abbrev pub GoesBefore : {R : Type 0} → Tags R → ℕ → ℕ → Cache R → Cache R → Type 0
-GoesBefore tags left woken old new = GoesOn left woken old new ⊎ GoesEmpty tags left woken old new
 
 -- after a look that found nobody waiting the list went back, and the same tags are kept
 pub record ListGoesAlone {R : Type 0} (tags : Tags R) (list : List ℕ) (woken : ℕ) (old new : Cache R) : Type 0 where

@@ -20,6 +20,15 @@ pub record SameWindow {R : Type 0} (old new : Cache R) : Type 0 where
   pub place : (tag : ℕ) → IsWithin new tag ↔ IsWithin old tag
   pub loans : (tag : ℕ) → IsLent new tag ↔ IsLent old tag
 
+-- all fields but the hand are as they were
+pub record SameFields {R : Type 0} (old new : Cache R) : Type 0 where
+  pub first : new.first ≡ old.first
+  pub kept : new.kept ≡ old.kept
+  pub lent : new.lent ≡ old.lent
+  pub most : new.most ≡ old.most
+  pub keeping : new.keeping ≡ old.keeping
+  pub reused : new.reused ≡ old.reused
+
 -- the hand is as it was, and so is what is kept
 pub record SameHand {R : Type 0} (old new : Cache R) : Type 0 where
   pub hand : hand_of new ≡ hand_of old

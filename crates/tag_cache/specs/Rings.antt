@@ -1,17 +1,16 @@
--- Whom a cache rings.
+-- Grants that are passed on.
 use Rattle.std.specs.Prelude.{◌≡◌}
-use Rattle.wake_book.specs.Groups as waiters
+use Rattle.wake_book.specs.declared.grants.TheConstants.{NO_GRANTS}
+use Rattle.wake_book.specs.Grants.{AreGrantsOf}
 use Rattle.tag_queue.specs.Agents.{teller_of}
 use Rattle.tag_sets.specs.declared.hand.Hand.{Hand}
 use Rattle.tag_sets.specs.declared.kind.Kind.TheVariants.{Ordinary}
-use Rattle.tag_sets.specs.Hands.{agent_of, group_steps, waiter_of}
+use Rattle.tag_sets.specs.Hands.{agent_of, group_steps}
 use Rattle.tag_sets.specs.Waits.{Stays}
-use Rattle.tag_cache.specs.declared.cache.Cache.{Cache}
-use Rattle.tag_cache.specs.Caches.{hand_of}
 
--- whom the hand's steps granted a wakeup since, if anybody, its latest ring was for
-abbrev pub RingsGranted : {R : Type 0} → Cache R → Cache R → Type 0
-RingsGranted old new = waiters.RingsGranted (waiter_of (hand_of old)) (waiter_of (hand_of new))
+-- the hand granted nobody a wakeup in between
+abbrev pub GrantsNone : {R : Type 0} → Hand R → Hand R → Type 0
+GrantsNone old new = AreGrantsOf NO_GRANTS (group_steps old) (group_steps new)
 
 -- the hand made no step, but for what it rings for it is as before
 pub record MakesNoStep {R : Type 0} (old new : Hand R) : Type 0 where

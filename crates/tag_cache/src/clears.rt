@@ -1,178 +1,109 @@
 //! Clears of one tag.
 ghost use Rattle.std.specs.Prelude.{◌≡◌, ◌⊎◌, ◌<◌, ◌≤◌, ◌↔◌, IfOk, IsOk, OnOk, OnErr};
 ghost use Rattle.wake_book.specs.Grants.{AreGrantsOf};
-ghost use Rattle.tag_sets.specs.Hands.{total_of, group_steps};
+ghost use Rattle.tag_sets.specs.declared.hand.Hand.{Hand};
+ghost use Rattle.tag_sets.specs.Hands.{total_of, group_steps, waiter_of};
 ghost use Rattle.tag_cache.specs.Caches.{IsCacheOf, Holds, HasPlace, IsLast, IsLent, IsWithin, IsFixed, KeepsNone, LeavesWindow, hand_of, split_of, reused_of};
 ghost use Rattle.tag_cache.specs.Changes.{IsUnchanged, KeepsSame, SameTerms, SameWindow, LendsLess};
 ghost use Rattle.tag_cache.specs.Holding.{HoldsLess};
-ghost use Rattle.tag_cache.specs.Rings.{RingsGranted};
+ghost use Rattle.tag_cache.specs.Rings.{GrantsNone};
 ghost use Rattle.tag_cache.specs.Tallies.{Tallies};
 ghost use Rattle.tag_cache.specs.Clears.{Goes, GoesOrdinary, MakesRoom, GivesOne, GivesWith};
 
 use crate::cache::Cache;
 use crate::grants::both;
-use tag_sets::{Grants, Kind, Report, TagFault, Tags};
+use tag_sets::{Grants, Kind, Report, TagFault, Tags, Waking};
 use wake_book::NO_GRANTS;
 
 impl<R: Copy> Cache<R> {
-    /// Clears a tag that the user holds, and returns how many waiters this woke. While nobody waits, an ordinary tag is
-    /// kept, by no step but the load of the active count. If there is no place for it, all kept tags go back and it is
-    /// kept instead of them; if it may not be kept, it goes back alone. If somebody waits, all kept tags go back with
-    /// it. `NoSuchTag` means that the number is not below the total, `NotHeld` that the user does not hold the tag, as
-    /// where it is kept; nothing changes then.
+    /// Clears a tag that the user holds, and answers as `W` says whom this granted a wakeup. While nobody waits, an
+    /// ordinary tag is kept, by no step but the load of the active count. If there is no place for it, all kept tags go
+    /// back and it is kept instead of them; if it may not be kept, it goes back alone. If somebody waits, all kept tags
+    /// go back with it. `NoSuchTag` means that the number is not below the total, `NotHeld` that the user does not hold
+    /// the tag, as where it is kept; nothing changes then.
     #[inline(always)]
-    pub fn clear(&mut self, tags: &Tags<R>, tag: u32) -> Result<u32, TagFault>
+    pub fn clear<W: Waking>(&mut self, tags: &Tags<R>, tag: u32) -> Result<W::Answer, TagFault>
         requires { IsCacheOf tags.now self.old }
         ensures cache { IsCacheOf tags.now self.new }
         ensures no_such_tag { (result ≡ Err TagFault.NoSuchTag) ↔ (total_of tags.now ≤ tag) }
         ensures not_held { (result ≡ Err TagFault.NotHeld) ↔ ((tag < total_of tags.now) × ¬ (Holds self.old tag)) }
         ensures succeeds { Holds self.old tag → IsOk result }
         ensures less { OnOk result (HoldsLess (λ other. other ≡ tag) self.old self.new) }
-        ensures way { IfOk result (λ woken. Goes tags.now tag woken self.old self.new) }
-        ensures rings { OnOk result (RingsGranted self.old self.new) }
+        ensures way { IfOk result (λ answer. Goes tags.now tag (W.woken answer) self.old self.new) }
+        ensures tells { IfOk result (λ answer.
+            W.tells answer (waiter_of (hand_of self.old)) (waiter_of (hand_of self.new))) }
         ensures loans { LeavesWindow tag self.old → OnOk result (LendsLess tag self.old self.new) }
         ensures tally { OnOk result (Tallies 0 1 self.old self.new) }
         ensures err { OnErr result (IsUnchanged self.old self.new) }
     {
         if self.has_place(tag) {
-            return Ok(self.put_and_ring(tags, tag));
+            return Ok(self.keep_or_give_back_all::<W>(tags, tag));
         }
-        self.clear_and_ring(tags, tag)
+        self.clear_and_tell::<W>(tags, tag)
     }
 
     /// Keeps a tag that has a place, or gives all back if somebody waits. Grants stay out of line, so that a clear needs
     /// no memory where its tag is kept.
     #[inline(always)]
-    fn put_and_ring(&mut self, tags: &Tags<R>, tag: u32) -> u32
+    fn keep_or_give_back_all<W: Waking>(&mut self, tags: &Tags<R>, tag: u32) -> W::Answer
         requires cache { IsCacheOf tags.now self.old }
         requires place { HasPlace tag self.old }
         ensures cache { IsCacheOf tags.now self.new }
-        ensures way { GoesOrdinary tags.now tag result self.old self.new }
-        ensures rings { RingsGranted self.old self.new }
+        ensures way { GoesOrdinary tags.now tag (W.woken result) self.old self.new }
+        ensures tells { W.tells result (waiter_of (hand_of self.old)) (waiter_of (hand_of self.new)) }
         ensures loans { LendsLess tag self.old self.new }
     {
         let offset = self.offset(tag);
         if tags.active(&mut self.hand) != 0 {
-            return self.give_all_and_ring(tags, tag);
+            return self.give_back_all_and_tell::<W>(tags, tag);
         }
         self.keep_at(tag, offset);
-        0
+        W::nobody()
     }
 
-    /// Gives all kept tags back and then a tag that the user holds, and wakes whom this granted a wakeup.
+    /// Gives all kept tags back and then a tag that the user holds, and tells whom this granted a wakeup.
     #[inline(never)]
-    fn give_all_and_ring(&mut self, tags: &Tags<R>, tag: u32) -> u32
+    fn give_back_all_and_tell<W: Waking>(&mut self, tags: &Tags<R>, tag: u32) -> W::Answer
         requires cache { IsCacheOf tags.now self.old }
         requires held { Holds self.old tag }
         requires ordinary { split_of self.old ≤ tag }
         ensures cache { IsCacheOf tags.now self.new }
-        ensures gives { GivesWith tags.now tag result self.old (hand_of self.old) (hand_of self.new) }
-        ensures rings { RingsGranted self.old self.new }
+        ensures gives { GivesWith tags.now tag (W.woken result) self.old
+            (hand_of self.old) (hand_of self.new) }
+        ensures tells { (before : Hand R) → GrantsNone before (hand_of self.old)
+            → W.tells result (waiter_of before) (waiter_of (hand_of self.new)) }
         ensures loans { LendsLess tag self.old self.new }
         ensures none { KeepsNone self.new }
         ensures terms { SameTerms self.old self.new }
         ensures reused { reused_of self.new ≡ reused_of self.old }
     {
-        let grants = self.give_all(tags, tag);
-        self.ring(tags, grants)
+        let grants = self.give_back_all(tags, tag);
+        self.tell::<W>(tags, grants)
     }
 
-    /// Clears a tag as `clear_granted` does, and wakes whom this granted a wakeup. It is out of line, so that a clear is
-    /// short where its tag is kept.
+    /// Clears a tag as `clear_and_report` does, and tells whom this granted a wakeup. It is out of line, so that a clear
+    /// is short where its tag is kept.
     #[inline(never)]
-    fn clear_and_ring(&mut self, tags: &Tags<R>, tag: u32) -> Result<u32, TagFault>
+    fn clear_and_tell<W: Waking>(&mut self, tags: &Tags<R>, tag: u32) -> Result<W::Answer, TagFault>
         requires { IsCacheOf tags.now self.old }
         ensures cache { IsCacheOf tags.now self.new }
         ensures no_such_tag { (result ≡ Err TagFault.NoSuchTag) ↔ (total_of tags.now ≤ tag) }
         ensures not_held { (result ≡ Err TagFault.NotHeld) ↔ ((tag < total_of tags.now) × ¬ (Holds self.old tag)) }
         ensures succeeds { Holds self.old tag → IsOk result }
         ensures less { OnOk result (HoldsLess (λ other. other ≡ tag) self.old self.new) }
-        ensures way { IfOk result (λ woken. Goes tags.now tag woken self.old self.new) }
-        ensures rings { OnOk result (RingsGranted self.old self.new) }
+        ensures way { IfOk result (λ answer. Goes tags.now tag (W.woken answer) self.old self.new) }
+        ensures tells { IfOk result (λ answer.
+            W.tells answer (waiter_of (hand_of self.old)) (waiter_of (hand_of self.new))) }
         ensures loans { LeavesWindow tag self.old → OnOk result (LendsLess tag self.old self.new) }
         ensures tally { OnOk result (Tallies 0 1 self.old self.new) }
         ensures err { OnErr result (IsUnchanged self.old self.new) }
     {
-        let grants = self.clear_granted(tags, tag)?;
-        Ok(self.ring(tags, grants))
+        let grants = self.clear_and_report(tags, tag)?;
+        Ok(self.tell::<W>(tags, grants))
     }
 
-    /// Like `clear`, but wakes no sleeper, and pulls in no code that does. It returns how many waiters it granted a
-    /// wakeup, for callers that wake threads by other means and need not know in which groups. It is refused as `clear`
-    /// is: `NoSuchTag`, `NotHeld`.
-    #[inline(always)]
-    pub fn clear_counted(&mut self, tags: &Tags<R>, tag: u32) -> Result<u32, TagFault>
-        requires { IsCacheOf tags.now self.old }
-        ensures cache { IsCacheOf tags.now self.new }
-        ensures no_such_tag { (result ≡ Err TagFault.NoSuchTag) ↔ (total_of tags.now ≤ tag) }
-        ensures not_held { (result ≡ Err TagFault.NotHeld) ↔ ((tag < total_of tags.now) × ¬ (Holds self.old tag)) }
-        ensures succeeds { Holds self.old tag → IsOk result }
-        ensures less { OnOk result (HoldsLess (λ other. other ≡ tag) self.old self.new) }
-        ensures way { IfOk result (λ woken. Goes tags.now tag woken self.old self.new) }
-        ensures loans { LeavesWindow tag self.old → OnOk result (LendsLess tag self.old self.new) }
-        ensures tally { OnOk result (Tallies 0 1 self.old self.new) }
-        ensures err { OnErr result (IsUnchanged self.old self.new) }
-    {
-        if self.has_place(tag) {
-            return Ok(self.put_and_count(tags, tag));
-        }
-        self.clear_and_count(tags, tag)
-    }
-
-    /// Like `put_and_ring`, but wakes nobody.
-    #[inline(always)]
-    fn put_and_count(&mut self, tags: &Tags<R>, tag: u32) -> u32
-        requires cache { IsCacheOf tags.now self.old }
-        requires place { HasPlace tag self.old }
-        ensures cache { IsCacheOf tags.now self.new }
-        ensures way { GoesOrdinary tags.now tag result self.old self.new }
-        ensures loans { LendsLess tag self.old self.new }
-    {
-        let place = self.offset(tag);
-        if tags.active(&mut self.hand) != 0 {
-            return self.give_all_and_count(tags, tag);
-        }
-        self.keep_at(tag, place);
-        0
-    }
-
-    /// Like `give_all_and_ring`, but wakes nobody.
-    #[inline(never)]
-    fn give_all_and_count(&mut self, tags: &Tags<R>, tag: u32) -> u32
-        requires cache { IsCacheOf tags.now self.old }
-        requires held { Holds self.old tag }
-        ensures cache { IsCacheOf tags.now self.new }
-        ensures gives { GivesWith tags.now tag result self.old (hand_of self.old) (hand_of self.new) }
-        ensures loans { LendsLess tag self.old self.new }
-        ensures none { KeepsNone self.new }
-        ensures terms { SameTerms self.old self.new }
-        ensures reused { reused_of self.new ≡ reused_of self.old }
-    {
-        self.give_all(tags, tag).woken
-    }
-
-    /// Like `clear_and_ring`, but wakes nobody.
-    #[inline(never)]
-    fn clear_and_count(&mut self, tags: &Tags<R>, tag: u32) -> Result<u32, TagFault>
-        requires { IsCacheOf tags.now self.old }
-        ensures cache { IsCacheOf tags.now self.new }
-        ensures no_such_tag { (result ≡ Err TagFault.NoSuchTag) ↔ (total_of tags.now ≤ tag) }
-        ensures not_held { (result ≡ Err TagFault.NotHeld) ↔ ((tag < total_of tags.now) × ¬ (Holds self.old tag)) }
-        ensures succeeds { Holds self.old tag → IsOk result }
-        ensures less { OnOk result (HoldsLess (λ other. other ≡ tag) self.old self.new) }
-        ensures way { IfOk result (λ woken. Goes tags.now tag woken self.old self.new) }
-        ensures loans { LeavesWindow tag self.old → OnOk result (LendsLess tag self.old self.new) }
-        ensures tally { OnOk result (Tallies 0 1 self.old self.new) }
-        ensures err { OnErr result (IsUnchanged self.old self.new) }
-    {
-        let grants = self.clear_granted(tags, tag)?;
-        Ok(grants.woken)
-    }
-
-    /// Like `clear`, but wakes no sleeper, and pulls in no code that does. It returns how many waiters it granted a
-    /// wakeup in each group, and leaves waking them to the caller. It is refused as `clear` is: `NoSuchTag`, `NotHeld`.
-    #[inline]
-    pub fn clear_granted(&mut self, tags: &Tags<R>, tag: u32) -> Result<Grants, TagFault>
+    /// Clears a tag as `clear` does, and reports what this granted.
+    fn clear_and_report(&mut self, tags: &Tags<R>, tag: u32) -> Result<Grants, TagFault>
         requires { IsCacheOf tags.now self.old }
         ensures cache { IsCacheOf tags.now self.new }
         ensures no_such_tag { (result ≡ Err TagFault.NoSuchTag) ↔ (total_of tags.now ≤ tag) }
@@ -180,13 +111,14 @@ impl<R: Copy> Cache<R> {
         ensures succeeds { Holds self.old tag → IsOk result }
         ensures less { OnOk result (HoldsLess (λ other. other ≡ tag) self.old self.new) }
         ensures way { IfOk result (λ grants. Goes tags.now tag grants.woken self.old self.new) }
-        ensures grants { IfOk result (λ grants. AreGrantsOf grants (group_steps (hand_of self.old)) (group_steps (hand_of self.new))) }
+        ensures grants { IfOk result (λ grants.
+            AreGrantsOf grants (group_steps (hand_of self.old)) (group_steps (hand_of self.new))) }
         ensures loans { LeavesWindow tag self.old → OnOk result (LendsLess tag self.old self.new) }
         ensures tally { OnOk result (Tallies 0 1 self.old self.new) }
         ensures err { OnErr result (IsUnchanged self.old self.new) }
     {
         if self.lends(tag) {
-            return Ok(self.put(tags, tag));
+            return Ok(self.keep_or_give_back(tags, tag));
         }
         self.clear_other(tags, tag)
     }
@@ -209,14 +141,14 @@ impl<R: Copy> Cache<R> {
             return Err(TagFault::NotHeld);
         }
         match kind {
-            Kind::Ordinary => Ok(self.put_other(tags, tag)),
-            Kind::Reserved => Ok(self.give(tags, tag)),
+            Kind::Ordinary => Ok(self.keep_or_give_back_other(tags, tag)),
+            Kind::Reserved => Ok(self.give_back(tags, tag)),
         }
     }
 
     /// Keeps an ordinary tag that the user is not known to hold, or gives it back.
     #[inline(always)]
-    fn put_other(&mut self, tags: &Tags<R>, tag: u32) -> Grants
+    fn keep_or_give_back_other(&mut self, tags: &Tags<R>, tag: u32) -> Grants
         requires cache { IsCacheOf tags.now self.old }
         requires held { Holds self.old tag }
         requires ordinary { split_of self.old ≤ tag }
@@ -226,11 +158,11 @@ impl<R: Copy> Cache<R> {
         ensures loans { LeavesWindow tag self.old → LendsLess tag self.old self.new }
     {
         self.follow(tag);
-        self.put(tags, tag)
+        self.keep_or_give_back(tags, tag)
     }
 
     /// Keeps an ordinary tag that the user holds, or gives it back.
-    fn put(&mut self, tags: &Tags<R>, tag: u32) -> Grants
+    fn keep_or_give_back(&mut self, tags: &Tags<R>, tag: u32) -> Grants
         requires cache { IsCacheOf tags.now self.old }
         requires held { Holds self.old tag }
         requires ordinary { split_of self.old ≤ tag }
@@ -241,10 +173,10 @@ impl<R: Copy> Cache<R> {
         ensures loans { LeavesWindow tag self.old → LendsLess tag self.old self.new }
     {
         if tags.active(&mut self.hand) != 0 {
-            return self.give_all(tags, tag);
+            return self.give_back_all(tags, tag);
         }
         if self.is_last(tag) {
-            return self.give_all(tags, tag);
+            return self.give_back_all(tags, tag);
         }
         if self.keep(tag) {
             return NO_GRANTS;
@@ -265,16 +197,16 @@ impl<R: Copy> Cache<R> {
         ensures loans { LeavesWindow tag self.old → LendsLess tag self.old self.new }
     {
         if !self.can_keep(tag) {
-            return self.give_alone(tags, tag);
+            return self.give_back_alone(tags, tag);
         }
-        let grants = self.give_kept(tags);
+        let grants = self.give_back_kept(tags);
         self.keep_first(tag);
         grants
     }
 
     /// Gives all kept tags back, and then a tag that the user holds.
     #[inline(never)]
-    fn give_all(&mut self, tags: &Tags<R>, tag: u32) -> Grants
+    fn give_back_all(&mut self, tags: &Tags<R>, tag: u32) -> Grants
         requires cache { IsCacheOf tags.now self.old }
         requires held { Holds self.old tag }
         ensures cache { IsCacheOf tags.now self.new }
@@ -285,14 +217,14 @@ impl<R: Copy> Cache<R> {
         ensures terms { SameTerms self.old self.new }
         ensures reused { reused_of self.new ≡ reused_of self.old }
     {
-        let sooner = self.give_kept(tags);
-        let later = self.give_alone(tags, tag);
+        let sooner = self.give_back_kept(tags);
+        let later = self.give_back_alone(tags, tag);
         both(sooner, later)
     }
 
     /// Gives a tag back that the user holds.
     #[inline(never)]
-    fn give_alone(&mut self, tags: &Tags<R>, tag: u32) -> Grants
+    fn give_back_alone(&mut self, tags: &Tags<R>, tag: u32) -> Grants
         requires cache { IsCacheOf tags.now self.old }
         requires held { Holds self.old tag }
         requires other { KeepsNone self.old ⊎ ¬ (IsLast tag self.old) }
@@ -304,12 +236,12 @@ impl<R: Copy> Cache<R> {
         ensures few { result.woken ≤ 8 }
     {
         self.forget(tag);
-        self.give(tags, tag)
+        self.give_back(tags, tag)
     }
 
     /// Gives a tag back that the user holds, but is not known to.
     #[inline(always)]
-    fn give(&mut self, tags: &Tags<R>, tag: u32) -> Grants
+    fn give_back(&mut self, tags: &Tags<R>, tag: u32) -> Grants
         requires cache { IsCacheOf tags.now self.old }
         requires held { Holds self.old tag }
         requires unlent { ¬ (IsLent self.old tag) }

@@ -2,60 +2,41 @@
 ghost use Rattle.std.specs.Prelude.{◌≡◌, ◌≤◌};
 ghost use Rattle.wake_book.specs.Grants.{AreGrantsOf};
 ghost use Rattle.tag_sets.specs.Hands.{IsHandOf, waiter_of, group_steps};
-ghost use Rattle.wake_book.specs.Groups as waiters;
 ghost use Rattle.tag_cache.specs.Caches.{IsCacheOf, KeepsNone, hand_of, reused_of};
 ghost use Rattle.tag_cache.specs.Changes.{SameTerms, SameWindow};
 ghost use Rattle.tag_cache.specs.Holding.{HoldsSame, IsLeftWith};
-ghost use Rattle.tag_cache.specs.Rings.{RingsGranted};
 ghost use Rattle.tag_cache.specs.Tallies.{Tallies};
 ghost use Rattle.tag_cache.specs.Clears.{GivesKept};
 
 use crate::cache::Cache;
-use tag_sets::{Grants, Hand, Report, Tags};
+use tag_sets::{Grants, Hand, Report, Tags, Waking};
 use wake_book::NO_GRANTS;
 
 impl<R: Copy> Cache<R> {
-    /// Gives all kept tags back, by one step for each word as `Tags::clear_mask` does, and returns how many waiters this
-    /// woke. If nothing is kept it makes no step. Call it before the thread is idle or sleeps: what it keeps nobody else
-    /// finds.
-    pub fn flush(&mut self, tags: &Tags<R>) -> u32
+    /// Gives all kept tags back, by one step for each word as `Tags::clear_mask` does, and answers as `W` says whom this
+    /// granted a wakeup. If nothing is kept it makes no step. Call it before the thread is idle or sleeps: what it keeps
+    /// nobody else finds.
+    pub fn flush<W: Waking>(&mut self, tags: &Tags<R>) -> W::Answer
         requires { IsCacheOf tags.now self.old }
         ensures cache { IsCacheOf tags.now self.new }
         ensures same { HoldsSame self.old self.new }
         ensures none { KeepsNone self.new }
-        ensures gives { GivesKept tags.now result self.old (hand_of self.old) (hand_of self.new) }
-        ensures rings { RingsGranted self.old self.new }
+        ensures gives { GivesKept tags.now (W.woken result) self.old
+            (hand_of self.old) (hand_of self.new) }
+        ensures tells { W.tells result (waiter_of (hand_of self.old)) (waiter_of (hand_of self.new)) }
         ensures tally { Tallies 0 0 self.old self.new }
         ensures terms { SameTerms self.old self.new }
         ensures reused { reused_of self.new ≡ reused_of self.old }
         ensures window { SameWindow self.old self.new }
-        ensures few { result ≤ 8 }
+        ensures few { W.woken result ≤ 8 }
     {
-        let grants = self.flush_granted(tags);
-        self.ring(tags, grants)
-    }
-
-    /// Like `flush`, but wakes no sleeper, and pulls in no code that does. It returns how many waiters it granted a
-    /// wakeup in each group, and leaves waking them to the caller.
-    pub fn flush_granted(&mut self, tags: &Tags<R>) -> Grants
-        requires { IsCacheOf tags.now self.old }
-        ensures cache { IsCacheOf tags.now self.new }
-        ensures same { HoldsSame self.old self.new }
-        ensures none { KeepsNone self.new }
-        ensures gives { GivesKept tags.now result.woken self.old (hand_of self.old) (hand_of self.new) }
-        ensures grants { AreGrantsOf result (group_steps (hand_of self.old)) (group_steps (hand_of self.new)) }
-        ensures tally { Tallies 0 0 self.old self.new }
-        ensures terms { SameTerms self.old self.new }
-        ensures reused { reused_of self.new ≡ reused_of self.old }
-        ensures window { SameWindow self.old self.new }
-        ensures few { result.woken ≤ 8 }
-    {
-        self.give_kept(tags)
+        let grants = self.give_back_kept(tags);
+        self.tell::<W>(tags, grants)
     }
 
     /// Gives all kept tags back. The window stays where it is.
     #[inline(never)]
-    pub(crate) fn give_kept(&mut self, tags: &Tags<R>) -> Grants
+    pub(crate) fn give_back_kept(&mut self, tags: &Tags<R>) -> Grants
         requires { IsCacheOf tags.now self.old }
         ensures cache { IsCacheOf tags.now self.new }
         ensures none { KeepsNone self.new }
@@ -75,31 +56,17 @@ impl<R: Copy> Cache<R> {
         tags.clear_mask_held::<Report>(&mut self.hand, self.first, kept)
     }
 
-    /// Gives all kept tags back, as `flush` does. Returns the hand, which holds what the user holds, and how many waiters
-    /// this woke.
-    pub fn into_hand(mut self, tags: &Tags<R>) -> (Hand<R>, u32)
+    /// Gives all kept tags back, as `flush` does. Returns the hand, which holds what the user holds, and answers as `W`
+    /// says whom this granted a wakeup.
+    pub fn into_hand<W: Waking>(mut self, tags: &Tags<R>) -> (Hand<R>, W::Answer)
         requires { IsCacheOf tags.now self }
         ensures hand { IsHandOf tags.now result.0 }
         ensures left { IsLeftWith self result.0 }
-        ensures gives { GivesKept tags.now result.1 self (hand_of self) result.0 }
-        ensures rings { waiters.RingsGranted (waiter_of (hand_of self)) (waiter_of result.0) }
+        ensures gives { GivesKept tags.now (W.woken result.1) self (hand_of self) result.0 }
+        ensures tells { W.tells result.1 (waiter_of (hand_of self)) (waiter_of result.0) }
     {
-        let woken = self.flush(tags);
+        let answer = self.flush::<W>(tags);
         let Cache { hand, .. } = self;
-        (hand, woken)
-    }
-
-    /// Like `into_hand`, but wakes no sleeper, and pulls in no code that does. It returns how many waiters it granted a
-    /// wakeup in each group, and leaves waking them to the caller.
-    pub fn into_hand_granted(mut self, tags: &Tags<R>) -> (Hand<R>, Grants)
-        requires { IsCacheOf tags.now self }
-        ensures hand { IsHandOf tags.now result.0 }
-        ensures left { IsLeftWith self result.0 }
-        ensures gives { GivesKept tags.now result.1.woken self (hand_of self) result.0 }
-        ensures grants { AreGrantsOf result.1 (group_steps (hand_of self)) (group_steps result.0) }
-    {
-        let grants = self.flush_granted(tags);
-        let Cache { hand, .. } = self;
-        (hand, grants)
+        (hand, answer)
     }
 }

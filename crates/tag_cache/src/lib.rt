@@ -19,12 +19,13 @@ mod looks;
 mod masks;
 mod meets;
 mod numbers;
-mod rings;
 mod shallow;
+mod since;
 mod slots;
+mod tells;
 mod waits;
 mod window;
 
 pub use cache::Cache;
 pub use keeping::Keeping;
-pub use tag_sets::{Found, Grants, Hand, TagFault, Tags};
+pub use tag_sets::{Count, Found, Grants, Hand, Report, Ring, TagFault, Tags, Waking};

@@ -1,88 +1,35 @@
 //! Clears of the ordinary tags of a mask, as a batch get answers it.
 ghost use Rattle.std.specs.Prelude.{◌≡◌, ◌<◌, ◌≤◌, ◌↔◌, ◌^◌, ℕ, count_ones, All, Contains, IfOk, IsOk, OnOk, OnErr};
-ghost use Rattle.wake_book.specs.Grants.{AreGrantsOf, WokenBy};
 ghost use Rattle.tag_queue.specs.Masks.{tags_in};
 ghost use Rattle.tag_sets.specs.Batches.{AreOrdinary};
-ghost use Rattle.tag_sets.specs.Hands.{group_steps};
+ghost use Rattle.tag_sets.specs.Hands.{waiter_of};
+ghost use Rattle.tag_sets.specs.declared.hand.Hand.{Hand};
 ghost use Rattle.tag_cache.specs.Windows.{IsIn};
-ghost use Rattle.tag_cache.specs.Batches.{ListGoes};
+ghost use Rattle.tag_cache.specs.Batches.{GivesKeptAndList, ListGoes};
 ghost use Rattle.tag_cache.specs.Caches.{IsCacheOf, IsWithin, IsLent, Holds, hand_of};
 ghost use Rattle.tag_cache.specs.Changes.{IsUnchanged, LendsNoneOf};
 ghost use Rattle.tag_cache.specs.Holding.{HoldsLess};
-ghost use Rattle.tag_cache.specs.Rings.{RingsGranted};
+ghost use Rattle.tag_cache.specs.Rings.{GrantsNone};
 ghost use Rattle.tag_cache.specs.Tallies.{Tallies};
 
 use crate::cache::{Cache, WINDOW};
 use crate::grants::both;
-use tag_sets::{Count, Grants, Report, TagFault, Tags};
+use crate::since::Since;
+use tag_sets::{Report, TagFault, Tags, Waking};
 
 impl<R: Copy> Cache<R> {
     /// Clears the ordinary tags of a mask that the user holds, in which bit `i` is tag `first + i` as in the answer of
-    /// `get_batch`, and returns how many waiters this woke. It does with them what `clear_batch` does with a list: it
-    /// keeps none, and the kept tags go back first in the same cases. They go back as by `Tags::clear_mask`. `NotHeld`
-    /// also means that a tag is kept. `BadCount` means that the mask is empty; `NoSuchTag` that a number is not below
-    /// the total, or a tag is reserved. Nothing changes on an error.
-    pub fn clear_mask(&mut self, tags: &Tags<R>, first: u32, mask: u64) -> Result<u32, TagFault>
-        requires { IsCacheOf tags.now self.old }
-        ensures cache { IsCacheOf tags.now self.new }
-
-        // The causes are checked in this order, each for the whole mask.
-        ensures bad_count { (result ≡ Err TagFault.BadCount) ↔ (mask ≡ 0) }
-        ensures no_such_tag { (result ≡ Err TagFault.NoSuchTag) ↔ ¬ (AreOrdinary tags.now (tags_in first mask)) }
-        ensures not_held { (result ≡ Err TagFault.NotHeld)
-            ↔ (AreOrdinary tags.now (tags_in first mask) × ¬ (All (Holds self.old) (tags_in first mask))) }
-        ensures succeeds { IsOk result
-            ↔ ((1 ≤ mask) × AreOrdinary tags.now (tags_in first mask) × All (Holds self.old) (tags_in first mask)) }
-        ensures less { OnOk result (HoldsLess (Contains (tags_in first mask)) self.old self.new) }
-        ensures way { IfOk result (λ woken. ListGoes tags.now (tags_in first mask) woken self.old self.new) }
-        ensures rings { OnOk result (RingsGranted self.old self.new) }
-        ensures loans { OnOk result (LendsNoneOf (tags_in first mask) self.old self.new) }
-        ensures tally { OnOk result (Tallies 0 (count_ones mask) self.old self.new) }
-        ensures err { OnErr result (IsUnchanged self.old self.new) }
-    {
-        let grants = self.clear_mask_granted(tags, first, mask)?;
-        Ok(self.ring(tags, grants))
-    }
-
-    /// Like `clear_mask`, but wakes no sleeper, and pulls in no code that does. It returns how many waiters it granted a
-    /// wakeup in each group, and leaves waking them to the caller. It is refused as `clear_mask` is: `BadCount`,
-    /// `NoSuchTag`, `NotHeld`.
-    pub fn clear_mask_granted(
-        &mut self,
-        tags: &Tags<R>,
-        first: u32,
-        mask: u64,
-    ) -> Result<Grants, TagFault>
-        requires { IsCacheOf tags.now self.old }
-        ensures cache { IsCacheOf tags.now self.new }
-
-        // The causes are checked in this order, each for the whole mask.
-        ensures bad_count { (result ≡ Err TagFault.BadCount) ↔ (mask ≡ 0) }
-        ensures no_such_tag { (result ≡ Err TagFault.NoSuchTag) ↔ ¬ (AreOrdinary tags.now (tags_in first mask)) }
-        ensures not_held { (result ≡ Err TagFault.NotHeld)
-            ↔ (AreOrdinary tags.now (tags_in first mask) × ¬ (All (Holds self.old) (tags_in first mask))) }
-        ensures succeeds { IsOk result
-            ↔ ((1 ≤ mask) × AreOrdinary tags.now (tags_in first mask) × All (Holds self.old) (tags_in first mask)) }
-        ensures less { OnOk result (HoldsLess (Contains (tags_in first mask)) self.old self.new) }
-        ensures way { IfOk result (λ grants. ListGoes tags.now (tags_in first mask) grants.woken self.old self.new) }
-        ensures grants { IfOk result (λ grants. AreGrantsOf grants (group_steps (hand_of self.old)) (group_steps (hand_of self.new))) }
-        ensures loans { OnOk result (LendsNoneOf (tags_in first mask) self.old self.new) }
-        ensures tally { OnOk result (Tallies 0 (count_ones mask) self.old self.new) }
-        ensures err { OnErr result (IsUnchanged self.old self.new) }
-    {
-        self.check_mask(tags, first, mask)?;
-        Ok(self.give_mask(tags, first, mask))
-    }
-
-    /// Like `clear_mask_granted`, and refused as it is (`BadCount`, `NoSuchTag`, `NotHeld`), but returns only how many
-    /// waiters it granted a wakeup, for callers that wake threads by other means and need not know their groups.
+    /// `get_batch`, and answers as `W` says whom this granted a wakeup. It does with them what `clear_batch` does with a
+    /// list: it keeps none, and the kept tags go back first in the same cases. They go back as by `Tags::clear_mask`.
+    /// `NotHeld` also means that a tag is kept. `BadCount` means that the mask is empty; `NoSuchTag` that a number is not
+    /// below the total, or a tag is reserved. Nothing changes on an error.
     #[inline]
-    pub fn clear_mask_counted(
+    pub fn clear_mask<W: Waking>(
         &mut self,
         tags: &Tags<R>,
         first: u32,
         mask: u64,
-    ) -> Result<u32, TagFault>
+    ) -> Result<W::Answer, TagFault>
         requires { IsCacheOf tags.now self.old }
         ensures cache { IsCacheOf tags.now self.new }
 
@@ -94,14 +41,16 @@ impl<R: Copy> Cache<R> {
         ensures succeeds { IsOk result
             ↔ ((1 ≤ mask) × AreOrdinary tags.now (tags_in first mask) × All (Holds self.old) (tags_in first mask)) }
         ensures less { OnOk result (HoldsLess (Contains (tags_in first mask)) self.old self.new) }
-        ensures way { IfOk result (λ woken. ListGoes tags.now (tags_in first mask) woken self.old self.new) }
-        ensures grants { IfOk result (λ woken. WokenBy woken (group_steps (hand_of self.old)) (group_steps (hand_of self.new))) }
+        ensures way { IfOk result (λ answer.
+            ListGoes tags.now (tags_in first mask) (W.woken answer) self.old self.new) }
+        ensures tells { IfOk result (λ answer.
+            W.tells answer (waiter_of (hand_of self.old)) (waiter_of (hand_of self.new))) }
         ensures loans { OnOk result (LendsNoneOf (tags_in first mask) self.old self.new) }
         ensures tally { OnOk result (Tallies 0 (count_ones mask) self.old self.new) }
         ensures err { OnErr result (IsUnchanged self.old self.new) }
     {
         self.check_mask(tags, first, mask)?;
-        Ok(self.give_mask_counted(tags, first, mask))
+        Ok(self.give_back_mask::<W>(tags, first, mask))
     }
 
     /// Checks that the mask has tags, that they are ordinary ones, and that the user holds each of them.
@@ -126,37 +75,47 @@ impl<R: Copy> Cache<R> {
 
     /// Gives back the tags of a mask that the user holds, after all kept ones if somebody waits or none may be kept any
     /// more.
-    fn give_mask(&mut self, tags: &Tags<R>, first: u32, mask: u64) -> Grants
+    #[inline]
+    fn give_back_mask<W: Waking>(&mut self, tags: &Tags<R>, first: u32, mask: u64) -> W::Answer
         requires cache { IsCacheOf tags.now self.old }
         requires mask { (1 ≤ mask) × AreOrdinary tags.now (tags_in first mask) }
         requires held { All (Holds self.old) (tags_in first mask) }
         ensures cache { IsCacheOf tags.now self.new }
-        ensures way { ListGoes tags.now (tags_in first mask) result.woken self.old self.new }
-        ensures grants { AreGrantsOf result (group_steps (hand_of self.old)) (group_steps (hand_of self.new)) }
+        ensures way { ListGoes tags.now (tags_in first mask) (W.woken result) self.old self.new }
+        ensures tells { W.tells result (waiter_of (hand_of self.old)) (waiter_of (hand_of self.new)) }
         ensures loans { LendsNoneOf (tags_in first mask) self.old self.new }
     {
         let left = self.lent_outside(first, mask);
-        let sooner = self.go_before(tags, left);
-        let later = tags.clear_mask_held::<Report>(&mut self.hand, first, mask);
-        both(sooner, later)
+        if self.goes_on(tags, left) {
+            return tags.clear_mask_held::<Since<W>>(&mut self.hand, first, mask);
+        }
+        self.give_back_kept_and_mask::<W>(tags, left, first, mask)
     }
 
-    /// Like `give_mask`, but returns only how many waiters it granted a wakeup.
-    #[inline]
-    fn give_mask_counted(&mut self, tags: &Tags<R>, first: u32, mask: u64) -> u32
+    /// Gives all kept tags back and then those of a mask that the user holds, after which it is known to hold only the
+    /// tags that are `left`. It is out of line, so that a clear needs no memory for grants where the kept tags stay.
+    #[inline(never)]
+    fn give_back_kept_and_mask<W: Waking>(
+        &mut self,
+        tags: &Tags<R>,
+        left: u64,
+        first: u32,
+        mask: u64,
+    ) -> W::Answer
         requires cache { IsCacheOf tags.now self.old }
+        requires left { (other : ℕ) → IsIn self.old.first left other
+            ↔ (IsLent self.old other × ¬ (Contains (tags_in first mask) other)) }
         requires mask { (1 ≤ mask) × AreOrdinary tags.now (tags_in first mask) }
         requires held { All (Holds self.old) (tags_in first mask) }
         ensures cache { IsCacheOf tags.now self.new }
-        ensures way { ListGoes tags.now (tags_in first mask) result self.old self.new }
-        ensures grants { WokenBy result (group_steps (hand_of self.old)) (group_steps (hand_of self.new)) }
+        ensures gives { GivesKeptAndList tags.now (tags_in first mask) (W.woken result) self.old self.new }
+        ensures tells { (before : Hand R) → GrantsNone before (hand_of self.old)
+            → W.tells result (waiter_of before) (waiter_of (hand_of self.new)) }
         ensures loans { LendsNoneOf (tags_in first mask) self.old self.new }
     {
-        let left = self.lent_outside(first, mask);
-        let sooner = self.go_before_counted(tags, left);
-        let later = tags.clear_mask_held::<Count>(&mut self.hand, first, mask);
-        let woken = sooner + later;
-        woken
+        let sooner = self.leave(tags, left);
+        let later = tags.clear_mask_held::<Report>(&mut self.hand, first, mask);
+        self.tell::<W>(tags, both(sooner, later))
     }
 }
 

@@ -1,19 +1,16 @@
 //! The slots of held tags, and how tags pass from thread to thread.
 ghost use Rattle.std.specs.Prelude.{◌≡◌, ◌⊎◌, ℕ, ◌<◌, ◌≤◌, ◌↔◌, IfOk, IfErr, IsOk, OnOk, OnErr};
 ghost use mathlib.Core.Option.{some};
-ghost use Rattle.wake_book.specs.Grants.{AreGrantsOf};
-ghost use Rattle.tag_sets.specs.Hands.{total_of, group_steps};
+ghost use Rattle.tag_sets.specs.Hands.{total_of, waiter_of};
 ghost use Rattle.tag_sets.specs.Slots as hands;
 ghost use Rattle.tag_cache.specs.Caches.{IsCacheOf, IsLast, IsLent, KeepsNone, Holds, slot_of, hand_of};
 ghost use Rattle.tag_cache.specs.Changes.{IsUnchanged, KeepsSame, SameTerms, SameWindow, LendsLess};
 ghost use Rattle.tag_cache.specs.Holding.{HoldsLess, HoldsMore, HoldsSame, Writes};
-ghost use Rattle.tag_cache.specs.Rings.{RingsGranted};
 ghost use Rattle.tag_cache.specs.Slots.{Passes, PassesAlone, PostsLast};
 ghost use Rattle.tag_cache.specs.Tallies.{Tallies};
 
 use crate::cache::Cache;
-use tag_sets::{Grants, TagFault, Tags};
-use wake_book::NO_GRANTS;
+use tag_sets::{TagFault, Tags, Waking};
 
 impl<R: Copy> Cache<R> {
     /// Returns the value in the slot of a tag that the user holds. `NoSuchTag` means that the number is not below the
@@ -95,11 +92,11 @@ impl<R: Copy> Cache<R> {
     }
 
     /// Gives up a tag that the user holds with its slot, so that another thread can `take` it. If tags are kept only
-    /// while the user holds one, and this is the last that it is known to hold, all kept tags go back first.
-    /// `NoSuchTag` means that the number is not below the total, `NotHeld` that the user does not hold the tag, as
-    /// where it is kept; nothing changes then.
+    /// while the user holds one, and this is the last that it is known to hold, all kept tags go back first; it answers as
+    /// `W` says whom they granted a wakeup. `NoSuchTag` means that the number is not below the total, `NotHeld` that the
+    /// user does not hold the tag, as where it is kept; nothing changes then.
     #[inline]
-    pub fn post(&mut self, tags: &Tags<R>, tag: u32) -> Result<(), TagFault>
+    pub fn post<W: Waking>(&mut self, tags: &Tags<R>, tag: u32) -> Result<W::Answer, TagFault>
         requires { IsCacheOf tags.now self.old }
         ensures cache { IsCacheOf tags.now self.new }
         ensures no_such_tag { (result ≡ Err TagFault.NoSuchTag) ↔ (total_of tags.now ≤ tag) }
@@ -109,47 +106,21 @@ impl<R: Copy> Cache<R> {
         ensures kept { ¬ (IsLast tag self.old) → KeepsSame self.old self.new }
         ensures posts { ¬ (IsLast tag self.old) → OnOk result (hands.Posts tag (hand_of self.old) (hand_of self.new)) }
         ensures last { IsLast tag self.old → OnOk result (KeepsNone self.new) }
-        ensures flushes { IsLast tag self.old → OnOk result ((woken : ℕ) × PostsLast tags.now tag woken self.old self.new) }
-        ensures terms { SameTerms self.old self.new }
-        ensures loans { OnOk result (LendsLess tag self.old self.new) }
-        ensures tally { Tallies 0 0 self.old self.new }
-        ensures rings { OnOk result (RingsGranted self.old self.new) }
-        ensures err { OnErr result (IsUnchanged self.old self.new) }
-    {
-        if self.lends(tag) {
-            self.post_lent_and_ring(tags, tag);
-            return Ok(());
-        }
-        self.post_other(tags, tag)?;
-        Ok(())
-    }
-
-    /// Like `post`, but wakes no sleeper, and pulls in no code that does. It returns how many waiters the kept tags that
-    /// went back granted a wakeup in each group, and leaves waking them to the caller. It is refused as `post` is:
-    /// `NoSuchTag`, `NotHeld`.
-    #[inline]
-    pub fn post_granted(&mut self, tags: &Tags<R>, tag: u32) -> Result<Grants, TagFault>
-        requires { IsCacheOf tags.now self.old }
-        ensures cache { IsCacheOf tags.now self.new }
-        ensures no_such_tag { (result ≡ Err TagFault.NoSuchTag) ↔ (total_of tags.now ≤ tag) }
-        ensures not_held { (result ≡ Err TagFault.NotHeld) ↔ ((tag < total_of tags.now) × ¬ (Holds self.old tag)) }
-        ensures succeeds { Holds self.old tag → IsOk result }
-        ensures less { OnOk result (HoldsLess (λ other. other ≡ tag) self.old self.new) }
-        ensures kept { ¬ (IsLast tag self.old) → KeepsSame self.old self.new }
-        ensures posts { ¬ (IsLast tag self.old) → OnOk result (hands.Posts tag (hand_of self.old) (hand_of self.new)) }
-        ensures last { IsLast tag self.old → OnOk result (KeepsNone self.new) }
-        ensures flushes { IsLast tag self.old → IfOk result (λ grants. PostsLast tags.now tag grants.woken self.old self.new) }
-        ensures grants { IfOk result (λ grants. AreGrantsOf grants (group_steps (hand_of self.old)) (group_steps (hand_of self.new))) }
+        ensures flushes { IsLast tag self.old
+            → IfOk result (λ answer. PostsLast tags.now tag (W.woken answer) self.old self.new) }
+        ensures nobody { ¬ (IsLast tag self.old) → IfOk result (λ answer. W.woken answer ≡ 0) }
+        ensures tells { IfOk result (λ answer.
+            W.tells answer (waiter_of (hand_of self.old)) (waiter_of (hand_of self.new))) }
         ensures terms { SameTerms self.old self.new }
         ensures loans { OnOk result (LendsLess tag self.old self.new) }
         ensures tally { Tallies 0 0 self.old self.new }
         ensures err { OnErr result (IsUnchanged self.old self.new) }
     {
         if self.lends(tag) {
-            return Ok(self.post_lent(tags, tag));
+            return Ok(self.post_lent::<W>(tags, tag));
         }
         self.post_other(tags, tag)?;
-        Ok(NO_GRANTS)
+        Ok(W::nobody())
     }
 
     /// Gives up a tag that the user is not known to hold.
@@ -162,7 +133,7 @@ impl<R: Copy> Cache<R> {
         ensures succeeds { Holds self.old tag → IsOk result }
         ensures passes { OnOk result (Passes tag self.old self.new) }
         ensures flushes { IsLast tag self.old → OnOk result (PostsLast tags.now tag 0 self.old self.new) }
-        ensures steps { OnOk result (group_steps (hand_of self.new) ≡ group_steps (hand_of self.old)) }
+        ensures waiter { OnOk result (waiter_of (hand_of self.new) ≡ waiter_of (hand_of self.old)) }
         ensures tally { Tallies 0 0 self.old self.new }
         ensures err { OnErr result (IsUnchanged self.old self.new) }
     {
@@ -173,41 +144,24 @@ impl<R: Copy> Cache<R> {
     }
 
     /// Gives up a tag that the user is known to hold. If it is the last, all kept tags go back first, and whom they
-    /// granted a wakeup is woken before it leaves.
-    fn post_lent_and_ring(&mut self, tags: &Tags<R>, tag: u32)
+    /// granted a wakeup is told before it leaves.
+    fn post_lent<W: Waking>(&mut self, tags: &Tags<R>, tag: u32) -> W::Answer
         requires cache { IsCacheOf tags.now self.old }
         requires lent { IsLent self.old tag }
         ensures cache { IsCacheOf tags.now self.new }
         ensures passes { Passes tag self.old self.new }
-        ensures flushes { IsLast tag self.old → (woken : ℕ) × PostsLast tags.now tag woken self.old self.new }
-        ensures rings { RingsGranted self.old self.new }
+        ensures flushes { IsLast tag self.old → PostsLast tags.now tag (W.woken result) self.old self.new }
+        ensures nobody { ¬ (IsLast tag self.old) → W.woken result ≡ 0 }
+        ensures tells { W.tells result (waiter_of (hand_of self.old)) (waiter_of (hand_of self.new)) }
         ensures tally { Tallies 0 0 self.old self.new }
     {
         if self.is_last(tag) {
-            self.flush(tags);
+            let answer = self.flush::<W>(tags);
             self.post_alone(tags, tag);
-            return;
+            return answer;
         }
         self.post_alone(tags, tag);
-    }
-
-    /// Like `post_lent_and_ring`, but wakes nobody, and returns what the kept tags granted.
-    fn post_lent(&mut self, tags: &Tags<R>, tag: u32) -> Grants
-        requires cache { IsCacheOf tags.now self.old }
-        requires lent { IsLent self.old tag }
-        ensures cache { IsCacheOf tags.now self.new }
-        ensures passes { Passes tag self.old self.new }
-        ensures flushes { IsLast tag self.old → PostsLast tags.now tag result.woken self.old self.new }
-        ensures grants { AreGrantsOf result (group_steps (hand_of self.old)) (group_steps (hand_of self.new)) }
-        ensures tally { Tallies 0 0 self.old self.new }
-    {
-        if self.is_last(tag) {
-            let grants = self.flush_granted(tags);
-            self.post_alone(tags, tag);
-            return grants;
-        }
-        self.post_alone(tags, tag);
-        NO_GRANTS
+        W::nobody()
     }
 
     /// Gives up a tag that the user is known to hold, and no kept tag with it. If it is the last, none is kept.

@@ -1,50 +1,30 @@
 //! Waits for an ordinary tag. A thread that begins to wait keeps nothing.
 ghost use Rattle.std.specs.Prelude.{◌≡◌, ◌↔◌, IfOk, IfErr, IfSome, IfNone, IsOk, IsSome, OnOk, None};
-ghost use Rattle.wake_book.specs.Grants.{AreGrantsOf};
-ghost use Rattle.tag_sets.specs.Hands.{standing_of, wait_index_of, group_steps};
+ghost use Rattle.tag_sets.specs.Hands.{standing_of, wait_index_of, waiter_of};
 ghost use Rattle.tag_sets.specs.Waits as hands;
 ghost use Rattle.tag_sets.specs.Waits.{Leaves, StandsOn};
 ghost use Rattle.tag_cache.specs.Caches.{IsCacheOf, hand_of};
 ghost use Rattle.tag_cache.specs.Changes.{IsUnchanged, SameTerms, SameWindow};
 ghost use Rattle.tag_cache.specs.Holding.{HoldsSame};
-ghost use Rattle.tag_cache.specs.Rings.{RingsGranted};
 ghost use Rattle.tag_cache.specs.Same.{SameTags};
 ghost use Rattle.tag_cache.specs.Tallies.{Tallies};
 ghost use Rattle.tag_cache.specs.Waits.{Enters};
 
 use crate::cache::Cache;
 use std::sync::Wait;
-use tag_sets::{Grants, Left, TagFault, Tags};
+use tag_sets::{Left, Report, TagFault, Tags, Waking};
 
 impl<R: Copy> Cache<R> {
     /// Gives all kept tags back, as `flush` does, and then enters the wait group of the hand's wait index, as
-    /// `Tags::prepare_wait` does. Returns the group, 0 to 7. `Waiting` means that the hand is already in a group.
-    pub fn prepare_wait(&mut self, tags: &Tags<R>) -> Result<u32, TagFault>
-        requires { IsCacheOf tags.now self.old }
-        ensures cache { IsCacheOf tags.now self.new }
-        ensures out { IsOk result ↔ (standing_of (hand_of self.old) ≡ None) }
-        ensures enters { IfOk result (λ group. Enters tags.now group self.old self.new) }
-        ensures rings { OnOk result (RingsGranted self.old self.new) }
-        ensures same { HoldsSame self.old self.new }
-        ensures tally { Tallies 0 0 self.old self.new }
-        ensures terms { SameTerms self.old self.new }
-        ensures window { SameWindow self.old self.new }
-        ensures err { IfErr result (λ fault. (fault ≡ TagFault.Waiting) × IsUnchanged self.old self.new) }
-    {
-        let (group, grants) = self.prepare_wait_granted(tags)?;
-        self.ring(tags, grants);
-        Ok(group)
-    }
-
-    /// Like `prepare_wait`, but wakes no sleeper, and pulls in no code that does. It returns the group, and how many
-    /// waiters the kept tags granted a wakeup in each group, and leaves waking them to the caller. It is refused as
-    /// `prepare_wait` is: `Waiting`.
-    pub fn prepare_wait_granted(&mut self, tags: &Tags<R>) -> Result<(u32, Grants), TagFault>
+    /// `Tags::prepare_wait` does. Returns the group, 0 to 7, and answers as `W` says whom the kept tags granted a wakeup.
+    /// `Waiting` means that the hand is already in a group.
+    pub fn prepare_wait<W: Waking>(&mut self, tags: &Tags<R>) -> Result<(u32, W::Answer), TagFault>
         requires { IsCacheOf tags.now self.old }
         ensures cache { IsCacheOf tags.now self.new }
         ensures out { IsOk result ↔ (standing_of (hand_of self.old) ≡ None) }
         ensures enters { IfOk result (λ found. Enters tags.now found.0 self.old self.new) }
-        ensures grants { IfOk result (λ found. AreGrantsOf found.1 (group_steps (hand_of self.old)) (group_steps (hand_of self.new))) }
+        ensures tells { IfOk result (λ found.
+            W.tells found.1 (waiter_of (hand_of self.old)) (waiter_of (hand_of self.new))) }
         ensures same { HoldsSame self.old self.new }
         ensures tally { Tallies 0 0 self.old self.new }
         ensures terms { SameTerms self.old self.new }
@@ -54,8 +34,9 @@ impl<R: Copy> Cache<R> {
         if self.hand.is_waiting() {
             return Err(TagFault::Waiting);
         }
-        let grants = self.flush_granted(tags);
-        Ok((self.enter(tags), grants))
+        let grants = self.flush::<Report>(tags);
+        let group = self.enter(tags);
+        Ok((group, self.tell::<W>(tags, grants)))
     }
 
     /// Enters a wait group with a hand that is in none.

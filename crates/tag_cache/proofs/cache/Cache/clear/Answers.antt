@@ -1,21 +1,15 @@
 -- A tag that has a place is held and ordinary, so it needs no test; what becomes of it says the rest.
-use Rattle.std.proofs.Common.{inl}
 use Rattle.tag_cache.proofs.Answering.{cleared}
-use Rattle.tag_cache.proofs.Reusing.{lent_held, lent_ordinary_of}
 use Rattle.tag_cache.proofs.cache.Cache.clear.Goals as goal
 
 pub returns-then-has_place-clause-less : goal.returns-then-has_place-clause-less
-returns-then-has_place-clause-less g c = let lent = (c.has_place.ensures.0 c.if-has_place.true).lent in
-    (cleared c.args.tags.now c.args.tag c.args.self.now c.put_and_ring.new.self c.put_and_ring.result
-    (lent_held c.args.self.now c.args.tag lent)
-    (inl (lent_ordinary_of c.args.tags.now c.args.self.now c.args.tag c.requires lent, c.put_and_ring.ensures.way))).less
+returns-then-has_place-clause-less g c = (cleared c.args.tags.now c.args.tag c.args.self.now c.keep_or_give_back_all.new.self _ c.requires
+    (c.has_place.ensures.0 c.if-has_place.true).lent c.keep_or_give_back_all.ensures.way).less
 
 pub returns-then-has_place-clause-way : goal.returns-then-has_place-clause-way
-returns-then-has_place-clause-way g c = let lent = (c.has_place.ensures.0 c.if-has_place.true).lent in
-    inl (lent_ordinary_of c.args.tags.now c.args.self.now c.args.tag c.requires lent, c.put_and_ring.ensures.way)
+returns-then-has_place-clause-way g c = (cleared c.args.tags.now c.args.tag c.args.self.now c.keep_or_give_back_all.new.self _ c.requires
+    (c.has_place.ensures.0 c.if-has_place.true).lent c.keep_or_give_back_all.ensures.way).way
 
 pub returns-then-has_place-clause-tally : goal.returns-then-has_place-clause-tally
-returns-then-has_place-clause-tally g c = let lent = (c.has_place.ensures.0 c.if-has_place.true).lent in
-    (cleared c.args.tags.now c.args.tag c.args.self.now c.put_and_ring.new.self c.put_and_ring.result
-    (lent_held c.args.self.now c.args.tag lent)
-    (inl (lent_ordinary_of c.args.tags.now c.args.self.now c.args.tag c.requires lent, c.put_and_ring.ensures.way))).tally
+returns-then-has_place-clause-tally g c = (cleared c.args.tags.now c.args.tag c.args.self.now c.keep_or_give_back_all.new.self _ c.requires
+    (c.has_place.ensures.0 c.if-has_place.true).lent c.keep_or_give_back_all.ensures.way).tally

@@ -1,51 +1,70 @@
--- A ring makes no step, so all is as after the clear.
-use Rattle.std.proofs.Common.{rules, ◌≡◌, ℕ, Err, sym, subst}
-use Rattle.std.specs.Prelude.{length, Contains}
+-- The hand's refusals are the user's, and a tag that is kept is one that the user does not hold.
+use Rattle.std.proofs.Common.{rules, ◌≡◌, Err, refl}
 use Rattle.tag_queue.proofs.PassedOn.{refused_alike}
-use Rattle.tag_sets.specs.declared.fault.TagFault.TheVariants.{NotHeld}
-use Rattle.tag_cache.specs.Batches.{ListGoes}
-use Rattle.tag_cache.proofs.Rung.{less_same, list_rung, rings_since}
-use Rattle.tag_cache.proofs.Tallying.{tallies_on}
+use Rattle.tag_sets.specs.declared.fault.TagFault.TheVariants.{NoSuchTag}
+use Rattle.tag_sets.specs.Batches.{CountsTags, AreOrdinary}
+use Rattle.tag_sets.specs.Batches as hand_batches
+use Rattle.tag_cache.specs.Batches.{AreHeldOnce}
+use Rattle.tag_cache.proofs.Listing.{hand_holds, user_holds, none_is_kept, list_less, list_tallies, refused_not_held}
 use Rattle.tag_cache.proofs.cache.Cache.clear_batch.Goals as goal
 
-pub returns-clause-less : goal.returns-clause-less
-returns-clause-less g c = less_same (Contains c.args.list.now) c.args.self.now c.clear_batch_granted.new.self
-    c.ring.new.self c.in_ok-grants.ensures.less c.ring.ensures.same.held
+pub returns-in_err-check_batch-clause-not_held : goal.returns-in_err-check_batch-clause-not_held
+returns-in_err-check_batch-clause-not_held g c = let list = c.args.list.now in let cache = c.args.self.now in
+    let same : c.from_residual.result ≡ Err c.in_err-check_batch.field-0.0 = first_of (cc, search rules) in
+    refused_not_held c.check_batch.result c.from_residual.result c.in_err-check_batch.field-0.0 (CountsTags list)
+    (AreOrdinary c.args.tags.now list) (hand_batches.AreHeldOnce cache.hand list) (AreHeldOnce cache list)
+    c.in_err-check_batch.was same c.check_batch.ensures.not_held c.check_batch.ensures.succeeds (hand_holds cache list)
 
-pub returns-clause-way : goal.returns-clause-way
-returns-clause-way g c = subst (λ (n : ℕ). ListGoes c.args.tags.now c.args.list.now n c.args.self.now c.ring.new.self)
-    (sym c.ring.ensures.woken) (list_rung c.in_ok-grants.grants.woken c.clear_batch_granted.new.self c.ring.new.self
-    (record { none = c.ring.ensures.none; hand = c.ring.ensures.hand; same = c.ring.ensures.same })
-    c.args.tags.now c.args.self.now c.args.list.now c.in_ok-grants.ensures.way)
-
-pub returns-clause-rings : goal.returns-clause-rings
-returns-clause-rings g c = rings_since c.in_ok-grants.grants c.args.self.now c.clear_batch_granted.new.self
-    c.ring.new.self c.in_ok-grants.ensures.grants c.ring.ensures.rings c.ring.ensures.hand
-
-pub returns-clause-tally : goal.returns-clause-tally
-returns-clause-tally g c = tallies_on 0 (length c.args.list.now) c.args.self.now c.clear_batch_granted.new.self
-    c.ring.new.self c.in_ok-grants.ensures.tally c.ring.ensures.same.tally
-
-pub returns-clause-loans : goal.returns-clause-loans
-returns-clause-loans g c = λ other. (
-  (λ l. (c.in_ok-grants.ensures.loans other).0 ((c.ring.ensures.same.window.loans other).0 l)),
-  (λ l. (c.ring.ensures.same.window.loans other).1 ((c.in_ok-grants.ensures.loans other).1 l)),
-)
-
-pub returns-in_err-grants-clause-not_held : goal.returns-in_err-grants-clause-not_held
-returns-in_err-grants-clause-not_held g c =
-    let same : c.from_residual.result ≡ Err c.in_err-grants.field-0.0 = first_of (cc, search rules) in
-    refused_alike c.clear_batch_granted.result c.from_residual.result c.in_err-grants.field-0.0 NotHeld _
-    c.in_err-grants.was same c.clear_batch_granted.ensures.not_held
-
-pub returns-clause-no_such_tag : goal.returns-clause-no_such_tag
-returns-clause-no_such_tag g c = (
-  λ wrong. let no = wrong in absurd cc,
-  λ not. let wrong = c.in_ok-grants.ensures.no_such_tag.1 not in absurd cc,
-)
+pub returns-then-not-keeps_none_of-clause-not_held : goal.returns-then-not-keeps_none_of-clause-not_held
+returns-then-not-keeps_none_of-clause-not_held g c = let list = c.args.list.now in let cache = c.args.self.now in
+    let ok = c.in_ok-check_batch.ensures.succeeds.0 refl in (
+      (λ e. (
+        ok.0,
+        ok.1,
+        λ held. let none = c.keeps_none_of.ensures.1 (none_is_kept cache list held) in
+            let some = c.if-not-keeps_none_of.true in cc,
+      )),
+      (λ h. refl),
+    )
 
 pub returns-clause-not_held : goal.returns-clause-not_held
-returns-clause-not_held g c = (
-  λ wrong. let no = wrong in absurd cc,
-  λ not. let wrong = c.in_ok-grants.ensures.not_held.1 not in absurd cc,
+returns-clause-not_held g c = let list = c.args.list.now in let cache = c.args.self.now in
+    let ok = c.in_ok-check_batch.ensures.succeeds.0 refl in
+    let none = c.keeps_none_of.ensures.0 (let some = c.if-not-keeps_none_of.false in cc) in (
+      (λ e. cc),
+      (λ h. absurd (h.2 (user_holds cache list ok.2 none))),
+    )
+
+pub returns-clause-succeeds : goal.returns-clause-succeeds
+returns-clause-succeeds g c = let list = c.args.list.now in let cache = c.args.self.now in
+    let ok = c.in_ok-check_batch.ensures.succeeds.0 refl in
+    let none = c.keeps_none_of.ensures.0 (let some = c.if-not-keeps_none_of.false in cc) in (
+      (λ e. (ok.0, ok.1, user_holds cache list ok.2 none)),
+      (λ h. refl),
+    )
+
+pub returns-clause-less : goal.returns-clause-less
+returns-clause-less g c = list_less c.args.tags.now c.args.list.now _ c.args.self.now
+    c.give_back_list.new.self c.give_back_list.ensures.way
+
+pub returns-clause-tally : goal.returns-clause-tally
+returns-clause-tally g c = list_tallies c.args.tags.now c.args.list.now _ c.args.self.now
+    c.give_back_list.new.self c.give_back_list.ensures.way
+
+pub returns-in_err-check_batch-clause-no_such_tag : goal.returns-in_err-check_batch-clause-no_such_tag
+returns-in_err-check_batch-clause-no_such_tag g c =
+    let same : c.from_residual.result ≡ Err c.in_err-check_batch.field-0.0 = first_of (cc, search rules) in
+    refused_alike c.check_batch.result c.from_residual.result c.in_err-check_batch.field-0.0 NoSuchTag _
+    c.in_err-check_batch.was same c.check_batch.ensures.no_such_tag
+
+pub returns-then-not-keeps_none_of-clause-succeeds : goal.returns-then-not-keeps_none_of-clause-succeeds
+returns-then-not-keeps_none_of-clause-succeeds g c = let list = c.args.list.now in let cache = c.args.self.now in (
+  (λ ok. absurd (let no = ok in cc)),
+  (λ h. let none = c.keeps_none_of.ensures.1 (none_is_kept cache list h.2) in
+      let some = c.if-not-keeps_none_of.true in absurd cc),
 )
+
+pub give_back_list-requires-clause-held : goal.give_back_list-requires-clause-held
+give_back_list-requires-clause-held g c = let list = c.args.list.now in
+    user_holds c.args.self.now list (c.in_ok-check_batch.ensures.succeeds.0 refl).2
+    (c.keeps_none_of.ensures.0 (let some = c.if-not-keeps_none_of.false in cc))

@@ -8,12 +8,12 @@ use Rattle.tag_cache.proofs.cache.Cache.clear_other.Goals as goal
 pub returns-in-Ordinary-clause-way : goal.returns-in-Ordinary-clause-way
 returns-in-Ordinary-clause-way g c = inl (
   (ordinary_at (reserved_of c.args.tags.now) c.args.tag (sym c.in_ok-kind.ensures.kind ∙ c.in-Ordinary.is)).above,
-  c.put_other.ensures.way,
+  c.keep_or_give_back_other.ensures.way,
 )
 
 pub returns-in-Ordinary-clause-loans : goal.returns-in-Ordinary-clause-loans
-returns-in-Ordinary-clause-loans g c = c.put_other.ensures.loans
+returns-in-Ordinary-clause-loans g c = c.keep_or_give_back_other.ensures.loans
 
 pub returns-in-Reserved-clause-loans : goal.returns-in-Reserved-clause-loans
-returns-in-Reserved-clause-loans g c = λ leaves. unlent_less c.args.tag c.args.self.now c.give.new.self c.requires.unlent
-    c.give.ensures.window.loans
+returns-in-Reserved-clause-loans g c = λ leaves. unlent_less c.args.tag c.args.self.now c.give_back.new.self
+    c.requires.unlent c.give_back.ensures.window.loans

@@ -6,14 +6,14 @@ use Rattle.tag_cache.proofs.Reusing.{none_kept}
 use Rattle.tag_cache.proofs.cache.Cache.leave.Goals as goal
 
 pub invariant_of-self-clause-loans : goal.invariant_of-self-clause-loans
-invariant_of-self-clause-loans g c = let new = c.give_kept-grants.new.self in
-    let w = c.give_kept-grants.ensures.window in λ other i. new.loans other
+invariant_of-self-clause-loans g c = let new = c.give_back_kept-grants.new.self in
+    let w = c.give_back_kept-grants.ensures.window in λ other i. new.loans other
     ((same_loans c.args.self.now new w.0 w.1 other).1
     (c.requires.left other (subst (λ (f : ℕ). IsIn f c.args.left other) w.0 i)))
 
 pub invariant_of-self-clause-apart : goal.invariant_of-self-clause-apart
-invariant_of-self-clause-apart g c = λ other k i. c.give_kept-grants.ensures.none other k
+invariant_of-self-clause-apart g c = λ other k i. c.give_back_kept-grants.ensures.none other k
 
 pub invariant_of-self-clause-careful : goal.invariant_of-self-clause-careful
 invariant_of-self-clause-careful g c = λ careful some.
-    let zero = none_kept c.give_kept-grants.new.self c.give_kept-grants.ensures.none in absurd (omega arith)
+    let zero = none_kept c.give_back_kept-grants.new.self c.give_back_kept-grants.ensures.none in absurd (omega arith)

@@ -1,7 +1,7 @@
--- A tag that is not lent is posted alone.
-use Rattle.std.proofs.Common.{inl, ap}
-use Rattle.step_ledger.specs.History.{total}
-use Rattle.wake_book.specs.Waits.{moved_by}
+-- A tag that is not lent is posted by no step on the wait groups, and so without grants.
+use Rattle.std.proofs.Common.{ℕ, sym, subst}
+use Rattle.tag_cache.specs.Slots.{PostsLast}
+use Rattle.tag_cache.proofs.Passing.{grants_none}
 use Rattle.tag_cache.proofs.Reusing.{lent_held}
 use Rattle.tag_cache.proofs.cache.Cache.post.Goals as goal
 
@@ -15,7 +15,10 @@ pub returns-clause-not_held : goal.returns-clause-not_held
 returns-clause-not_held g c = ((λ e. cc), (λ n. let e = c.in_ok-post_other.ensures.not_held.1 n in absurd (cc)))
 
 pub returns-clause-flushes : goal.returns-clause-flushes
-returns-clause-flushes g c = λ last. (0, c.in_ok-post_other.ensures.flushes last)
+returns-clause-flushes g c = λ last. subst
+    (λ (n : ℕ). PostsLast c.args.tags.now c.args.tag n c.args.self.now c.post_other.new.self)
+    (sym c.nobody.ensures.woken) (c.in_ok-post_other.ensures.flushes last)
 
-pub returns-clause-rings : goal.returns-clause-rings
-returns-clause-rings g c = inl (ap (total moved_by) c.in_ok-post_other.ensures.steps)
+pub returns-clause-tells : goal.returns-clause-tells
+returns-clause-tells g c = c.nobody.ensures.tells _ _ (grants_none c.args.self.now.hand c.post_other.new.self.hand
+    c.in_ok-post_other.ensures.waiter)

@@ -1,0 +1,167 @@
+-- What becomes of tags that go back, if it is then told whom that granted a wakeup.
+use Rattle.std.proofs.Common.{arith, ◌≡◌, ℕ, ◌+◌, ◌≤◌, ◌<◌, List, inl, inr, refl, sym, ◌∙◌, subst, ⊎_elim}
+use Rattle.std.proofs.lemmas.Bool.{cases_lt}
+use Rattle.tag_sets.specs.declared.hand.Hand.{Hand}
+use Rattle.tag_sets.specs.declared.tags.Tags.{Tags}
+use Rattle.tag_sets.specs.Hands.{IsHandOf, reserved_of}
+use Rattle.tag_cache.specs.declared.cache.Cache.{Cache}
+use Rattle.tag_cache.specs.Batches.{GivesKeptAndList}
+use Rattle.tag_cache.specs.Caches.{KeepsNone, reused_of}
+use Rattle.tag_cache.specs.Changes.{KeepsOnly, KeepsSame, SameTerms}
+use Rattle.tag_cache.specs.Clears.{GivesKept, GivesList, GivesWith, KeptUnseen, KeptInstead, GoesAlone, GoesWithKept, GoesWithAll, GoesLast, GoesReserved, GoesOrdinary, Goes}
+use Rattle.tag_cache.specs.Holding.{HoldsLess, HoldsSame}
+use Rattle.tag_cache.specs.Rings.{MakesNoStep}
+use Rattle.tag_cache.specs.Same.{SameTags}
+use Rattle.tag_cache.specs.Waits.{Enters}
+use Rattle.tag_cache.proofs.Carrying.{keeps_twice, none_after, same_fields, terms_twice}
+use Rattle.tag_cache.proofs.Looking.{same_window}
+use Rattle.tag_cache.proofs.Steady.{rests_unchanged, same_tags}
+use Rattle.tag_cache.proofs.Telling.{reserved_woken, one_still, list_still, kept_still, hand_enters_still}
+
+module _ {R : Type 0} where
+  -- a cache that is as it was
+  pub made_no_step : (hand : Hand R) → MakesNoStep hand hand
+  made_no_step hand = record {
+    steps = refl;
+    counts = refl;
+    stays = record {
+      same = record { kept = λ tag h. (h, refl); none_else = λ tag h. h };
+      set = record { changed = (refl, refl, (refl, refl, refl)); other = refl; split = refl };
+    };
+  }
+
+  pub as_before : (cache : Cache R) → SameTags cache cache
+  as_before cache = same_tags cache cache (same_fields cache cache refl refl refl refl refl)
+      (same_window cache cache refl refl) (rests_unchanged cache.hand cache.hand refl)
+
+  -- the user holds less, and nothing changed since
+  pub less_same : (named : ℕ → Type 0) (a b c : Cache R) → HoldsLess named a b → HoldsSame b c → HoldsLess named a c
+  less_same named a b c l s = record {
+    gone = λ tag n h. l.gone tag n (s.none_else tag h);
+    kept = λ tag n h. let x = l.kept tag n h in let y = s.kept tag x.0 in (y.0, y.1 ∙ x.1);
+    none_else = λ tag h. l.none_else tag (s.none_else tag h);
+  }
+
+-- the cache was told of so many grants, and is as before if there are none
+pub record HasTold {R : Type 0} (woken : ℕ) (mid new : Cache R) : Type 0 where
+  pub none : woken ≡ 0 → new ≡ mid
+  pub hand : MakesNoStep mid.hand new.hand
+  pub same : SameTags mid new
+
+module _ {R : Type 0} (woken : ℕ) (mid new : Cache R) (r : HasTold woken mid new) where
+  -- what is so of a cache that told of nobody, and of one that told of some
+  pub either : (P : Cache R → Type 0) → P mid → (1 ≤ woken → P mid → P new) → P new
+  either P before after = ⊎_elim
+      (λ (none : woken < 1). subst P (sym (r.none (omega arith))) before)
+      (λ (some : 1 ≤ woken). after some before) (cases_lt woken 1)
+
+  pub none_still : KeepsNone mid → KeepsNone new
+  none_still none = λ tag k. none tag ((r.same.kept.kept tag).0 k)
+
+  only_still : (tag : ℕ) (old : Cache R) → KeepsOnly tag old mid → KeepsOnly tag old new
+  only_still tag old o = let k = r.same.kept in record {
+    only = λ other. ((λ i. (o.only other).0 ((k.kept other).0 i)), (λ e. (k.kept other).1 ((o.only other).1 e)));
+    one = k.count ∙ o.one;
+    terms = terms_twice o.terms k.terms;
+    reused = k.reused ∙ o.reused;
+  }
+
+  module _ (tags : Tags R) (old : Cache R) where
+    pub kept_told : GivesKept tags woken old old.hand mid.hand → GivesKept tags woken old old.hand new.hand
+    kept_told g = either (λ (x : Cache R). GivesKept tags woken old old.hand x.hand) g
+        (λ some b. kept_still tags old.hand mid.hand new.hand r.hand woken old some b)
+
+    pub enters_told : (group : ℕ) → Enters tags group old mid → Enters tags group old new
+    enters_told group e = record {
+      woken = e.woken;
+      between = e.between;
+      gives = e.gives;
+      enters = hand_enters_still tags e.between mid.hand new.hand r.hand group e.enters;
+      none = none_still e.none;
+    }
+
+    module _ (tag : ℕ) (own : IsHandOf tags mid.hand) where
+      pub with_told : {a : Hand R} → reserved_of tags ≤ tag → GivesWith tags tag woken old a mid.hand
+          → GivesWith tags tag woken old a new.hand
+      with_told above g = record {
+        between = g.between;
+        sooner = g.sooner;
+        kept = g.kept;
+        later = g.later;
+        gives = one_still tags g.between mid.hand new.hand r.hand tag g.later above
+            (sym g.gives.clears.set.split ∙ own.2) g.gives;
+        woken_is = g.woken_is;
+      }
+
+      with_kept_still : (found : ℕ) → reserved_of tags ≤ tag → GoesWithKept tags tag found woken old mid
+          → GoesWithKept tags tag found woken old new
+      with_kept_still found above g = let k = r.same.kept in record {
+        between = g.between;
+        looked = g.looked;
+        gives = with_told above g.gives;
+        none = none_still g.none;
+        terms = terms_twice g.terms k.terms;
+        reused = k.reused ∙ g.reused;
+      }
+
+      ordinary_still : reserved_of tags ≤ tag → 1 ≤ woken → GoesOrdinary tags tag woken old mid
+          → GoesOrdinary tags tag woken old new
+      ordinary_still above some g = ⊎_elim
+          (λ (k : KeptUnseen tag woken old mid). let none = k.none in absurd (omega arith))
+          (λ rest. inr (⊎_elim
+          (λ (i : KeptInstead tags tag woken old mid). inl (record {
+            between = i.between;
+            looked = i.looked;
+            full = i.full;
+            can = i.can;
+            gives = kept_still tags i.between mid.hand new.hand r.hand woken old some i.gives;
+            only = only_still tag old i.only;
+          }))
+          (λ rest. inr (⊎_elim
+          (λ (a : GoesAlone tags tag woken old mid). inl (record {
+            between = a.between;
+            looked = a.looked;
+            never = a.never;
+            gives = one_still tags a.between mid.hand new.hand r.hand tag woken above
+                (sym a.gives.clears.set.split ∙ own.2) a.gives;
+            kept = keeps_twice old mid new a.kept r.same.kept;
+          }))
+          (λ rest. inr (⊎_elim
+          (λ (a : GoesWithAll tags tag woken old mid). inl (record {
+            found = a.found;
+            some = a.some;
+            gives = with_kept_still a.found above a.gives;
+          }))
+          (λ (l : GoesLast tags tag woken old mid). inr (record {
+            last = l.last;
+            gives = with_kept_still 0 above l.gives;
+          }))
+          rest)) rest)) rest)) g
+
+      pub goes_told : Goes tags tag woken old mid → Goes tags tag woken old new
+      goes_told g = either (λ (x : Cache R). Goes tags tag woken old x) g (λ some b. ⊎_elim
+          (λ (o : (reserved_of tags ≤ tag) × GoesOrdinary tags tag woken old mid).
+          inl (o.0, ordinary_still o.0 some o.1))
+          (λ (x : GoesReserved tags tag woken old mid). absurd (reserved_tells some x)) b)
+        where
+          reserved_tells : 1 ≤ woken → ¬ (GoesReserved tags tag woken old mid)
+          reserved_tells some x = let none = reserved_woken tags tag woken old.hand mid.hand x.reserved x.gives in
+              omega arith
+
+    -- the kept tags went back, and then a list
+    pub both_told : (list : List ℕ) (sooner later : ℕ) (between : Cache R)
+        → GivesKept tags sooner old old.hand between.hand → KeepsNone between → SameTerms old between
+        → reused_of between ≡ reused_of old → GivesList tags list later between.hand mid.hand → KeepsSame between mid
+        → (told : ℕ) → told ≡ sooner + later → GivesKeptAndList tags list told old new
+    both_told list sooner later between kept none terms reused gives keeps told sum =
+        let k = keeps_twice between mid new keeps r.same.kept in record {
+          between = between.hand;
+          sooner = sooner;
+          kept = kept;
+          later = later;
+          gives = list_still tags between.hand mid.hand new.hand r.hand list later gives;
+          woken_is = sum;
+          none = none_after between new none k;
+          terms = terms_twice terms k.terms;
+          reused = k.reused ∙ reused;
+        }

@@ -1,0 +1,57 @@
+-- The kept tags go first, and then the list; telling makes no step.
+use Rattle.std.proofs.Common.{◌∙◌, refl}
+use Rattle.tag_queue.proofs.Granted.{granted_since}
+use Rattle.tag_sets.specs.Hands.{group_steps}
+use Rattle.tag_cache.proofs.Carrying.{own_after, same_fields}
+use Rattle.tag_cache.proofs.Giving.{flushed, list_few}
+use Rattle.tag_cache.proofs.Listing.{all_still}
+use Rattle.tag_cache.proofs.Told.{both_told}
+use Rattle.tag_cache.proofs.cache.Cache.give_back_kept_and_list.Goals as goal
+
+pub leave-sooner-requires-clause-left : goal.leave-sooner-requires-clause-left
+leave-sooner-requires-clause-left g c = λ other i. ((c.requires.left other).0 i).0
+
+pub clear_batch_held-later-requires-clause-held : goal.clear_batch_held-later-requires-clause-held
+clear_batch_held-later-requires-clause-held g c = let e = c.leave-sooner.ensures in let mid = c.leave-sooner.new.self in
+    let held = all_still c.args.self.now mid c.args.list.now
+    (flushed c.args.tags.now c.args.self.now mid c.leave-sooner.result.woken e.gives e.none) c.requires.held.0 in
+    ((λ k d l. (held k d l).0), c.requires.held.1)
+
+pub invariant_of-self-clause-own : goal.invariant_of-self-clause-own
+invariant_of-self-clause-own g c = λ other i. absurd (c.leave-sooner.ensures.none other i)
+
+pub invariant_of-self-clause-loans : goal.invariant_of-self-clause-loans
+invariant_of-self-clause-loans g c = let mid = c.leave-sooner.new.self in let e = c.clear_batch_held-later.ensures in
+    own_after c.args.tags.now mid.first mid.lent mid.hand c.clear_batch_held-later.new.hand
+    c.leave-sooner.ensures.cache e.hand mid.loans (λ other h i. (e.gives.less.kept other
+    (λ inside. ((c.requires.left other).0 ((c.leave-sooner.ensures.loans other).0 i)).1 inside) h).0)
+
+pub both-requires-clause-few : goal.both-requires-clause-few
+both-requires-clause-few g c = let e = c.clear_batch_held-later.ensures in (
+  c.leave-sooner.ensures.few,
+  list_few c.args.tags.now c.args.list.now c.clear_batch_held-later.result.woken c.leave-sooner.new.self.hand
+      c.clear_batch_held-later.new.hand (record { gives = e.gives; back = e.back; counts = e.counts }),
+)
+
+pub both-requires-clause-sums : goal.both-requires-clause-sums
+both-requires-clause-sums g c = (c.leave-sooner.ensures.grants.sum_is, c.clear_batch_held-later.ensures.tells.sum_is)
+
+pub returns-clause-gives : goal.returns-clause-gives
+returns-clause-gives g c = let s = c.leave-sooner.ensures in let e = c.clear_batch_held-later.ensures in
+    let t = c.tell.ensures in both_told c.both.result.woken _ c.tell.new.self
+    (record { none = t.none; hand = t.hand; same = t.same }) c.args.tags.now c.args.self.now c.args.list.now
+    c.leave-sooner.result.woken c.clear_batch_held-later.result.woken c.leave-sooner.new.self s.gives s.none s.terms
+    s.reused (record { gives = e.gives; back = e.back; counts = e.counts })
+    (same_fields c.leave-sooner.new.self _ refl refl refl refl refl) _ (t.woken ∙ c.both.ensures.woken)
+
+pub returns-clause-tells : goal.returns-clause-tells
+returns-clause-tells g c = λ before none. c.tell.ensures.tells before (granted_since c.both.result _
+    (group_steps c.args.self.now.hand) _ none (c.both.ensures.grants (group_steps c.args.self.now.hand)
+    (group_steps c.leave-sooner.new.self.hand) (group_steps c.clear_batch_held-later.new.hand)
+    c.leave-sooner.ensures.grants c.clear_batch_held-later.ensures.tells))
+
+pub returns-clause-loans : goal.returns-clause-loans
+returns-clause-loans g c = let told = c.tell.ensures.same.window.loans in λ other. (
+  (λ l. (c.requires.left other).0 ((c.leave-sooner.ensures.loans other).0 ((told other).0 l))),
+  (λ l. (told other).1 ((c.leave-sooner.ensures.loans other).1 ((c.requires.left other).1 l))),
+)

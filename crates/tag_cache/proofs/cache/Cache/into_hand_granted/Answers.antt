@@ -1,7 +1,0 @@
--- After the flush nothing is kept.
-use Rattle.tag_cache.proofs.Carrying.{left_with}
-use Rattle.tag_cache.proofs.cache.Cache.into_hand_granted.Goals as goal
-
-pub returns-clause-left : goal.returns-clause-left
-returns-clause-left g c = left_with c.args.self c.flush_granted-grants.new.self c.flush_granted-grants.ensures.same
-    c.flush_granted-grants.ensures.none
