@@ -1,6 +1,6 @@
 -- What the calls of a cache check, in order, and what they answer if a check fails, where that is not what the calls of its
 -- hand check.
-use Rattle.std.specs.Prelude.{◌≡◌, ◌≢◌, ℕ, ◌<◌, ◌≤◌, List, [], ◌∷◌, All, None}
+use Rattle.std.specs.Prelude.{◌≡◌, ℕ, ◌<◌, ◌≤◌, List, [], ◌∷◌, All, None}
 use Rattle.refusals.specs.Refusals.{Checks}
 use Rattle.tag_queue.specs.Masks.{tags_in}
 use Rattle.tag_sets.specs.declared.fault.TagFault.{TagFault}

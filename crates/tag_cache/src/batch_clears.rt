@@ -1,15 +1,14 @@
 //! Clears of several ordinary tags at once.
-ghost use Rattle.std.specs.Prelude.{◌≡◌, ◌≢◌, ◌↔◌, ℕ, length, All, Contains, IfOk, IsOk, OnOk, OnErr, IsTrue};
+ghost use Rattle.std.specs.Prelude.{◌≢◌, ◌↔◌, ℕ, All, Contains, IsTrue};
 ghost use Rattle.tag_sets.specs.Batches.{CountsTags, AreOrdinary};
 ghost use Rattle.tag_sets.specs.Hands.{waiter_of};
 ghost use Rattle.tag_sets.specs.declared.hand.Hand.{Hand};
 ghost use Rattle.tag_cache.specs.Windows.{IsIn};
 ghost use Rattle.tag_cache.specs.Batches.{AreHeldOnce, GivesKeptAndList, ListGoes};
 ghost use Rattle.tag_cache.specs.Caches.{IsCacheOf, IsKept, IsLent, hand_of};
-ghost use Rattle.tag_cache.specs.Changes.{IsUnchanged, LendsNoneOf};
-ghost use Rattle.tag_cache.specs.Holding.{HoldsLess};
+ghost use Rattle.tag_cache.specs.Changes.{LendsNoneOf};
 ghost use Rattle.tag_cache.specs.Rings.{GrantsNone};
-ghost use Rattle.tag_cache.specs.Tallies.{Tallies};
+ghost use Rattle.tag_cache.specs.Calls.{DoesClearBatch};
 
 use crate::cache::{Cache, WINDOW};
 use crate::grants::both;
@@ -29,22 +28,7 @@ impl<R: Copy> Cache<R> {
     ) -> Result<W::Answer, TagFault>
         requires { IsCacheOf tags.now self.old }
         ensures cache { IsCacheOf tags.now self.new }
-
-        // The causes are checked in this order, each for the whole list.
-        ensures bad_count { (result ≡ Err TagFault.BadCount) ↔ ¬ (CountsTags list.now) }
-        ensures no_such_tag { (result ≡ Err TagFault.NoSuchTag) ↔ (CountsTags list.now × ¬ (AreOrdinary tags.now list.now)) }
-        ensures not_held { (result ≡ Err TagFault.NotHeld)
-            ↔ (CountsTags list.now × AreOrdinary tags.now list.now × ¬ (AreHeldOnce self.old list.now)) }
-        ensures succeeds { IsOk result
-            ↔ (CountsTags list.now × AreOrdinary tags.now list.now × AreHeldOnce self.old list.now) }
-        ensures less { OnOk result (HoldsLess (Contains list.now) self.old self.new) }
-        ensures way { IfOk result (λ answer.
-            ListGoes tags.now list.now (W.woken answer) self.old self.new) }
-        ensures tells { IfOk result (λ answer.
-            W.tells answer (waiter_of (hand_of self.old)) (waiter_of (hand_of self.new))) }
-        ensures loans { OnOk result (LendsNoneOf list.now self.old self.new) }
-        ensures tally { OnOk result (Tallies 0 (length list.now) self.old self.new) }
-        ensures err { OnErr result (IsUnchanged self.old self.new) }
+        ensures does { DoesClearBatch W.woken W.tells list.now tags.now result self.old self.new }
     {
         tags.check_batch(&self.hand, list)?;
         if !self.keeps_none_of(list) {

@@ -1,14 +1,17 @@
 //! Clears of one tag.
-ghost use Rattle.std.specs.Prelude.{◌≡◌, ◌⊎◌, ◌<◌, ◌≤◌, ◌↔◌, IfOk, IsOk, OnOk, OnErr};
+ghost use Rattle.std.specs.Prelude.{◌≡◌, ◌⊎◌, ◌<◌, ◌≤◌, IfOk, OnOk};
 ghost use Rattle.wake_book.specs.Grants.{AreGrantsOf};
 ghost use Rattle.tag_sets.specs.declared.hand.Hand.{Hand};
-ghost use Rattle.tag_sets.specs.Hands.{total_of, group_steps, waiter_of};
+ghost use Rattle.tag_sets.specs.Hands.{group_steps, waiter_of};
 ghost use Rattle.tag_cache.specs.Caches.{IsCacheOf, Holds, HasPlace, IsLast, IsLent, IsWithin, IsFixed, KeepsNone, LeavesWindow, hand_of, split_of, reused_of};
 ghost use Rattle.tag_cache.specs.Changes.{IsUnchanged, KeepsSame, SameTerms, SameWindow, LendsLess};
 ghost use Rattle.tag_cache.specs.Holding.{HoldsLess};
 ghost use Rattle.tag_cache.specs.Rings.{GrantsNone};
 ghost use Rattle.tag_cache.specs.Tallies.{Tallies};
 ghost use Rattle.tag_cache.specs.Clears.{Goes, GoesOrdinary, MakesRoom, GivesOne, GivesWith};
+ghost use Rattle.refusals.specs.Refusals.{RefusesBy};
+ghost use Rattle.tag_cache.specs.Refusals.{tag_checks};
+ghost use Rattle.tag_cache.specs.Calls.{DoesClear};
 
 use crate::cache::Cache;
 use crate::grants::both;
@@ -25,16 +28,7 @@ impl<R: Copy> Cache<R> {
     pub fn clear<W: Waking>(&mut self, tags: &Tags<R>, tag: u32) -> Result<W::Answer, TagFault>
         requires { IsCacheOf tags.now self.old }
         ensures cache { IsCacheOf tags.now self.new }
-        ensures no_such_tag { (result ≡ Err TagFault.NoSuchTag) ↔ (total_of tags.now ≤ tag) }
-        ensures not_held { (result ≡ Err TagFault.NotHeld) ↔ ((tag < total_of tags.now) × ¬ (Holds self.old tag)) }
-        ensures succeeds { Holds self.old tag → IsOk result }
-        ensures less { OnOk result (HoldsLess (λ other. other ≡ tag) self.old self.new) }
-        ensures way { IfOk result (λ answer. Goes tags.now tag (W.woken answer) self.old self.new) }
-        ensures tells { IfOk result (λ answer.
-            W.tells answer (waiter_of (hand_of self.old)) (waiter_of (hand_of self.new))) }
-        ensures loans { LeavesWindow tag self.old → OnOk result (LendsLess tag self.old self.new) }
-        ensures tally { OnOk result (Tallies 0 1 self.old self.new) }
-        ensures err { OnErr result (IsUnchanged self.old self.new) }
+        ensures does { DoesClear W.woken W.tells tag tags.now result self.old self.new }
     {
         if self.has_place(tag) {
             return Ok(self.keep_or_give_back_all::<W>(tags, tag));
@@ -87,16 +81,7 @@ impl<R: Copy> Cache<R> {
     fn clear_and_tell<W: Waking>(&mut self, tags: &Tags<R>, tag: u32) -> Result<W::Answer, TagFault>
         requires { IsCacheOf tags.now self.old }
         ensures cache { IsCacheOf tags.now self.new }
-        ensures no_such_tag { (result ≡ Err TagFault.NoSuchTag) ↔ (total_of tags.now ≤ tag) }
-        ensures not_held { (result ≡ Err TagFault.NotHeld) ↔ ((tag < total_of tags.now) × ¬ (Holds self.old tag)) }
-        ensures succeeds { Holds self.old tag → IsOk result }
-        ensures less { OnOk result (HoldsLess (λ other. other ≡ tag) self.old self.new) }
-        ensures way { IfOk result (λ answer. Goes tags.now tag (W.woken answer) self.old self.new) }
-        ensures tells { IfOk result (λ answer.
-            W.tells answer (waiter_of (hand_of self.old)) (waiter_of (hand_of self.new))) }
-        ensures loans { LeavesWindow tag self.old → OnOk result (LendsLess tag self.old self.new) }
-        ensures tally { OnOk result (Tallies 0 1 self.old self.new) }
-        ensures err { OnErr result (IsUnchanged self.old self.new) }
+        ensures does { DoesClear W.woken W.tells tag tags.now result self.old self.new }
     {
         let grants = self.clear_and_report(tags, tag)?;
         Ok(self.tell::<W>(tags, grants))
@@ -106,16 +91,13 @@ impl<R: Copy> Cache<R> {
     fn clear_and_report(&mut self, tags: &Tags<R>, tag: u32) -> Result<Grants, TagFault>
         requires { IsCacheOf tags.now self.old }
         ensures cache { IsCacheOf tags.now self.new }
-        ensures no_such_tag { (result ≡ Err TagFault.NoSuchTag) ↔ (total_of tags.now ≤ tag) }
-        ensures not_held { (result ≡ Err TagFault.NotHeld) ↔ ((tag < total_of tags.now) × ¬ (Holds self.old tag)) }
-        ensures succeeds { Holds self.old tag → IsOk result }
+        ensures refusals { RefusesBy (tag_checks tags.now self.old tag) (IsUnchanged self.old self.new) result }
         ensures less { OnOk result (HoldsLess (λ other. other ≡ tag) self.old self.new) }
         ensures way { IfOk result (λ grants. Goes tags.now tag grants.woken self.old self.new) }
         ensures grants { IfOk result (λ grants.
             AreGrantsOf grants (group_steps (hand_of self.old)) (group_steps (hand_of self.new))) }
         ensures loans { LeavesWindow tag self.old → OnOk result (LendsLess tag self.old self.new) }
         ensures tally { OnOk result (Tallies 0 1 self.old self.new) }
-        ensures err { OnErr result (IsUnchanged self.old self.new) }
     {
         if self.lends(tag) {
             return Ok(self.keep_or_give_back(tags, tag));
@@ -128,13 +110,10 @@ impl<R: Copy> Cache<R> {
         requires cache { IsCacheOf tags.now self.old }
         requires unlent { ¬ (IsLent self.old tag) }
         ensures cache { IsCacheOf tags.now self.new }
-        ensures no_such_tag { (result ≡ Err TagFault.NoSuchTag) ↔ (total_of tags.now ≤ tag) }
-        ensures not_held { (result ≡ Err TagFault.NotHeld) ↔ ((tag < total_of tags.now) × ¬ (Holds self.old tag)) }
-        ensures succeeds { IsOk result ↔ Holds self.old tag }
+        ensures refusals { RefusesBy (tag_checks tags.now self.old tag) (IsUnchanged self.old self.new) result }
         ensures way { IfOk result (λ grants. Goes tags.now tag grants.woken self.old self.new) }
         ensures grants { IfOk result (λ grants. AreGrantsOf grants (group_steps (hand_of self.old)) (group_steps (hand_of self.new))) }
         ensures loans { LeavesWindow tag self.old → OnOk result (LendsLess tag self.old self.new) }
-        ensures err { OnErr result (IsUnchanged self.old self.new) }
     {
         let kind = tags.find_held(&self.hand, tag)?;
         if self.keeps(tag) {

@@ -3,10 +3,10 @@ ghost use Rattle.std.specs.Prelude.{◌≡◌, ◌≤◌};
 ghost use Rattle.wake_book.specs.Grants.{AreGrantsOf};
 ghost use Rattle.tag_sets.specs.Hands.{IsHandOf, waiter_of, group_steps};
 ghost use Rattle.tag_cache.specs.Caches.{IsCacheOf, KeepsNone, hand_of, reused_of};
-ghost use Rattle.tag_cache.specs.Changes.{SameTerms, SameWindow};
-ghost use Rattle.tag_cache.specs.Holding.{HoldsSame, IsLeftWith};
-ghost use Rattle.tag_cache.specs.Tallies.{Tallies};
+ghost use Rattle.tag_cache.specs.Changes.{SameTerms};
+ghost use Rattle.tag_cache.specs.Holding.{IsLeftWith};
 ghost use Rattle.tag_cache.specs.Clears.{GivesKept};
+ghost use Rattle.tag_cache.specs.Calls.{DoesFlush};
 
 use crate::cache::Cache;
 use tag_sets::{Grants, Hand, Report, Tags, Waking};
@@ -19,16 +19,7 @@ impl<R: Copy> Cache<R> {
     pub fn flush<W: Waking>(&mut self, tags: &Tags<R>) -> W::Answer
         requires { IsCacheOf tags.now self.old }
         ensures cache { IsCacheOf tags.now self.new }
-        ensures same { HoldsSame self.old self.new }
-        ensures none { KeepsNone self.new }
-        ensures gives { GivesKept tags.now (W.woken result) self.old
-            (hand_of self.old) (hand_of self.new) }
-        ensures tells { W.tells result (waiter_of (hand_of self.old)) (waiter_of (hand_of self.new)) }
-        ensures tally { Tallies 0 0 self.old self.new }
-        ensures terms { SameTerms self.old self.new }
-        ensures reused { reused_of self.new ≡ reused_of self.old }
-        ensures window { SameWindow self.old self.new }
-        ensures few { W.woken result ≤ 8 }
+        ensures does { DoesFlush W.woken W.tells tags.now result self.old self.new }
     {
         let grants = self.give_back_kept(tags);
         self.tell::<W>(tags, grants)

@@ -1,16 +1,18 @@
 //! Gets: the calls that take tags.
-ghost use Rattle.std.specs.Prelude.{◌≡◌, ℕ, ◌<◌, ◌≤◌, ◌↔◌, IfOk, IfErr, IsOk, IsSome, OnOk, OnErr, None};
-ghost use Rattle.tag_sets.specs.Hands.{HasRoom, reserved_of, standing_of, total_of};
+ghost use Rattle.std.specs.Prelude.{◌≡◌, ◌<◌, IfOk, OnOk, None};
+ghost use Rattle.tag_sets.specs.Refusals as of_hand;
 ghost use Rattle.tag_sets.specs.Freed.{GetsAndLooks};
 ghost use Rattle.tag_sets.specs.Gets as hands;
 ghost use Rattle.tag_sets.specs.Waits as hand_waits;
-ghost use Rattle.tag_sets.specs.Gets.{IsAnswer, IsOrdinaryTag};
-ghost use Rattle.tag_sets.specs.declared.kind.Kind.TheVariants.{Ordinary, Reserved};
+ghost use Rattle.tag_sets.specs.Gets.{IsOrdinaryTag};
 ghost use Rattle.tag_cache.specs.Caches.{IsCacheOf, KeepsNone, hand_of};
-ghost use Rattle.tag_cache.specs.Changes.{IsUnchanged, KeepsSame, SameWindow, Lends};
+ghost use Rattle.tag_cache.specs.Changes.{IsUnchanged, KeepsSame, Lends};
 ghost use Rattle.tag_cache.specs.Holding.{HoldsMore};
 ghost use Rattle.tag_cache.specs.Tallies.{Tallies, answered};
 ghost use Rattle.tag_cache.specs.Gets.{Gets, WaitsFor, LendsAnswer};
+ghost use Rattle.refusals.specs.Refusals.{RefusesBy};
+ghost use Rattle.tag_cache.specs.Refusals.{get_checks, blocking_checks};
+ghost use Rattle.tag_cache.specs.Calls.{DoesGetReserved};
 
 use crate::cache::Cache;
 use std::sync::Wait;
@@ -23,11 +25,10 @@ impl<R: Copy> Cache<R> {
     pub fn get(&mut self, tags: &Tags<R>) -> Result<Option<u32>, TagFault>
         requires { IsCacheOf tags.now self.old }
         ensures cache { IsCacheOf tags.now self.new }
-        ensures spent { (result ≡ Err TagFault.Spent) ↔ (KeepsNone self.old × ¬ (HasRoom (hand_of self.old) Ordinary 1)) }
+        ensures refusals { RefusesBy (get_checks self.old) (IsUnchanged self.old self.new) result }
         ensures gets { IfOk result (λ answer. Gets tags.now answer self.old self.new) }
         ensures loans { IfOk result (λ answer. LendsAnswer answer self.old self.new) }
         ensures tally { IfOk result (λ answer. Tallies (answered answer) 0 self.old self.new) }
-        ensures err { IfErr result (λ fault. (fault ≡ TagFault.Spent) × IsUnchanged self.old self.new) }
     {
         if self.keeps_none() {
             return self.win(tags);
@@ -41,11 +42,10 @@ impl<R: Copy> Cache<R> {
         requires cache { IsCacheOf tags.now self.old }
         requires none { KeepsNone self.old }
         ensures cache { IsCacheOf tags.now self.new }
-        ensures room { IsOk result ↔ HasRoom (hand_of self.old) Ordinary 1 }
+        ensures refusals { RefusesBy (of_hand.get_checks (hand_of self.old)) (IsUnchanged self.old self.new) result }
         ensures gets { IfOk result (λ answer. GetsAndLooks (hands.Gets tags.now answer) (hand_of self.old) (hand_of self.new)) }
         ensures kept { KeepsSame self.old self.new }
         ensures loans { IfOk result (λ answer. LendsAnswer answer self.old self.new) }
-        ensures err { IfErr result (λ fault. (fault ≡ TagFault.Spent) × IsUnchanged self.old self.new) }
     {
         let Some(tag) = tags.get(&mut self.hand)? else {
             return Ok(None);
@@ -59,17 +59,7 @@ impl<R: Copy> Cache<R> {
     pub fn get_reserved(&mut self, tags: &Tags<R>) -> Result<Option<u32>, TagFault>
         requires { IsCacheOf tags.now self.old }
         ensures cache { IsCacheOf tags.now self.new }
-        ensures no_reserved { (result ≡ Err TagFault.NoReserved) ↔ (reserved_of tags.now ≡ 0) }
-        ensures spent { (result ≡ Err TagFault.Spent)
-            ↔ ((1 ≤ reserved_of tags.now) × ¬ (HasRoom (hand_of self.old) Reserved 1)) }
-        ensures succeeds { IsOk result ↔ ((1 ≤ reserved_of tags.now) × HasRoom (hand_of self.old) Reserved 1) }
-        ensures gets { IfOk result (λ answer. hands.GetsReserved tags.now answer (hand_of self.old) (hand_of self.new)) }
-        ensures more { IfOk result (λ answer. HoldsMore (IsAnswer answer) self.old self.new) }
-        ensures reserved { IfOk result (λ answer. (tag : ℕ) → IsAnswer answer tag → tag < reserved_of tags.now) }
-        ensures kept { KeepsSame self.old self.new }
-        ensures window { SameWindow self.old self.new }
-        ensures tally { IfOk result (λ answer. Tallies (answered answer) 0 self.old self.new) }
-        ensures err { OnErr result (IsUnchanged self.old self.new) }
+        ensures does { DoesGetReserved tags.now result self.old self.new }
     {
         tags.get_reserved(&mut self.hand)
     }
@@ -80,23 +70,12 @@ impl<R: Copy> Cache<R> {
     pub fn get_blocking<W: Wait>(&mut self, rt: &W, tags: &Tags<R>) -> Result<u32, TagFault>
         requires { IsCacheOf tags.now self.old }
         ensures cache { IsCacheOf tags.now self.new }
-
-        // A kept tag is never refused. The causes are checked in this order.
-        ensures refused { IfErr result (λ fault. KeepsNone self.old) }
-        ensures no_such_tag { (result ≡ Err TagFault.NoSuchTag)
-            ↔ (KeepsNone self.old × (total_of tags.now ≡ reserved_of tags.now)) }
-        ensures waiting { (result ≡ Err TagFault.Waiting)
-            ↔ (KeepsNone self.old × (reserved_of tags.now < total_of tags.now) × IsSome (standing_of (hand_of self.old))) }
-        ensures spent { (result ≡ Err TagFault.Spent) ↔ (KeepsNone self.old × (reserved_of tags.now < total_of tags.now)
-            × (standing_of (hand_of self.old) ≡ None) × ¬ (HasRoom (hand_of self.old) Ordinary 1)) }
-        ensures succeeds { KeepsNone self.old → IsOk result ↔ ((reserved_of tags.now < total_of tags.now)
-            × (standing_of (hand_of self.old) ≡ None) × HasRoom (hand_of self.old) Ordinary 1) }
+        ensures refusals { RefusesBy (blocking_checks tags.now self.old) (IsUnchanged self.old self.new) result }
         ensures more { IfOk result (λ tag. HoldsMore (λ other. other ≡ tag) self.old self.new) }
         ensures ordinary { IfOk result (λ tag. IsOrdinaryTag tags.now tag) }
         ensures waits { IfOk result (λ tag. WaitsFor tags.now tag self.old self.new) }
         ensures loans { IfOk result (λ tag. Lends tag self.old self.new) }
         ensures tally { OnOk result (Tallies 1 0 self.old self.new) }
-        ensures err { OnErr result (IsUnchanged self.old self.new) }
     {
         if self.keeps_none() {
             return self.wait_for(rt, tags);
@@ -110,18 +89,11 @@ impl<R: Copy> Cache<R> {
         requires cache { IsCacheOf tags.now self.old }
         requires none { KeepsNone self.old }
         ensures cache { IsCacheOf tags.now self.new }
-        ensures no_such_tag { (result ≡ Err TagFault.NoSuchTag) ↔ (total_of tags.now ≡ reserved_of tags.now) }
-        ensures waiting { (result ≡ Err TagFault.Waiting)
-            ↔ ((reserved_of tags.now < total_of tags.now) × IsSome (standing_of (hand_of self.old))) }
-        ensures spent { (result ≡ Err TagFault.Spent) ↔ ((reserved_of tags.now < total_of tags.now)
-            × (standing_of (hand_of self.old) ≡ None) × ¬ (HasRoom (hand_of self.old) Ordinary 1)) }
-        ensures succeeds { IsOk result ↔ ((reserved_of tags.now < total_of tags.now)
-            × (standing_of (hand_of self.old) ≡ None) × HasRoom (hand_of self.old) Ordinary 1) }
+        ensures refusals { RefusesBy (of_hand.blocking_checks tags.now (hand_of self.old)) (IsUnchanged self.old self.new) result }
         ensures gets { IfOk result (λ tag. hands.BlockingGets tags.now tag (hand_of self.old) (hand_of self.new)) }
         ensures waits { IfOk result (λ tag. hand_waits.WaitsFor tags.now tag (hand_of self.old) (hand_of self.new)) }
         ensures kept { KeepsSame self.old self.new }
         ensures loans { IfOk result (λ tag. Lends tag self.old self.new) }
-        ensures err { OnErr result (IsUnchanged self.old self.new) }
     {
         let tag = tags.get_blocking(rt, &mut self.hand)?;
         self.lend(tag);

@@ -1,5 +1,5 @@
 //! Clears of the ordinary tags of a mask, as a batch get answers it.
-ghost use Rattle.std.specs.Prelude.{◌≡◌, ◌<◌, ◌≤◌, ◌↔◌, ◌^◌, ℕ, count_ones, All, Contains, IfOk, IsOk, OnOk, OnErr};
+ghost use Rattle.std.specs.Prelude.{◌<◌, ◌≤◌, ◌↔◌, ◌^◌, ℕ, All, Contains, ⊤};
 ghost use Rattle.tag_queue.specs.Masks.{tags_in};
 ghost use Rattle.tag_sets.specs.Batches.{AreOrdinary};
 ghost use Rattle.tag_sets.specs.Hands.{waiter_of};
@@ -7,10 +7,11 @@ ghost use Rattle.tag_sets.specs.declared.hand.Hand.{Hand};
 ghost use Rattle.tag_cache.specs.Windows.{IsIn};
 ghost use Rattle.tag_cache.specs.Batches.{GivesKeptAndList, ListGoes};
 ghost use Rattle.tag_cache.specs.Caches.{IsCacheOf, IsWithin, IsLent, Holds, hand_of};
-ghost use Rattle.tag_cache.specs.Changes.{IsUnchanged, LendsNoneOf};
-ghost use Rattle.tag_cache.specs.Holding.{HoldsLess};
+ghost use Rattle.tag_cache.specs.Changes.{LendsNoneOf};
 ghost use Rattle.tag_cache.specs.Rings.{GrantsNone};
-ghost use Rattle.tag_cache.specs.Tallies.{Tallies};
+ghost use Rattle.refusals.specs.Refusals.{RefusesBy};
+ghost use Rattle.tag_cache.specs.Refusals.{mask_checks};
+ghost use Rattle.tag_cache.specs.Calls.{DoesClearMask};
 
 use crate::cache::{Cache, WINDOW};
 use crate::grants::both;
@@ -32,22 +33,7 @@ impl<R: Copy> Cache<R> {
     ) -> Result<W::Answer, TagFault>
         requires { IsCacheOf tags.now self.old }
         ensures cache { IsCacheOf tags.now self.new }
-
-        // The causes are checked in this order, each for the whole mask.
-        ensures bad_count { (result ≡ Err TagFault.BadCount) ↔ (mask ≡ 0) }
-        ensures no_such_tag { (result ≡ Err TagFault.NoSuchTag) ↔ ¬ (AreOrdinary tags.now (tags_in first mask)) }
-        ensures not_held { (result ≡ Err TagFault.NotHeld)
-            ↔ (AreOrdinary tags.now (tags_in first mask) × ¬ (All (Holds self.old) (tags_in first mask))) }
-        ensures succeeds { IsOk result
-            ↔ ((1 ≤ mask) × AreOrdinary tags.now (tags_in first mask) × All (Holds self.old) (tags_in first mask)) }
-        ensures less { OnOk result (HoldsLess (Contains (tags_in first mask)) self.old self.new) }
-        ensures way { IfOk result (λ answer.
-            ListGoes tags.now (tags_in first mask) (W.woken answer) self.old self.new) }
-        ensures tells { IfOk result (λ answer.
-            W.tells answer (waiter_of (hand_of self.old)) (waiter_of (hand_of self.new))) }
-        ensures loans { OnOk result (LendsNoneOf (tags_in first mask) self.old self.new) }
-        ensures tally { OnOk result (Tallies 0 (count_ones mask) self.old self.new) }
-        ensures err { OnErr result (IsUnchanged self.old self.new) }
+        ensures does { DoesClearMask W.woken W.tells first mask tags.now result self.old self.new }
     {
         self.check_mask(tags, first, mask)?;
         Ok(self.give_back_mask::<W>(tags, first, mask))
@@ -57,14 +43,7 @@ impl<R: Copy> Cache<R> {
     #[inline]
     fn check_mask(&self, tags: &Tags<R>, first: u32, mask: u64) -> Result<(), TagFault>
         requires { IsCacheOf tags.now self.now }
-
-        // The causes are checked in this order, each for the whole mask.
-        ensures bad_count { (result ≡ Err TagFault.BadCount) ↔ (mask ≡ 0) }
-        ensures no_such_tag { (result ≡ Err TagFault.NoSuchTag) ↔ ¬ (AreOrdinary tags.now (tags_in first mask)) }
-        ensures not_held { (result ≡ Err TagFault.NotHeld)
-            ↔ (AreOrdinary tags.now (tags_in first mask) × ¬ (All (Holds self.now) (tags_in first mask))) }
-        ensures succeeds { IsOk result
-            ↔ ((1 ≤ mask) × AreOrdinary tags.now (tags_in first mask) × All (Holds self.now) (tags_in first mask)) }
+        ensures refusals { RefusesBy (mask_checks tags.now self.now first mask) ⊤ result }
     {
         tags.check_mask(&self.hand, first, mask)?;
         if self.kept & self.inside(first, mask) != 0 {

@@ -1,7 +1,6 @@
 //! Shallow gets.
-ghost use Rattle.std.specs.Prelude.{◌≡◌, ◌<◌, ◌≤◌, ◌↔◌, IfOk, IsOk, OnErr};
-ghost use Rattle.tag_sets.specs.declared.kind.Kind.TheVariants.{Ordinary};
-ghost use Rattle.tag_sets.specs.Hands.{HasRoom, least_of};
+ghost use Rattle.std.specs.Prelude.{◌<◌, IfOk};
+ghost use Rattle.tag_sets.specs.Refusals as of_hand;
 ghost use Rattle.tag_sets.specs.Freed.{GetsAndLooks};
 ghost use Rattle.tag_sets.specs.Gets as hands;
 ghost use Rattle.tag_sets.specs.Gets.{IsAnswer};
@@ -9,6 +8,7 @@ ghost use Rattle.tag_cache.specs.Caches.{IsCacheOf, hand_of};
 ghost use Rattle.tag_cache.specs.Changes.{IsUnchanged, KeepsSame, SameWindow};
 ghost use Rattle.tag_cache.specs.Holding.{HoldsMore};
 ghost use Rattle.tag_cache.specs.Tallies.{Tallies, answered};
+ghost use Rattle.refusals.specs.Refusals.{RefusesBy};
 
 use crate::cache::Cache;
 use tag_sets::{TagFault, Tags};
@@ -20,19 +20,13 @@ impl<R: Copy> Cache<R> {
     pub fn get_shallow(&mut self, tags: &Tags<R>, depth: u32) -> Result<Option<u32>, TagFault>
         requires { IsCacheOf tags.now self.old }
         ensures cache { IsCacheOf tags.now self.new }
-
-        // The depth is checked first.
-        ensures too_shallow { (result ≡ Err TagFault.TooShallow) ↔ (depth < least_of tags.now) }
-        ensures spent { (result ≡ Err TagFault.Spent)
-            ↔ ((least_of tags.now ≤ depth) × ¬ (HasRoom (hand_of self.old) Ordinary 1)) }
-        ensures succeeds { IsOk result ↔ ((least_of tags.now ≤ depth) × HasRoom (hand_of self.old) Ordinary 1) }
+        ensures refusals { RefusesBy (of_hand.shallow_checks tags.now (hand_of self.old) depth) (IsUnchanged self.old self.new) result }
         ensures gets { IfOk result (λ answer.
             GetsAndLooks (hands.GetsShallow tags.now depth answer) (hand_of self.old) (hand_of self.new)) }
         ensures more { IfOk result (λ answer. HoldsMore (IsAnswer answer) self.old self.new) }
         ensures kept { KeepsSame self.old self.new }
         ensures window { SameWindow self.old self.new }
         ensures tally { IfOk result (λ answer. Tallies (answered answer) 0 self.old self.new) }
-        ensures err { OnErr result (IsUnchanged self.old self.new) }
     {
         tags.get_shallow(&mut self.hand, depth)
     }

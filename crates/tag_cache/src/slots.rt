@@ -1,13 +1,16 @@
 //! The slots of held tags, and how tags pass from thread to thread.
-ghost use Rattle.std.specs.Prelude.{◌≡◌, ◌⊎◌, ℕ, ◌<◌, ◌≤◌, ◌↔◌, IfOk, IfErr, IsOk, OnOk, OnErr};
+ghost use Rattle.std.specs.Prelude.{◌≡◌, ◌⊎◌, ◌<◌, OnOk, ⊤};
 ghost use mathlib.Core.Option.{some};
-ghost use Rattle.tag_sets.specs.Hands.{total_of, waiter_of};
+ghost use Rattle.tag_sets.specs.Hands.{waiter_of};
 ghost use Rattle.tag_sets.specs.Slots as hands;
 ghost use Rattle.tag_cache.specs.Caches.{IsCacheOf, IsLast, IsLent, KeepsNone, Holds, slot_of, hand_of};
-ghost use Rattle.tag_cache.specs.Changes.{IsUnchanged, KeepsSame, SameTerms, SameWindow, LendsLess};
-ghost use Rattle.tag_cache.specs.Holding.{HoldsLess, HoldsMore, HoldsSame, Writes};
+ghost use Rattle.tag_cache.specs.Changes.{IsUnchanged, KeepsSame, SameWindow};
+ghost use Rattle.tag_cache.specs.Holding.{Writes};
 ghost use Rattle.tag_cache.specs.Slots.{Passes, PassesAlone, PostsLast};
 ghost use Rattle.tag_cache.specs.Tallies.{Tallies};
+ghost use Rattle.refusals.specs.Refusals.{RefusesBy};
+ghost use Rattle.tag_cache.specs.Refusals.{tag_checks};
+ghost use Rattle.tag_cache.specs.Calls.{DoesRead, DoesWrite, DoesPost, DoesTake};
 
 use crate::cache::Cache;
 use tag_sets::{TagFault, Tags, Waking};
@@ -19,15 +22,7 @@ impl<R: Copy> Cache<R> {
     pub fn read(&mut self, tags: &Tags<R>, tag: u32) -> Result<R, TagFault>
         requires { IsCacheOf tags.now self.old }
         ensures cache { IsCacheOf tags.now self.new }
-        ensures no_such_tag { (result ≡ Err TagFault.NoSuchTag) ↔ (total_of tags.now ≤ tag) }
-        ensures not_held { (result ≡ Err TagFault.NotHeld) ↔ ((tag < total_of tags.now) × ¬ (Holds self.old tag)) }
-        ensures succeeds { Holds self.old tag → IsOk result }
-        ensures value { IfOk result (λ value. slot_of self.old tag ≡ some value) }
-        ensures reads { IfOk result (λ value. hands.Reads tag value (hand_of self.old) (hand_of self.new)) }
-        ensures same { OnOk result (HoldsSame self.old self.new) }
-        ensures kept { KeepsSame self.old self.new }
-        ensures window { SameWindow self.old self.new }
-        ensures err { OnErr result (IsUnchanged self.old self.new) }
+        ensures does { DoesRead tag tags.now result self.old self.new }
     {
         if self.lends(tag) {
             return Ok(self.read_lent(tags, tag));
@@ -44,15 +39,7 @@ impl<R: Copy> Cache<R> {
     pub fn write(&mut self, tags: &Tags<R>, tag: u32, value: R) -> Result<R, TagFault>
         requires { IsCacheOf tags.now self.old }
         ensures cache { IsCacheOf tags.now self.new }
-        ensures no_such_tag { (result ≡ Err TagFault.NoSuchTag) ↔ (total_of tags.now ≤ tag) }
-        ensures not_held { (result ≡ Err TagFault.NotHeld) ↔ ((tag < total_of tags.now) × ¬ (Holds self.old tag)) }
-        ensures succeeds { Holds self.old tag → IsOk result }
-        ensures former { IfOk result (λ former. slot_of self.old tag ≡ some former) }
-        ensures writes { OnOk result (Writes tag value self.old self.new) }
-        ensures hand { OnOk result (hands.Writes tag value (hand_of self.old) (hand_of self.new)) }
-        ensures kept { KeepsSame self.old self.new }
-        ensures window { SameWindow self.old self.new }
-        ensures err { OnErr result (IsUnchanged self.old self.new) }
+        ensures does { DoesWrite tag value tags.now result self.old self.new }
     {
         if self.lends(tag) {
             return Ok(self.write_lent(tags, tag, value));
@@ -65,9 +52,7 @@ impl<R: Copy> Cache<R> {
     #[inline(never)]
     fn check_unlent(&self, tags: &Tags<R>, tag: u32) -> Result<(), TagFault>
         requires { IsCacheOf tags.now self.now }
-        ensures no_such_tag { (result ≡ Err TagFault.NoSuchTag) ↔ (total_of tags.now ≤ tag) }
-        ensures not_held { (result ≡ Err TagFault.NotHeld) ↔ ((tag < total_of tags.now) × ¬ (Holds self.now tag)) }
-        ensures succeeds { IsOk result ↔ Holds self.now tag }
+        ensures refusals { RefusesBy (tag_checks tags.now self.now tag) ⊤ result }
     {
         let _ = tags.find_held(&self.hand, tag)?;
         if self.keeps(tag) {
@@ -99,22 +84,7 @@ impl<R: Copy> Cache<R> {
     pub fn post<W: Waking>(&mut self, tags: &Tags<R>, tag: u32) -> Result<W::Answer, TagFault>
         requires { IsCacheOf tags.now self.old }
         ensures cache { IsCacheOf tags.now self.new }
-        ensures no_such_tag { (result ≡ Err TagFault.NoSuchTag) ↔ (total_of tags.now ≤ tag) }
-        ensures not_held { (result ≡ Err TagFault.NotHeld) ↔ ((tag < total_of tags.now) × ¬ (Holds self.old tag)) }
-        ensures succeeds { Holds self.old tag → IsOk result }
-        ensures less { OnOk result (HoldsLess (λ other. other ≡ tag) self.old self.new) }
-        ensures kept { ¬ (IsLast tag self.old) → KeepsSame self.old self.new }
-        ensures posts { ¬ (IsLast tag self.old) → OnOk result (hands.Posts tag (hand_of self.old) (hand_of self.new)) }
-        ensures last { IsLast tag self.old → OnOk result (KeepsNone self.new) }
-        ensures flushes { IsLast tag self.old
-            → IfOk result (λ answer. PostsLast tags.now tag (W.woken answer) self.old self.new) }
-        ensures nobody { ¬ (IsLast tag self.old) → IfOk result (λ answer. W.woken answer ≡ 0) }
-        ensures tells { IfOk result (λ answer.
-            W.tells answer (waiter_of (hand_of self.old)) (waiter_of (hand_of self.new))) }
-        ensures terms { SameTerms self.old self.new }
-        ensures loans { OnOk result (LendsLess tag self.old self.new) }
-        ensures tally { Tallies 0 0 self.old self.new }
-        ensures err { OnErr result (IsUnchanged self.old self.new) }
+        ensures does { DoesPost W.woken W.tells tag tags.now result self.old self.new }
     {
         if self.lends(tag) {
             return Ok(self.post_lent::<W>(tags, tag));
@@ -128,14 +98,11 @@ impl<R: Copy> Cache<R> {
         requires cache { IsCacheOf tags.now self.old }
         requires unlent { ¬ (IsLent self.old tag) }
         ensures cache { IsCacheOf tags.now self.new }
-        ensures no_such_tag { (result ≡ Err TagFault.NoSuchTag) ↔ (total_of tags.now ≤ tag) }
-        ensures not_held { (result ≡ Err TagFault.NotHeld) ↔ ((tag < total_of tags.now) × ¬ (Holds self.old tag)) }
-        ensures succeeds { Holds self.old tag → IsOk result }
+        ensures refusals { RefusesBy (tag_checks tags.now self.old tag) (IsUnchanged self.old self.new) result }
         ensures passes { OnOk result (Passes tag self.old self.new) }
         ensures flushes { IsLast tag self.old → OnOk result (PostsLast tags.now tag 0 self.old self.new) }
         ensures waiter { OnOk result (waiter_of (hand_of self.new) ≡ waiter_of (hand_of self.old)) }
         ensures tally { Tallies 0 0 self.old self.new }
-        ensures err { OnErr result (IsUnchanged self.old self.new) }
     {
         if self.keeps(tag) {
             return Err(TagFault::NotHeld);
@@ -185,13 +152,7 @@ impl<R: Copy> Cache<R> {
     pub fn take(&mut self, tags: &Tags<R>, tag: u32) -> Result<(), TagFault>
         requires { IsCacheOf tags.now self.old }
         ensures cache { IsCacheOf tags.now self.new }
-        ensures no_such_tag { (result ≡ Err TagFault.NoSuchTag) ↔ (total_of tags.now ≤ tag) }
-        ensures more { OnOk result (HoldsMore (λ other. other ≡ tag) self.old self.new) }
-        ensures takes { OnOk result (hands.Takes tag (hand_of self.old) (hand_of self.new)) }
-        ensures kept { KeepsSame self.old self.new }
-        ensures window { SameWindow self.old self.new }
-        ensures refuses { IfErr result (λ fault. hands.RefusesTake tag fault (hand_of self.old) (hand_of self.new)) }
-        ensures same { OnErr result (HoldsSame self.old self.new) }
+        ensures does { DoesTake tag tags.now result self.old self.new }
     {
         tags.take(&mut self.hand, tag)
     }

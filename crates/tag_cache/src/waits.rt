@@ -1,14 +1,14 @@
 //! Waits for an ordinary tag. A thread that begins to wait keeps nothing.
-ghost use Rattle.std.specs.Prelude.{◌≡◌, ◌↔◌, IfOk, IfErr, IfSome, IfNone, IsOk, IsSome, OnOk, None};
-ghost use Rattle.tag_sets.specs.Hands.{standing_of, wait_index_of, waiter_of};
+ghost use Rattle.std.specs.Prelude.{◌≡◌, IfOk, None};
+ghost use Rattle.tag_sets.specs.Refusals as of_hand;
+ghost use Rattle.tag_sets.specs.Hands.{standing_of, wait_index_of};
 ghost use Rattle.tag_sets.specs.Waits as hands;
-ghost use Rattle.tag_sets.specs.Waits.{Leaves, StandsOn};
+ghost use Rattle.tag_sets.specs.Waits.{Leaves};
 ghost use Rattle.tag_cache.specs.Caches.{IsCacheOf, hand_of};
-ghost use Rattle.tag_cache.specs.Changes.{IsUnchanged, SameTerms, SameWindow};
-ghost use Rattle.tag_cache.specs.Holding.{HoldsSame};
+ghost use Rattle.tag_cache.specs.Changes.{IsUnchanged};
 ghost use Rattle.tag_cache.specs.Same.{SameTags};
-ghost use Rattle.tag_cache.specs.Tallies.{Tallies};
-ghost use Rattle.tag_cache.specs.Waits.{Enters};
+ghost use Rattle.refusals.specs.Refusals.{RefusesBy};
+ghost use Rattle.tag_cache.specs.Calls.{DoesPrepare, DoesFinish};
 
 use crate::cache::Cache;
 use std::sync::Wait;
@@ -21,15 +21,7 @@ impl<R: Copy> Cache<R> {
     pub fn prepare_wait<W: Waking>(&mut self, tags: &Tags<R>) -> Result<(u32, W::Answer), TagFault>
         requires { IsCacheOf tags.now self.old }
         ensures cache { IsCacheOf tags.now self.new }
-        ensures out { IsOk result ↔ (standing_of (hand_of self.old) ≡ None) }
-        ensures enters { IfOk result (λ found. Enters tags.now found.0 self.old self.new) }
-        ensures tells { IfOk result (λ found.
-            W.tells found.1 (waiter_of (hand_of self.old)) (waiter_of (hand_of self.new))) }
-        ensures same { HoldsSame self.old self.new }
-        ensures tally { Tallies 0 0 self.old self.new }
-        ensures terms { SameTerms self.old self.new }
-        ensures window { SameWindow self.old self.new }
-        ensures err { IfErr result (λ fault. (fault ≡ TagFault.Waiting) × IsUnchanged self.old self.new) }
+        ensures does { DoesPrepare W.tells tags.now result self.old self.new }
     {
         if self.hand.is_waiting() {
             return Err(TagFault::Waiting);
@@ -58,12 +50,11 @@ impl<R: Copy> Cache<R> {
     pub fn finish_wait<W: Wait>(&mut self, rt: &W, tags: &Tags<R>) -> Result<Left, TagFault>
         requires { IsCacheOf tags.now self.old }
         ensures cache { IsCacheOf tags.now self.new }
-        ensures stands { IsOk result ↔ IsSome (standing_of (hand_of self.old)) }
+        ensures refusals { RefusesBy (of_hand.leave_checks (hand_of self.old)) (IsUnchanged self.old self.new) result }
         ensures leaves { IfOk result (λ left. Leaves left (hand_of self.old) (hand_of self.new)) }
         ensures out { standing_of (hand_of self.new) ≡ None }
         ensures next { wait_index_of (hand_of self.new) ≡ wait_index_of (hand_of self.old) }
         ensures same { SameTags self.old self.new }
-        ensures err { IfErr result (λ fault. (fault ≡ TagFault.NotWaiting) × IsUnchanged self.old self.new) }
     {
         tags.finish_wait(rt, &mut self.hand)
     }
@@ -73,13 +64,7 @@ impl<R: Copy> Cache<R> {
     pub fn try_finish_wait(&mut self, tags: &Tags<R>) -> Result<Option<Left>, TagFault>
         requires { IsCacheOf tags.now self.old }
         ensures cache { IsCacheOf tags.now self.new }
-        ensures stands { IsOk result ↔ IsSome (standing_of (hand_of self.old)) }
-        ensures leaves { IfOk result (λ answer. IfSome answer (λ left. Leaves left (hand_of self.old) (hand_of self.new))) }
-        ensures out { IfOk result (λ answer. IfSome answer (λ _. standing_of (hand_of self.new) ≡ None)) }
-        ensures stays { IfOk result (λ answer. IfNone answer (StandsOn (hand_of self.old) (hand_of self.new))) }
-        ensures next { wait_index_of (hand_of self.new) ≡ wait_index_of (hand_of self.old) }
-        ensures same { SameTags self.old self.new }
-        ensures err { IfErr result (λ fault. (fault ≡ TagFault.NotWaiting) × IsUnchanged self.old self.new) }
+        ensures does { DoesFinish result self.old self.new }
     {
         tags.try_finish_wait(&mut self.hand)
     }
