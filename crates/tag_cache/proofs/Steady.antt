@@ -1,5 +1,5 @@
 -- What a call of the hand leaves as it is that neither wins tags nor gives any back.
-use Rattle.std.proofs.Common.{arith, ◌≡◌, ℕ, suc, ◌+◌, Option, Some, None, List, [], ◌∷◌, Result, Ok, Err, IfOk, IfErr, IfSome, IfNone, refl, sym, ap, ◌∙◌, subst}
+use Rattle.std.proofs.Common.{arith, ◌≡◌, ℕ, suc, ◌+◌, Option, Some, None, List, [], ◌∷◌, Result, Ok, Err, IfOk, OnErr, IfSome, IfNone, refl, sym, ap, ◌∙◌, subst}
 use Rattle.tag_layout.specs.Layout.{Layout}
 use Rattle.tag_core.specs.declared.record.Record.{Record}
 use Rattle.tag_core.specs.declared.step.Step.TheVariants.{Word}
@@ -10,7 +10,6 @@ use Rattle.tag_search.specs.Shared.{record_after_all}
 use Rattle.wake_book.specs.declared.waiting.Left.{Left}
 use Rattle.tag_queue.specs.declared.agent.Agent.{Agent}
 use Rattle.tag_sets.specs.declared.fault.TagFault.{TagFault}
-use Rattle.tag_sets.specs.declared.fault.TagFault.TheVariants.{Waiting, NotWaiting}
 use Rattle.tag_queue.specs.Agents as queue
 use Rattle.tag_queue.specs.Freed as queue_freed
 use Rattle.tag_queue.specs.Waits as queue_waits
@@ -111,9 +110,9 @@ module _ {R : Type 0} where
   }
 
   pub prepare_rests : (a b : Hand R) (r : Result ℕ TagFault) → IfOk r (λ group. hand_waits.Enters group a b)
-      → IfErr r (λ fault. (fault ≡ Waiting) × (b ≡ a)) → Rests a b
+      → OnErr r (b ≡ a) → Rests a b
   prepare_rests a b (Ok group) n e = enters_rests group a b n
-  prepare_rests a b (Err fault) n e = rests_unchanged a b e.1
+  prepare_rests a b (Err fault) n e = rests_unchanged a b e
 
   leaves_rests : (left : Left) (a b : Hand R) → hand_waits.Leaves left a b → Rests a b
   leaves_rests left a b e = record {
@@ -128,17 +127,17 @@ module _ {R : Type 0} where
   }
 
   pub finish_rests : (a b : Hand R) (r : Result Left TagFault) → IfOk r (λ left. hand_waits.Leaves left a b)
-      → IfErr r (λ fault. (fault ≡ NotWaiting) × (b ≡ a)) → Rests a b
+      → OnErr r (b ≡ a) → Rests a b
   finish_rests a b (Ok left) l e = leaves_rests left a b l
-  finish_rests a b (Err fault) l e = rests_unchanged a b e.1
+  finish_rests a b (Err fault) l e = rests_unchanged a b e
 
   pub try_rests : (a b : Hand R) (r : Result (Option Left) TagFault)
       → IfOk r (λ answer. IfSome answer (λ left. hand_waits.Leaves left a b))
       → IfOk r (λ answer. IfNone answer (hand_waits.StandsOn a b))
-      → IfErr r (λ fault. (fault ≡ NotWaiting) × (b ≡ a)) → Rests a b
+      → OnErr r (b ≡ a) → Rests a b
   try_rests a b (Ok (Some left)) l s e = leaves_rests left a b l
   try_rests a b (Ok None) l s e = stands_rests a b s
-  try_rests a b (Err fault) l s e = rests_unchanged a b e.1
+  try_rests a b (Err fault) l s e = rests_unchanged a b e
 
   -- what is the cache's own stays so
   pub own_rests : (tags : Tags R) (first mask : ℕ) (a b : Hand R) → hands.IsHandOf tags a → hands.IsHandOf tags b

@@ -2,10 +2,11 @@
 use Rattle.std.proofs.Common.{rules, refl, sym, subst}
 use Rattle.tag_sets.specs.declared.hand.Hand.{Hand}
 use Rattle.tag_sets.specs.Hands.{IsHandOf}
-use Rattle.tag_cache.proofs.Carrying.{not_ok, owns_but, post_still}
+use Rattle.tag_cache.proofs.Carrying.{owns_but, post_still}
 use Rattle.tag_cache.proofs.Passing.{forgotten_passes, posts_moves}
 use Rattle.tag_cache.proofs.Reusing.{held_still, lent_held}
 use Rattle.tag_cache.proofs.Tallying.{moves_tallies, tallies_on, unchanged_tallies}
+use Rattle.tag_cache.proofs.Below.{held_passes}
 use Rattle.tag_cache.proofs.cache.Cache.post_alone.Goals as goal
 
 pub post-requires : goal.post-requires
@@ -15,9 +16,9 @@ post-requires g c = record {
 }
 
 pub unreachable-requires : goal.unreachable-requires
-unreachable-requires g c = not_ok c.post.result c.in_default.field-0 c.in_default.is
-    (c.post.ensures.succeeds (held_still c.args.self.now c.forget.new.self c.args.tag c.forget.ensures.same
-    (lent_held c.args.self.now c.args.tag c.requires.lent)).0)
+unreachable-requires g c = held_passes c.args.tags.now c.args.self.now.hand c.args.tag c.requires.cache
+    (lent_held c.args.self.now c.args.tag c.requires.lent).0 c.in_default.field-0
+    (search rules)
 
 pub invariant_of-self : goal.invariant_of-self
 invariant_of-self g c = let cache = c.args.self.now in let mid = c.forget.new.self in let call = c.post in
@@ -26,13 +27,13 @@ invariant_of-self g c = let cache = c.args.self.now in let mid = c.forget.new.se
     call.ensures.hand c.args.tag
     (held_still cache mid c.args.tag c.forget.ensures.same (lent_held cache c.args.tag c.requires.lent)).1
     (λ l. ((c.forget.ensures.loans c.args.tag).0 l).1 refl)
-    (post_still c.args.tag mid.hand call.new.hand call.result call.ensures.posts call.ensures.err)
+    (post_still c.args.tag mid.hand call.new.hand call.result call.ensures.does.posts call.ensures.does.refusals.same)
 
 pub returns-clause-passes : goal.returns-clause-passes
 returns-clause-passes g c = forgotten_passes c.args.tag c.args.self.now c.forget.new.self _ c.forget.ensures
-    (search rules) (search rules) c.in-Ok.ensures.posts
+    (search rules) (search rules) c.in-Ok.ensures.does.posts
 
 pub returns-clause-tally : goal.returns-clause-tally
 returns-clause-tally g c = tallies_on 0 0 c.args.self.now c.forget.new.self _
     (unchanged_tallies c.args.self.now c.forget.new.self c.forget.ensures.same)
-    (moves_tallies 0 0 c.forget.new.self _ (search rules) (posts_moves c.args.tag _ _ c.in-Ok.ensures.posts))
+    (moves_tallies 0 0 c.forget.new.self _ (search rules) (posts_moves c.args.tag _ _ c.in-Ok.ensures.does.posts))

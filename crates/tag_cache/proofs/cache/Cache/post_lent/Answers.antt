@@ -9,10 +9,10 @@ use Rattle.tag_cache.proofs.Tallying.{tallies_on}
 use Rattle.tag_cache.proofs.cache.Cache.post_lent.Goals as goal
 
 pub post_alone-requires-clause-lent : goal.post_alone-requires-clause-lent
-post_alone-requires-clause-lent g c = (c.flush-answer.ensures.window.loans c.args.tag).1 c.requires.lent
+post_alone-requires-clause-lent g c = (c.flush-answer.ensures.does.window.loans c.args.tag).1 c.requires.lent
 
 pub post_alone-requires-clause-other : goal.post_alone-requires-clause-other
-post_alone-requires-clause-other g c = inl c.flush-answer.ensures.none
+post_alone-requires-clause-other g c = inl c.flush-answer.ensures.does.none
 
 pub post_alone-requires-2-clause-other : goal.post_alone-requires-2-clause-other
 post_alone-requires-2-clause-other g c = inr
@@ -20,7 +20,7 @@ post_alone-requires-2-clause-other g c = inr
 
 pub returns-then-is_last : goal.returns-then-is_last
 returns-then-is_last g c = let old = c.args.self.now in let mid = c.flush-answer.new.self in
-    let new = c.post_alone.new.self in let e = c.flush-answer.ensures in let p = c.post_alone.ensures in
+    let new = c.post_alone.new.self in let e = c.flush-answer.ensures.does in let p = c.post_alone.ensures in
     let last = c.is_last.ensures.0 c.if-is_last.true in record {
       cache = p.cache;
       passes = passes_last c.args.tag old mid new last e.same e.none e.terms e.window p.passes;

@@ -1,6 +1,6 @@
 -- After the flush nothing is kept, and the hand is still in no wait group; telling makes no step.
 use Rattle.std.specs.Prelude.{IsSome}
-use Rattle.std.proofs.Common.{◌∙◌}
+use Rattle.std.proofs.Common.{rules, ◌∙◌}
 use Rattle.tag_sets.specs.Hands.{standing_of}
 use Rattle.tag_cache.proofs.Carrying.{not_true, same_then_same, none_after}
 use Rattle.tag_cache.proofs.Granting.{then_enters}
@@ -11,33 +11,32 @@ use Rattle.tag_cache.proofs.cache.Cache.prepare_wait.Goals as goal
 
 pub enter-group-requires-clause-out : goal.enter-group-requires-clause-out
 enter-group-requires-clause-out g c = let old = c.args.self.now in let flush = c.flush-grants in
-    stands_after c.args.tags.now flush.result.woken old old.hand flush.new.self.hand flush.ensures.gives
+    stands_after c.args.tags.now flush.result.woken old old.hand flush.new.self.hand flush.ensures.does.gives
     ∙ in_none (standing_of old.hand)
     (not_true c.is_waiting.result (IsSome (standing_of old.hand)) c.is_waiting.ensures c.if-is_waiting.false)
 
-pub returns-clause-enters : goal.returns-clause-enters
-returns-clause-enters g c = let flush = c.flush-grants in let t = c.tell.ensures in
-    enters_told flush.result.woken c.enter-group.new.self c.tell.new.self
-    (record { none = t.none; hand = t.hand; same = t.same }) c.args.tags.now c.args.self.now c.enter-group.result
-    (record {
-      woken = flush.result.woken;
-      between = flush.new.self.hand;
-      gives = flush.ensures.gives;
-      enters = c.enter-group.ensures.enters;
-      none = none_after flush.new.self c.enter-group.new.self flush.ensures.none c.enter-group.ensures.same.kept;
-    })
-
-pub returns-clause-tells : goal.returns-clause-tells
-returns-clause-tells g c = let flush = c.flush-grants in c.tell.ensures.tells c.args.self.now.hand
-    (then_enters flush.result c.enter-group.result c.args.self.now.hand flush.new.self.hand c.enter-group.new.self.hand
-    flush.ensures.tells c.enter-group.ensures.enters)
-
-pub returns-clause-same : goal.returns-clause-same
-returns-clause-same g c = let flush = c.flush-grants in let entered = c.enter-group.new.self in
-    same_then_same c.args.self.now entered c.tell.new.self (same_then_same c.args.self.now flush.new.self entered
-    flush.ensures.same c.enter-group.ensures.same.held) c.tell.ensures.same.held
-
-pub returns-clause-window : goal.returns-clause-window
-returns-clause-window g c = let flush = c.flush-grants in let entered = c.enter-group.new.self in
-    window_twice c.args.self.now entered c.tell.new.self (window_twice c.args.self.now flush.new.self entered
-    flush.ensures.window c.enter-group.ensures.same.window) c.tell.ensures.same.window
+pub returns-clause-does : goal.returns-clause-does
+returns-clause-does g c = record {
+  refusals = search rules;
+  enters = let flush = c.flush-grants in let t = c.tell.ensures in
+      enters_told flush.result.woken c.enter-group.new.self c.tell.new.self
+      (record { none = t.none; hand = t.hand; same = t.same }) c.args.tags.now c.args.self.now c.enter-group.result
+      (record {
+        woken = flush.result.woken;
+        between = flush.new.self.hand;
+        gives = flush.ensures.does.gives;
+        enters = c.enter-group.ensures.enters;
+        none = none_after flush.new.self c.enter-group.new.self flush.ensures.does.none c.enter-group.ensures.same.kept;
+      });
+  tells = let flush = c.flush-grants in c.tell.ensures.tells c.args.self.now.hand
+      (then_enters flush.result c.enter-group.result c.args.self.now.hand flush.new.self.hand c.enter-group.new.self.hand
+      flush.ensures.does.tells c.enter-group.ensures.enters);
+  same = let flush = c.flush-grants in let entered = c.enter-group.new.self in
+      same_then_same c.args.self.now entered c.tell.new.self (same_then_same c.args.self.now flush.new.self entered
+      flush.ensures.does.same c.enter-group.ensures.same.held) c.tell.ensures.same.held;
+  tally = search rules;
+  terms = search rules;
+  window = let flush = c.flush-grants in let entered = c.enter-group.new.self in
+      window_twice c.args.self.now entered c.tell.new.self (window_twice c.args.self.now flush.new.self entered
+      flush.ensures.does.window c.enter-group.ensures.same.window) c.tell.ensures.same.window;
+}

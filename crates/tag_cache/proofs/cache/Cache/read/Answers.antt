@@ -1,26 +1,36 @@
 -- The hand keeps its tags with the values of their slots.
-use Rattle.std.proofs.Common.{arith, rules}
-use Rattle.tag_cache.proofs.Carrying.{same_on, owns, still_on}
-use Rattle.tag_cache.proofs.Below.{held_below}
+use Rattle.std.proofs.Common.{rules}
+use Rattle.tag_cache.specs.Caches.{IsKept}
+use Rattle.tag_cache.proofs.Carrying.{not_true, same_on, owns, still_on}
+use Rattle.tag_cache.proofs.Below.{unkept_refuses, held_allowed}
 use Rattle.tag_cache.proofs.Reusing.{lent_held}
 use Rattle.tag_cache.proofs.cache.Cache.read.Goals as goal
 
 pub invariant_of-self : goal.invariant_of-self
 invariant_of-self g c = let cache = c.args.self.now in let call = c.read in
     owns c.args.tags.now cache call.new.hand c.requires call.ensures.hand
-    (still_on cache.hand call.new.hand call.result _ call.ensures.reads call.ensures.err
+    (still_on cache.hand call.new.hand call.result _ call.ensures.does.reads call.ensures.does.refusals.same
     (λ value reads tag h. (reads.same.kept tag h).0))
 
-pub returns-clause-same : goal.returns-clause-same
-returns-clause-same g c = same_on c.args.self.now _ (search rules) c.args.tag c.read.result c.read.ensures.reads
+pub returns-then-lends-clause-does : goal.returns-then-lends-clause-does
+returns-then-lends-clause-does g c = let held = lent_held c.args.self.now c.args.tag (c.lends.ensures.0 c.if-lends.true) in
+    record {
+      refusals = held_allowed c.args.tags.now c.args.self.now c.args.tag c.requires held _ _;
+      value = search rules;
+      reads = search rules;
+      same = search rules;
+      kept = search rules;
+      window = search rules;
+    }
 
-pub returns-then-lends-clause-no_such_tag : goal.returns-then-lends-clause-no_such_tag
-returns-then-lends-clause-no_such_tag g c = let cache = c.args.self.now in let tag = c.args.tag in
-    let low = held_below c.args.tags.now cache.hand tag c.requires
-    (lent_held cache tag (c.lends.ensures.0 c.if-lends.true)).0 in ((λ e. cc), (λ h. absurd (omega arith)))
-
-pub returns-then-lends-clause-not_held : goal.returns-then-lends-clause-not_held
-returns-then-lends-clause-not_held g c = (
-  (λ e. cc),
-  (λ h. absurd (h.1 (lent_held c.args.self.now c.args.tag (c.lends.ensures.0 c.if-lends.true)))),
-)
+pub returns-clause-does : goal.returns-clause-does
+returns-clause-does g c = let not = not_true _ (IsKept c.args.self.now c.args.tag) c.keeps.ensures c.if-keeps.false in
+    record {
+      refusals = unkept_refuses c.args.tags.now c.args.self.now c.args.tag not c.read.result _ _ (search rules)
+          c.read.ensures.does.refusals;
+      value = search rules;
+      reads = search rules;
+      same = same_on c.args.self.now _ (search rules) c.args.tag c.read.result c.read.ensures.does.reads;
+      kept = search rules;
+      window = search rules;
+    }

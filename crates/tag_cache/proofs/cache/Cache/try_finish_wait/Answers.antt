@@ -7,9 +7,18 @@ pub invariant_of-self : goal.invariant_of-self
 invariant_of-self g c = owns_rests c.args.tags.now c.args.self.now c.try_finish_wait.new.hand c.requires
     c.try_finish_wait.ensures.hand
     (try_rests c.args.self.now.hand c.try_finish_wait.new.hand c.try_finish_wait.result
-    c.try_finish_wait.ensures.leaves c.try_finish_wait.ensures.stays c.try_finish_wait.ensures.err)
+    c.try_finish_wait.ensures.does.leaves c.try_finish_wait.ensures.does.stays
+    c.try_finish_wait.ensures.does.refusals.same)
 
-pub returns-clause-same : goal.returns-clause-same
-returns-clause-same g c = same_tags c.args.self.now _ (search rules) (search rules)
-    (try_rests c.args.self.now.hand c.try_finish_wait.new.hand c.try_finish_wait.result
-    c.try_finish_wait.ensures.leaves c.try_finish_wait.ensures.stays c.try_finish_wait.ensures.err)
+pub returns-clause-does : goal.returns-clause-does
+returns-clause-does g c = record {
+  refusals = search rules;
+  leaves = search rules;
+  out = search rules;
+  stays = search rules;
+  next = search rules;
+  same = same_tags c.args.self.now _ (search rules) (search rules)
+        (try_rests c.args.self.now.hand c.try_finish_wait.new.hand c.try_finish_wait.result
+        c.try_finish_wait.ensures.does.leaves c.try_finish_wait.ensures.does.stays
+        c.try_finish_wait.ensures.does.refusals.same);
+}
