@@ -362,8 +362,8 @@ int32_t tags_library_clear_granted(struct tags_hand *hand, uint32_t tag,
 				   struct tags_grants *grants);
 int32_t tags_library_clear_batch_granted(struct tags_hand *hand, const uint32_t *tags,
 					 size_t count, struct tags_grants *grants);
-int32_t tags_library_clear_run(struct tags_hand *hand, uint32_t first, uint64_t mask);
-int32_t tags_library_clear_run_granted(struct tags_hand *hand, uint32_t first, uint64_t mask,
+int32_t tags_library_clear_mask(struct tags_hand *hand, uint32_t first, uint64_t mask);
+int32_t tags_library_clear_mask_granted(struct tags_hand *hand, uint32_t first, uint64_t mask,
 				       struct tags_grants *grants);
 int32_t tags_library_flush(struct tags_hand *hand);
 int32_t tags_library_flush_granted(struct tags_hand *hand, struct tags_grants *grants);
@@ -481,7 +481,7 @@ static inline void tags_lost_all(const uint32_t *tags, size_t count)
 #endif
 }
 
-static inline void tags_lost_run(uint32_t first, uint64_t mask)
+static inline void tags_lost_mask(uint32_t first, uint64_t mask)
 {
 #if defined TAGS_SANITIZED || defined TAGS_LIBRARY
 	for (uint32_t i = 0; first < TAGS_MAX_TOTAL && i < 64; i++)
@@ -515,7 +515,7 @@ static inline int32_t tags_gave(struct tags_hand *hand, int32_t status, uint64_t
 }
 
 /* The same for the tags of a mask, which are counted only if somebody waits. */
-static inline int32_t tags_gave_run(struct tags_hand *hand, int32_t status, uint64_t mask)
+static inline int32_t tags_gave_mask(struct tags_hand *hand, int32_t status, uint64_t mask)
 {
 	uint64_t freed = 0;
 
@@ -841,7 +841,7 @@ TAGS_CALL int32_t tags_clear_batch_granted(struct tags_hand *hand, const uint32_
 }
 
 /**
- * tags_clear_run() - give the ordinary tags of a mask back
+ * tags_clear_mask() - give the ordinary tags of a mask back
  * @hand: the hand that holds them
  * @first: the tag of bit 0, as tags_get_batch() returned it
  * @mask: bit i is 1 if the tag @first + i is given back
@@ -854,37 +854,69 @@ TAGS_CALL int32_t tags_clear_batch_granted(struct tags_hand *hand, const uint32_
  * for an empty mask, TAGS_NO_SUCH_TAG and TAGS_NOT_HELD that applies to any tag of
  * the mask; then no tag is given back.
  *
- * Since: 0.2
+ * Since: 0.3; tags_clear_run() before
  */
-TAGS_CALL int32_t tags_clear_run(struct tags_hand *hand, uint32_t first, uint64_t mask)
+TAGS_CALL int32_t tags_clear_mask(struct tags_hand *hand, uint32_t first, uint64_t mask)
 {
 	if (!hand)
 		return TAGS_NULL;
-	tags_lost_run(first, mask);
-	return tags_gave_run(hand, tags_library_clear_run(hand, first, mask), mask);
+	tags_lost_mask(first, mask);
+	return tags_gave_mask(hand, tags_library_clear_mask(hand, first, mask), mask);
 }
 
 /**
- * tags_clear_run_granted() - give the ordinary tags of a mask back, and report the wakeups granted
+ * tags_clear_mask_granted() - give the ordinary tags of a mask back, and report the wakeups granted
  * @hand: the hand that holds them
  * @first: the tag of bit 0
  * @mask: bit i is 1 if the tag @first + i is given back
  * @grants: filled in with how many waiters were granted a wakeup, in each group
  *
- * Return: as tags_clear_run().
+ * Return: as tags_clear_mask().
+ *
+ * Since: 0.3; tags_clear_run_granted() before
+ */
+TAGS_CALL int32_t tags_clear_mask_granted(struct tags_hand *hand, uint32_t first, uint64_t mask,
+					  struct tags_grants *grants)
+{
+	if (!hand || !grants)
+		return TAGS_NULL;
+	tags_lost_mask(first, mask);
+	return tags_gave_mask(hand,
+			     tags_granted(tags_library_clear_mask_granted(hand, first, mask, grants),
+					  grants),
+			     mask);
+}
+
+/**
+ * tags_clear_run() - the former name of tags_clear_mask(), which the next version drops
+ * @hand: the hand that holds the tags
+ * @first: the tag of bit 0
+ * @mask: bit i is 1 if the tag @first + i is given back
+ *
+ * Return: as tags_clear_mask().
+ *
+ * Since: 0.2
+ */
+TAGS_CALL int32_t tags_clear_run(struct tags_hand *hand, uint32_t first, uint64_t mask)
+{
+	return tags_clear_mask(hand, first, mask);
+}
+
+/**
+ * tags_clear_run_granted() - the former name of tags_clear_mask_granted(), which the next version drops
+ * @hand: the hand that holds the tags
+ * @first: the tag of bit 0
+ * @mask: bit i is 1 if the tag @first + i is given back
+ * @grants: filled in with how many waiters were granted a wakeup, in each group
+ *
+ * Return: as tags_clear_mask().
  *
  * Since: 0.2
  */
 TAGS_CALL int32_t tags_clear_run_granted(struct tags_hand *hand, uint32_t first, uint64_t mask,
 					 struct tags_grants *grants)
 {
-	if (!hand || !grants)
-		return TAGS_NULL;
-	tags_lost_run(first, mask);
-	return tags_gave_run(hand,
-			     tags_granted(tags_library_clear_run_granted(hand, first, mask, grants),
-					  grants),
-			     mask);
+	return tags_clear_mask_granted(hand, first, mask, grants);
 }
 
 /**

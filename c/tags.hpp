@@ -698,7 +698,7 @@ public:
 	{
 		if (mask_ != 0)
 			detail::expect(
-				tags_clear_run(&hand_->handle, first_, std::exchange(mask_, 0)));
+				tags_clear_mask(&hand_->handle, first_, std::exchange(mask_, 0)));
 	}
 
 	/// Splits the first tag off, which is given back on its own. No tag: the batch is empty.

@@ -44,7 +44,7 @@ unsafe extern "C" {
     fn tags_library_get(hand: *mut Handle, left: *mut u64) -> i32;
     fn tags_library_get_batch(hand: *mut Handle, n: u32, won: *mut u64, left: *mut u64) -> i32;
     fn tags_library_clear(hand: *mut Handle, tag: u32) -> i32;
-    fn tags_library_clear_run(hand: *mut Handle, first: u32, mask: u64) -> i32;
+    fn tags_library_clear_mask(hand: *mut Handle, first: u32, mask: u64) -> i32;
     fn tags_library_write(hand: *mut Handle, tag: u32, value: u64, former: *mut u64) -> i32;
     fn tags_library_post(hand: *mut Handle, tag: u32) -> i32;
     fn tags_library_take(hand: *mut Handle, tag: u32) -> i32;
@@ -202,7 +202,7 @@ impl<K: Keeping> Tags for TagC<K> {
     #[inline]
     fn clear_batch(&self, hand: &mut Hand, _tags: &[u32]) {
         // SAFETY: as of `drop`.
-        unsafe { tags_library_clear_run(&mut hand.0, hand.1, hand.2) };
+        unsafe { tags_library_clear_mask(&mut hand.0, hand.1, hand.2) };
     }
 
     fn close(self) {

@@ -276,7 +276,7 @@ static void tell_as_many(void)
 	for (int i = 1; i <= MOST; i++)
 		CHECK(tags_get_async(&hands[i], one) == TAGS_NO_TAG);
 	CHECK(tags_clear_batch(&hands[0], tags, 3) >= 0 && told(one) == 3);
-	CHECK(tags_clear_run(&hands[0], 3, 3) >= 0 && told(one) == 2);
+	CHECK(tags_clear_mask(&hands[0], 3, 3) >= 0 && told(one) == 2);
 	CHECK(tags_clear(&hands[0], 5) >= 0 && told(one) == 1);
 	CHECK(tags_clear(&hands[0], 6) >= 0 && tags_clear(&hands[0], 7) >= 0 && told(one) == 2);
 	/* the eight who were told, each of whom gets one */

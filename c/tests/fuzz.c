@@ -440,7 +440,7 @@ static uint64_t mask_held(uint32_t at, uint32_t first)
 	return mask;
 }
 
-static void try_clear_run(void)
+static void try_clear_mask(void)
 {
 	struct tags_grants found = { 5, { 5 } };
 	struct tags_grants wanted = { 5, { 5 } };
@@ -449,17 +449,17 @@ static void try_clear_run(void)
 	uint64_t mask = mask_held(at, first);
 
 	if (seldom(2)) {
-		compare("clear_run", tags_clear_run(&handles[at].hand, first, mask),
-			model_gave(&models[at], model_clear_run(&models[at], first, mask),
+		compare("clear_mask", tags_clear_mask(&handles[at].hand, first, mask),
+			model_gave(&models[at], model_clear_mask(&models[at], first, mask),
 				   count_in(mask)));
 		return;
 	}
-	compare("clear_run_granted",
-		tags_clear_run_granted(&handles[at].hand, first, mask, &found),
+	compare("clear_mask_granted",
+		tags_clear_mask_granted(&handles[at].hand, first, mask, &found),
 		model_gave(&models[at],
-			   model_clear_run_granted(&models[at], first, mask, &wanted),
+			   model_clear_mask_granted(&models[at], first, mask, &wanted),
 			   count_in(mask)));
-	compare_filled("clear_run_granted", &found, &wanted, sizeof(found));
+	compare_filled("clear_mask_granted", &found, &wanted, sizeof(found));
 }
 
 /*
@@ -770,7 +770,7 @@ static const struct {
 	{ try_clear_granted, 1 }, { try_read_clear, 1 },   { try_get_write, 1 },
 	{ try_stop, 1 },	  { try_get_timed, 1 },	   { try_get_blocking, 1 },
 	{ try_get_async, 4 },	  { try_cancel, 1 },	   { try_events, 1 },
-	{ try_clear_run, 1 },	  { try_flush, 1 },	   { try_pool_busy, 1 },
+	{ try_clear_mask, 1 },	  { try_flush, 1 },	   { try_pool_busy, 1 },
 	{ try_pool_show, 1 },	  { try_pool_wakes, 1 },
 };
 

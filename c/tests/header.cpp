@@ -18,7 +18,7 @@ int main()
 		return 1;
 	if (tags_write(&hand, 0, 1, nullptr) != TAGS_OK || tags_clear_batch(&hand, tags, 2) < 0)
 		return 1;
-	if (tags_get_batch(&hand, 2, &won) != 0 || tags_clear_run(&hand, 0, won) < 0)
+	if (tags_get_batch(&hand, 2, &won) != 0 || tags_clear_mask(&hand, 0, won) < 0)
 		return 1;
 	return tags_stop(&pool) || tags_leave(&hand) || tags_close(&pool, &sums);
 }

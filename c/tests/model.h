@@ -149,7 +149,7 @@ int32_t model_get_batch(struct model *hand, uint32_t n, uint64_t *won);
 int32_t model_clear(struct model *hand, uint32_t tag);
 int32_t model_clear_batch(struct model *hand, const uint32_t *tags, size_t count);
 
-int32_t model_clear_run(struct model *hand, uint32_t first, uint64_t mask);
+int32_t model_clear_mask(struct model *hand, uint32_t first, uint64_t mask);
 
 int32_t model_flush(struct model *hand);
 int32_t model_flush_granted(struct model *hand, struct tags_grants *grants);
@@ -168,7 +168,7 @@ void model_release_posted(struct model *hand, uint32_t tag);
 int32_t model_clear_granted(struct model *hand, uint32_t tag, struct tags_grants *grants);
 int32_t model_clear_batch_granted(struct model *hand, const uint32_t *tags, size_t count,
 				  struct tags_grants *grants);
-int32_t model_clear_run_granted(struct model *hand, uint32_t first, uint64_t mask,
+int32_t model_clear_mask_granted(struct model *hand, uint32_t first, uint64_t mask,
 				struct tags_grants *grants);
 int32_t model_get_write(struct model *hand, uint64_t value);
 int32_t model_read_clear(struct model *hand, uint32_t tag, uint64_t *value);

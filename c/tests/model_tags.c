@@ -140,7 +140,7 @@ static size_t list_run(uint32_t first, uint64_t mask, uint32_t *tags)
 	return n;
 }
 
-int32_t model_clear_run(struct model *hand, uint32_t first, uint64_t mask)
+int32_t model_clear_mask(struct model *hand, uint32_t first, uint64_t mask)
 {
 	uint32_t tags[TAGS_MAX_BATCH];
 
@@ -197,7 +197,7 @@ int32_t model_flush_granted(struct model *hand, struct tags_grants *grants)
 	return woken;
 }
 
-int32_t model_clear_run_granted(struct model *hand, uint32_t first, uint64_t mask,
+int32_t model_clear_mask_granted(struct model *hand, uint32_t first, uint64_t mask,
 				struct tags_grants *grants)
 {
 	uint32_t tags[TAGS_MAX_BATCH];

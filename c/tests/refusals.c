@@ -79,9 +79,9 @@ static void refuse_null(struct tags_pool *pool, struct tags_hand *hand)
 	WANT(tags_pool_wakes(pool, NULL), -28);
 	WANT(tags_get_blocking(NULL), -28);
 	WANT(tags_clear_batch(NULL, &tag, 1), -28);
-	WANT(tags_clear_run(NULL, 2, 1), -28);
-	WANT(tags_clear_run_granted(NULL, 2, 1, &grants), -28);
-	WANT(tags_clear_run_granted(hand, 2, 1, NULL), -28);
+	WANT(tags_clear_mask(NULL, 2, 1), -28);
+	WANT(tags_clear_mask_granted(NULL, 2, 1, &grants), -28);
+	WANT(tags_clear_mask_granted(hand, 2, 1, NULL), -28);
 	WANT(tags_clear_granted(NULL, 2, &grants), -28);
 	WANT(tags_clear_granted(hand, 2, NULL), -28);
 	WANT(tags_clear_batch_granted(NULL, &tag, 1, &grants), -28);
@@ -165,8 +165,8 @@ static void refuse_handle(struct tags_hand *hand)
 	WANT(tags_get_write(hand, 1), -12);
 	WANT(tags_read_clear(hand, tag, &value), -12);
 	WANT(tags_clear_batch(hand, &tag, 1), -12);
-	WANT(tags_clear_run(hand, tag, 1), -12);
-	WANT(tags_clear_run_granted(hand, tag, 1, &grants), -12);
+	WANT(tags_clear_mask(hand, tag, 1), -12);
+	WANT(tags_clear_mask_granted(hand, tag, 1, &grants), -12);
 	WANT(tags_flush(hand), -12);
 	WANT(tags_flush_granted(hand, &grants), -12);
 	WANT(tags_read(hand, tag, &value), -12);
@@ -281,12 +281,12 @@ static void refuse_counts(struct tags_hand *hand)
 	WANT(tags_clear_batch(hand, list, 3), -3);
 	list[1] = 1;
 	WANT(tags_clear_batch(hand, list, 2), -1);
-	WANT(tags_clear_run(hand, 2, 0), -5);
-	WANT(tags_clear_run(hand, 1, 3), -1);
-	WANT(tags_clear_run(hand, 2, UINT64_MAX), -1);
-	WANT(tags_clear_run(hand, UINT32_MAX, UINT64_MAX), -1);
-	WANT(tags_clear_run(hand, 2, 7), -3);
-	WANT(tags_clear_run(hand, 0, 4), 0);
+	WANT(tags_clear_mask(hand, 2, 0), -5);
+	WANT(tags_clear_mask(hand, 1, 3), -1);
+	WANT(tags_clear_mask(hand, 2, UINT64_MAX), -1);
+	WANT(tags_clear_mask(hand, UINT32_MAX, UINT64_MAX), -1);
+	WANT(tags_clear_mask(hand, 2, 7), -3);
+	WANT(tags_clear_mask(hand, 0, 4), 0);
 	list[0] = 3;
 	WANT(tags_clear_batch(hand, list, 1), 0);
 }
@@ -539,7 +539,7 @@ static void refuse_kept(void)
 	WANT(tags_clear(&hand, 2), -3);
 	WANT(tags_clear_granted(&hand, 2, &grants), -3);
 	WANT(tags_clear_batch(&hand, &two, 1), -3);
-	WANT(tags_clear_run(&hand, 2, 1), -3);
+	WANT(tags_clear_mask(&hand, 2, 1), -3);
 	WANT(tags_read(&hand, 2, &value), -3);
 	WANT(tags_read_clear(&hand, 2, &value), -3);
 	WANT(tags_write(&hand, 2, 1, &value), -3);

@@ -120,7 +120,7 @@ static int32_t give(struct tags_hand *hand, enum way way, uint32_t tag)
 	if (way == CLEAR_BATCH)
 		return tags_clear_batch(hand, &tag, 1);
 	if (way == CLEAR_RUN)
-		return tags_clear_run(hand, tag, 1);
+		return tags_clear_mask(hand, tag, 1);
 	return tags_clear_granted(hand, tag, &grants);
 }
 

@@ -69,8 +69,8 @@ static void run_through_all_calls(void)
 	WANT(tags_finish(&other), 1);
 	WANT(tags_get_batch(&hand, 3, &won), 3);
 	WANT(won, 3);
-	WANT(tags_clear_run(&hand, 3, 1), 0);
-	WANT(tags_clear_run_granted(&hand, 3, 2, &grants), 0);
+	WANT(tags_clear_mask(&hand, 3, 1), 0);
+	WANT(tags_clear_mask_granted(&hand, 3, 2, &grants), 0);
 	WANT(grants.woken, 0);
 	WANT(tags_read_clear(&other, 2, &value), 0);
 	WANT(value, 70);
@@ -220,7 +220,7 @@ static void keep_some(void)
 	/* a batch takes no kept tag */
 	WANT(tags_get_batch(&hand, 2, &won), 3);
 	WANT((int32_t)won, 3);
-	WANT(tags_clear_run(&hand, 3, won), 0);
+	WANT(tags_clear_mask(&hand, 3, won), 0);
 	WANT(tags_get(&hand), 2);
 	WANT(tags_clear(&hand, 2), 0);
 	WANT(tags_clear(&hand, 5), 0);

@@ -96,9 +96,9 @@ impl<T> Hand<T> {
     }
 
     /// Gives the held ordinary tags of a mask back together. The caller settles what the hand owes.
-    pub(crate) fn give_run(&self, first: u32, mask: u64) {
+    pub(crate) fn give_mask(&self, first: u32, mask: u64) {
         // SAFETY: as of `raw`.
-        Self::expect(unsafe { raw::tags_library_clear_run(self.raw(), first, mask) });
+        Self::expect(unsafe { raw::tags_library_clear_mask(self.raw(), first, mask) });
         self.owe_if_awaited(mask.count_ones().into());
     }
 

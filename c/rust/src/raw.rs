@@ -97,7 +97,7 @@ unsafe extern "C" {
     pub fn tags_library_get_shallow(hand: *mut Handle, depth: u32, left: *mut u64) -> i32;
     pub fn tags_library_get_batch(hand: *mut Handle, n: u32, won: *mut u64, left: *mut u64) -> i32;
     pub fn tags_library_clear(hand: *mut Handle, tag: u32) -> i32;
-    pub fn tags_library_clear_run(hand: *mut Handle, first: u32, mask: u64) -> i32;
+    pub fn tags_library_clear_mask(hand: *mut Handle, first: u32, mask: u64) -> i32;
     pub fn tags_library_flush(hand: *mut Handle) -> i32;
     pub fn tags_library_read(hand: *mut Handle, tag: u32, value: *mut u64) -> i32;
     pub fn tags_library_write(hand: *mut Handle, tag: u32, value: u64, former: *mut u64) -> i32;

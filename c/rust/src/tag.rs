@@ -157,7 +157,7 @@ impl<'a, T> Batch<'a, T> {
 
 impl<T> Drop for Batch<'_, T> {
     fn drop(&mut self) {
-        self.hand.give_run(self.first, self.won);
+        self.hand.give_mask(self.first, self.won);
         self.hand.settle();
     }
 }

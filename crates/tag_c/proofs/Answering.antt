@@ -6,7 +6,7 @@ use Rattle.tag_sets.specs.declared.fault.TagFault.{TagFault}
 use Rattle.tag_sets.specs.declared.fault.TagFault.TheVariants.{NoSuchTag, NoReserved, NotHeld, NotPosted, BadCount, TooShallow, Spent, Waiting, NotWaiting}
 use Rattle.tag_sets.specs.Freed.{left_free}
 use Rattle.tag_c.specs.declared.status.Status.TheVariants.{BadHandle}
-use Rattle.tag_c.specs.Callers.{Caller, hand_of}
+use Rattle.tag_c.specs.Holders.{Holder, hand_of}
 use Rattle.tag_c.specs.Calls.{TellsLeft}
 use Rattle.tag_c.specs.Codes.{code_of, code_of_fault, code_of_get}
 use Rattle.tag_c.specs.Left.{answer_of, left_of}
@@ -52,7 +52,7 @@ module _ {A : Type 0} where
   none_stays P (Err fault) p = p
 
   -- the number told is that of the get, or 0 if it was refused
-  pub tells : {left : ℕ} {old new : Caller} (found : Result (Found A) TagFault) → left ≡ left_of found
+  pub tells : {left : ℕ} {old new : Holder} (found : Result (Found A) TagFault) → left ≡ left_of found
       → IfOk found (λ known. known.left ≡ left_free (hand_of old) (hand_of new))
       → TellsLeft left (answer_of found) old new
   tells (Ok known) is freed = record { done = is ∙ freed; none = tt }

@@ -6,7 +6,7 @@ use mir.Val.{to_z, of_z}
 use Rattle.std.proofs.lemmas.Int.{to_z-of_z}
 use Rattle.tag_sets.specs.declared.tags.Tags.{Tags}
 use Rattle.tag_c.specs.declared.pool_state.PoolState.{PoolState}
-use Rattle.tag_c.specs.Callers.{Caller}
+use Rattle.tag_c.specs.Holders.{Holder}
 use Rattle.tag_c.specs.Calls.{Through}
 
 -- a number as it is stored in 32 bits
@@ -18,8 +18,8 @@ pub stored : (code : ℤ) → mag code < 2147483648 → as_stored code ≡ code
 stored code small = to_z-of_z w32 code record { sfits = small }
 
 -- an answer of the pool's tags has this number, and the caller changed as the contract says for that answer
-pub through : {A : Type 0} (does : Tags ℕ → A → Caller → Caller → Type 0) (number : A → ℤ) {code : ℤ}
-    {state shared : PoolState} {old new : Caller} {answer : A}
+pub through : {A : Type 0} (does : Tags ℕ → A → Holder → Holder → Type 0) (number : A → ℤ) {code : ℤ}
+    {state shared : PoolState} {old new : Holder} {answer : A}
     → code ≡ number answer → mag code < 2147483648 → shared ≡ state → does shared.tags answer old new
     → Through does number (as_stored code) state.tags old new
 through does number {code} {state} {shared} {old} {new} {answer} is small at did =

@@ -19,7 +19,7 @@ use Rattle.tag_cache.specs.Clears.{Goes}
 use Rattle.tag_cache.specs.Gets.{GetsFreed}
 use Rattle.tag_cache.specs.Holding.{HoldsLess}
 use Rattle.tag_cache.specs.Tallies.{Tallies, answered}
-use Rattle.tag_c.specs.Callers.{Bare, Caching, Holds, IsUnchanged}
+use Rattle.tag_c.specs.Holders.{Bare, Caching, Holds, IsUnchanged}
 use Rattle.tag_c.specs.Calls.{DoesClear, DoesGet}
 use Rattle.tag_c.specs.Codes.{woken_of}
 use Rattle.tag_c.specs.Left.{answer_of, left_of}

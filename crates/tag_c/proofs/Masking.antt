@@ -10,7 +10,7 @@ use Rattle.tag_sets.specs.declared.fault.TagFault.TheVariants.{NoSuchTag, NotHel
 use Rattle.tag_sets.specs.declared.tags.Tags.{Tags}
 use Rattle.tag_sets.specs.Hands.{group_steps}
 use Rattle.tag_sets.specs.Batches.{AreOrdinary}
-use Rattle.tag_c.specs.Callers.{Caller, hand_of, Holds, Either, IsUnchanged}
+use Rattle.tag_c.specs.Holders.{Holder, hand_of, Holds, Either, IsUnchanged}
 use Rattle.tag_c.specs.Caching as caching
 use Rattle.tag_c.specs.Codes.{code_of_count, code_of_grants}
 use Rattle.tag_c.specs.Masks.{GivesMask, DoesClearMask}
@@ -29,7 +29,7 @@ module _ (before after : List GroupStep) where
   same_number (Err fault) is = refl
 
 -- what the clear does is what it does with that answer
-pub masks_cleared : (first mask : ℕ) (tags : Tags ℕ) (answer : Result ℕ TagFault) (old new : Caller)
+pub masks_cleared : (first mask : ℕ) (tags : Tags ℕ) (answer : Result ℕ TagFault) (old new : Holder)
     (is : IfOk answer (λ woken. WokenBy woken (group_steps (hand_of old)) (group_steps (hand_of new))))
     → (answer ≡ Err BadCount) ↔ (mask ≡ 0)
     → (answer ≡ Err NoSuchTag) ↔ ¬ (AreOrdinary tags (tags_in first mask))

@@ -12,7 +12,7 @@ use Rattle.tag_sets.specs.Hands.{total_of}
 use Rattle.tag_sets.specs.Slots.{Reads, Writes}
 use Rattle.tag_c.specs.declared.pool_state.PoolState.{PoolState}
 use Rattle.tag_c.specs.declared.status.Status.TheVariants.{NoTag}
-use Rattle.tag_c.specs.Callers.{Caller, Bare, Caching, Holds, slot_of, Either, IsUnchanged}
+use Rattle.tag_c.specs.Holders.{Holder, Bare, Caching, Holds, slot_of, Either, IsUnchanged}
 use Rattle.tag_c.specs.Caching as caching
 use Rattle.tag_c.specs.Calls.{Through, DoesClear, DoesGet}
 use Rattle.tag_c.specs.Codes.{IsRefusal, code_of, code_of_fault, code_of_get, code_of_count}
@@ -35,13 +35,13 @@ hand_holds : (hand : Hand ℕ) (tag : ℕ) → ¬ (¬ (hands.Holds hand tag)) �
 hand_holds hand tag not = stable_pair _ _ _ not
 
 -- whether a caller holds a tag can be decided
-holds_stable : (caller : Caller) (tag : ℕ) → ¬ (¬ (Holds caller tag)) → Holds caller tag
+holds_stable : (caller : Holder) (tag : ℕ) → ¬ (¬ (Holds caller tag)) → Holds caller tag
 holds_stable (Bare hand) tag not = hand_holds hand tag not
 holds_stable (Caching cache) tag not =
     (hand_holds cache.hand tag (λ no. not (λ h. no h.0)), λ kept. not (λ h. h.1 kept))
 
 -- a caller that reads a slot still holds its tag
-still : (tag value : ℕ) (old between : Caller) → Either (Reads tag value) caching.Reads old between → Holds old tag
+still : (tag value : ℕ) (old between : Holder) → Either (Reads tag value) caching.Reads old between → Holds old tag
     → Holds between tag
 still tag value (Bare old) (Bare between) reads h = (reads.same.kept tag h).0
 still tag value (Caching old) (Caching between) reads h = (reads.same.kept tag h).0
@@ -49,7 +49,7 @@ still tag value (Bare old) (Caching between) reads h = absurd reads
 still tag value (Caching old) (Bare between) reads h = absurd reads
 
 -- a caller that gets a tag holds it
-gains : (tags : Tags ℕ) (tag : ℕ) (old between : Caller) {left : ℕ} → DoesGet left tags (Ok (Some tag)) old between
+gains : (tags : Tags ℕ) (tag : ℕ) (old between : Holder) {left : ℕ} → DoesGet left tags (Ok (Some tag)) old between
     → Holds between tag
 gains tags tag (Bare old) (Bare between) does = does.gets.more.joined tag refl
 gains tags tag (Caching old) (Caching between) does = does.gets.gets.more.joined tag refl
@@ -57,7 +57,7 @@ gains tags tag (Bare old) (Caching between) does = absurd does.gets
 gains tags tag (Caching old) (Bare between) does = absurd does.gets
 
 -- what a get does for its caller is told by its answer
-got : {tags : Tags ℕ} {left : ℕ} {old between : Caller} {answer known : Result (Option ℕ) TagFault}
+got : {tags : Tags ℕ} {left : ℕ} {old between : Holder} {answer known : Result (Option ℕ) TagFault}
     → DoesGet left tags answer old between → answer ≡ known → DoesGet left tags known old between
 got {tags} {left} {old} {between} gets is =
     subst (λ (a : Result (Option ℕ) TagFault). DoesGet left tags a old between) is gets
@@ -73,7 +73,7 @@ no_refusal : (answer : Result ℕ TagFault) → IsOk answer → ¬ (IsRefusal (c
 no_refusal (Ok woken) is refusal = refusal
 no_refusal (Err fault) is refusal = cc
 
-module _ (tags : Tags ℕ) (tag value : ℕ) (old between : Caller)
+module _ (tags : Tags ℕ) (tag value : ℕ) (old between : Holder)
     (no_such_tag : (read_of value ≡ refused NoSuchTag) ↔ (total_of tags ≤ tag))
     (not_held : (read_of value ≡ refused NotHeld) ↔ ((tag < total_of tags) × ¬ (Holds old tag)))
     (reads : Either (Reads tag value) caching.Reads old between) where
@@ -84,11 +84,11 @@ module _ (tags : Tags ℕ) (tag value : ℕ) (old between : Caller)
       (λ (high : total_of tags ≤ tag). absurd (let is = no_such_tag.1 high in cc)) (cases_lt tag (total_of tags))
 
   -- so the clear that follows the read succeeds
-  clear_succeeds : (new : Caller) (answer : Result ℕ TagFault) → DoesClear tag tags answer between new
+  clear_succeeds : (new : Holder) (answer : Result ℕ TagFault) → DoesClear tag tags answer between new
       → IsOk answer
   clear_succeeds new answer clears = clears.succeeds (still tag value old between reads reader_holds)
 
-  read_clears : (new : Caller) (answer : Result ℕ TagFault) → slot_of old tag ≡ some value
+  read_clears : (new : Holder) (answer : Result ℕ TagFault) → slot_of old tag ≡ some value
       → DoesClear tag tags answer between new → DoesReadClear tag value tags answer old new
   read_clears new (Ok woken) slot clears = record {
     no_such_tag = clears.no_such_tag;
@@ -100,14 +100,14 @@ module _ (tags : Tags ℕ) (tag value : ℕ) (old between : Caller)
   read_clears new (Err fault) slot clears = absurd (let is = clear_succeeds new (Err fault) clears in cc)
 
 -- what a read and a clear in one do once the read has found the value: the number is no refusal
-pub record ClearsRead (tag value : ℕ) (code : ℤ) (tags : Tags ℕ) (old new : Caller) : Type 0 where
+pub record ClearsRead (tag value : ℕ) (code : ℤ) (tags : Tags ℕ) (old new : Holder) : Type 0 where
   pub calls : Through (DoesReadClear tag value) code_of_count code tags old new
   pub done : ¬ (IsRefusal code)
 
 -- the two calls in one return the code of the last answer that they came to
 module _ {state first : PoolState} {code : ℤ} (at : first ≡ state) (small : mag code < 2147483648) where
   -- a read that is refused is a refusal of both
-  pub refused_read : {tag value : ℕ} {old new : Caller} {fault : TagFault} → code ≡ code_of_fault fault
+  pub refused_read : {tag value : ℕ} {old new : Holder} {fault : TagFault} → code ≡ code_of_fault fault
       → ((refused fault ≡ refused NoSuchTag) ↔ (total_of first.tags ≤ tag))
       → ((refused fault ≡ refused NotHeld) ↔ ((tag < total_of first.tags) × ¬ (Holds old tag)))
       → (Holds old tag → IsOk (refused fault)) → IsUnchanged old new
@@ -122,7 +122,7 @@ module _ {state first : PoolState} {code : ℤ} (at : first ≡ state) (small : 
       }
 
   -- the clear that follows a read succeeds; it reads the pool anew
-  pub cleared_read : (tag value : ℕ) (old between new : Caller) {second : PoolState} {answer : Result ℕ TagFault}
+  pub cleared_read : (tag value : ℕ) (old between new : Holder) {second : PoolState} {answer : Result ℕ TagFault}
       → code ≡ code_of_count answer → second ≡ state
       → ((read_of value ≡ refused NoSuchTag) ↔ (total_of first.tags ≤ tag))
       → ((read_of value ≡ refused NotHeld) ↔ ((tag < total_of first.tags) × ¬ (Holds old tag)))
@@ -139,10 +139,10 @@ module _ {state first : PoolState} {code : ℤ} (at : first ≡ state) (small : 
         done = λ refusal. no_refusal answer succeeds (subst IsRefusal (stored code small ∙ is) refusal);
       }
 
-  module _ {value left : ℕ} {old : Caller} (between : Caller) {answer : Result (Option ℕ) TagFault}
+  module _ {value left : ℕ} {old : Holder} (between : Holder) {answer : Result (Option ℕ) TagFault}
       (gets : DoesGet left first.tags answer old between) where
     -- the caller holds the tag that it has just won, so the write succeeds
-    pub get_written : {new : Caller} {tag : ℕ} (write : Result ℕ TagFault)
+    pub get_written : {new : Holder} {tag : ℕ} (write : Result ℕ TagFault)
         → code ≡ code_of_get (Ok (Some tag)) → answer ≡ Ok (Some tag) → (Holds between tag → IsOk write)
         → OnOk write (Either (Writes tag value) (caching.Writes tag value) between new)
         → Through (DoesGetWrite value left) code_of_get (as_stored code) state.tags old new

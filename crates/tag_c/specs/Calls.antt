@@ -1,181 +1,155 @@
--- What a call through the handle of a hand does, in terms of `tag_sets`, and over a cache of `tag_cache`.
-use Rattle.std.specs.Prelude.{◌≡◌, ℕ, ◌≤◌, ◌<◌, ◌↔◌, ℤ, false, IsTrue, List, Option, Some, None, Result, Ok, Err, IfOk, IfErr, IfSome, IfNone, IsOk, IsSome, OnOk, OnErr, ⊤}
-use mathlib.Core.Option.{some}
+-- What a call through the handle of a hand does: of a hand alone what `tag_sets` says, of one with a cache what `tag_cache`
+-- says.
+use Rattle.std.specs.Prelude.{◌≡◌, ℕ, ℤ, List, Option, Some, None, Result, IfOk, IfSome, ⊤}
 use Rattle.std.specs.Arc.{arc_value}
 use Rattle.wake_book.specs.declared.grants.Grants.{Grants}
+use Rattle.wake_book.specs.declared.grants.TheConstants.{NO_GRANTS}
+use Rattle.wake_book.specs.declared.groups.Waiter.{Waiter}
 use Rattle.wake_book.specs.declared.waiting.Left.{Left}
-use Rattle.wake_book.specs.Grants.{AreGrantsOf}
+use Rattle.wake_book.specs.Grants.{AreGrantsOf, WokenBy}
+use Rattle.wake_book.specs.Groups.{steps_of}
+use Rattle.tag_search.specs.declared.found.Found.{Found}
 use Rattle.tag_sets.specs.declared.fault.TagFault.{TagFault}
-use Rattle.tag_sets.specs.declared.fault.TagFault.TheVariants.{NoSuchTag, NoReserved, NotHeld, BadCount, TooShallow, Spent, Waiting, NotWaiting}
-use Rattle.tag_sets.specs.declared.kind.Kind.TheVariants.{Ordinary, Reserved}
 use Rattle.tag_sets.specs.declared.tags.Tags.{Tags}
-use Rattle.tag_sets.specs.Hands.{reserved_of, total_of, least_of, HasRoom, hint_of, standing_of, group_steps}
-use Rattle.tag_sets.specs.Freed.{left_free}
-use Rattle.tag_sets.specs.Gets.{Gets, GetsReserved, GetsShallow, GetsBatch, MiscountsBatch}
-use Rattle.tag_sets.specs.Batches.{CountsTags, AreOrdinary}
-use Rattle.tag_sets.specs.Slots.{Reads, Writes, Posts, Takes, RefusesTake}
-use Rattle.tag_sets.specs.Waits.{Enters, Leaves, StandsOn}
-use Rattle.tag_cache.specs.Clears.{GivesOne, GivesList}
-use Rattle.tag_cache.specs.Same.{SameTags}
+use Rattle.tag_sets.specs.Calls as hands
+use Rattle.tag_cache.specs.Calls as caches
 use Rattle.tag_c.specs.declared.cached.CachedMember.{CachedMember}
 use Rattle.tag_c.specs.declared.member.Member.{Member}
 use Rattle.tag_c.specs.declared.object.Kind.{Kind}
 use Rattle.tag_c.specs.declared.object.Kind.TheVariants.{Pool as IsPool, Member as IsMember, Cached as IsCached}
 use Rattle.tag_c.specs.declared.object.Object.{Object}
 use Rattle.tag_c.specs.declared.status.Status.TheVariants.{BadHandle}
-use Rattle.tag_c.specs.Callers.{Caller, Bare, Caching, hand_of, Holds, AreHeldOnce, slot_of, Either, IsUnchanged, MayGet}
-use Rattle.tag_c.specs.Caching as caching
-use Rattle.tag_c.specs.Codes.{code_of, woken_of}
+use Rattle.tag_c.specs.Holders.{Holder, Bare, Caching, Either}
+use Rattle.tag_c.specs.Codes.{code_of, done_of, first_of}
+use Rattle.tag_c.specs.Left.{left_of}
 
 -- a hand stays one of the same pool and changes by this relation
-abbrev pub HandCalls : (Tags ℕ → Caller → Caller → Type 0) → Member → Member → Type 0
+abbrev pub HandCalls : (Tags ℕ → Holder → Holder → Type 0) → Member → Member → Type 0
 HandCalls change old new = (new.shared ≡ old.shared) × change (arc_value old.shared).tags (Bare old.hand) (Bare new.hand)
 
 -- the same of a hand with a cache
-abbrev pub CacheCalls : (Tags ℕ → Caller → Caller → Type 0) → CachedMember → CachedMember → Type 0
+abbrev pub CacheCalls : (Tags ℕ → Holder → Holder → Type 0) → CachedMember → CachedMember → Type 0
 CacheCalls change old new = (new.shared ≡ old.shared)
     × change (arc_value old.shared).tags (Caching old.cache) (Caching new.cache)
 
 -- a hand, with or without a cache, stays what it is and changes by this relation; a call on a pool is refused and
 -- changes nothing
-abbrev pub CallsAs : (Tags ℕ → Caller → Caller → Type 0) → ℤ → Kind → Kind → Type 0
+abbrev pub CallsAs : (Tags ℕ → Holder → Holder → Type 0) → ℤ → Kind → Kind → Type 0
 CallsAs change code (IsMember old) (IsMember new) = HandCalls change old new
 CallsAs change code (IsCached old) (IsCached new) = CacheCalls change old new
 CallsAs change code (IsPool old) (IsPool new) = (code ≡ code_of BadHandle) × (new ≡ old)
 CallsAs change code _ _ = ⊥
 
 -- the same for the object behind a handle
-abbrev pub Calls : (Tags ℕ → Caller → Caller → Type 0) → ℤ → Object → Object → Type 0
+abbrev pub Calls : (Tags ℕ → Holder → Holder → Type 0) → ℤ → Object → Object → Type 0
 Calls change code old new = CallsAs change code old.kind new.kind
 
 -- the same for a handle; a call on an empty handle is refused, and the handle stays empty
-abbrev pub CallsBy : (Tags ℕ → Caller → Caller → Type 0) → ℤ → Option Object → Option Object → Type 0
+abbrev pub CallsBy : (Tags ℕ → Holder → Holder → Type 0) → ℤ → Option Object → Option Object → Type 0
 CallsBy change code None None = code ≡ code_of BadHandle
 CallsBy change code None (Some new) = ⊥
 CallsBy change code (Some old) None = ⊥
 CallsBy change code (Some old) (Some new) = Calls change code old new
 
--- the number returned is that of an answer of `tag_sets`, and the caller changed as the contract says for that answer
-abbrev pub Through : {A : Type 0} → (Tags ℕ → A → Caller → Caller → Type 0) → (A → ℤ) → ℤ → Tags ℕ → Caller → Caller
+-- the number returned is that of an answer of `tag_sets`, and the holder changed as the contract says for that answer
+abbrev pub Through : {A : Type 0} → (Tags ℕ → A → Holder → Holder → Type 0) → (A → ℤ) → ℤ → Tags ℕ → Holder → Holder
     → Type 0
 Through {A} does number code tags old new = (answer : A) × (code ≡ number answer) × does tags answer old new
 
--- the number is how many tags the caller's sweeps freed and left free, or 0 if the get was refused
-pub record TellsLeft {A : Type 0} (left : ℕ) (answer : Result A TagFault) (old new : Caller) : Type 0 where
-  pub done : OnOk answer (left ≡ left_free (hand_of old) (hand_of new))
-  pub none : OnErr answer (left ≡ 0)
+-- the number says how many waiters the steps between two moments granted a wakeup
+abbrev pub Counts : ℕ → Waiter → Waiter → Type 0
+Counts woken old new = WokenBy woken (steps_of old) (steps_of new)
 
--- gets an ordinary tag, and tells how many tags it left free
-pub record DoesGet (left : ℕ) (tags : Tags ℕ) (answer : Result (Option ℕ) TagFault) (old new : Caller) : Type 0 where
-  pub room : IsOk answer ↔ MayGet old
-  pub gets : IfOk answer (λ found. Either (Gets tags found) (caching.Gets tags found) old new)
-  pub left_is : TellsLeft left answer old new
-  pub err : IfErr answer (λ fault. (fault ≡ Spent) × IsUnchanged old new)
+-- these are the grants of the steps between two moments
+abbrev pub Grant : Grants → Waiter → Waiter → Type 0
+Grant grants old new = AreGrantsOf grants (steps_of old) (steps_of new)
+
+-- how many waiters were granted a wakeup, by their number itself
+abbrev pub itself : ℕ → ℕ
+itself woken = woken
+
+-- how many waiters were granted a wakeup, by the grants
+abbrev pub woken_in : Grants → ℕ
+woken_in grants = grants.woken
+
+-- gets an ordinary tag, and tells how many tags it left free, 0 if it is refused
+abbrev pub DoesGet : ℕ → Tags ℕ → Result (Found ℕ) TagFault → Holder → Holder → Type 0
+DoesGet left tags answer old new = Either (hands.DoesGet tags answer) (caches.DoesGet tags answer) old new
+    × (left ≡ left_of answer)
 
 -- gets a reserved tag
-pub record DoesGetReserved (tags : Tags ℕ) (answer : Result (Option ℕ) TagFault) (old new : Caller) : Type 0 where
-  pub no_reserved : (answer ≡ Err NoReserved) ↔ (reserved_of tags ≡ 0)
-  pub spent : (answer ≡ Err Spent) ↔ ((1 ≤ reserved_of tags) × ¬ (HasRoom (hand_of old) Reserved 1))
-  pub succeeds : IsOk answer ↔ ((1 ≤ reserved_of tags) × HasRoom (hand_of old) Reserved 1)
-  pub gets : IfOk answer (λ found. Either (GetsReserved tags found) (caching.GainsReserved tags found) old new)
-  pub err : OnErr answer (IsUnchanged old new)
+abbrev pub DoesGetReserved : Tags ℕ → Result (Option ℕ) TagFault → Holder → Holder → Type 0
+DoesGetReserved tags answer = Either (hands.DoesGetReserved tags answer) (caches.DoesGetReserved tags answer)
 
--- gets an ordinary tag within the shares of a shallow depth, and tells how many tags it left free
-pub record DoesGetShallow (depth left : ℕ) (tags : Tags ℕ) (answer : Result (Option ℕ) TagFault) (old new : Caller) : Type 0
-  where
-    pub too_shallow : (answer ≡ Err TooShallow) ↔ (depth < least_of tags)
-    pub spent : (answer ≡ Err Spent) ↔ ((least_of tags ≤ depth) × ¬ (HasRoom (hand_of old) Ordinary 1))
-    pub succeeds : IsOk answer ↔ ((least_of tags ≤ depth) × HasRoom (hand_of old) Ordinary 1)
-    pub gets : IfOk answer (λ found. GetsShallow tags depth found (hand_of old) (hand_of new))
-    pub caller : IfOk answer (λ found. Either (λ _ _. ⊤) (caching.Gains found) old new)
-    pub left_is : TellsLeft left answer old new
-    pub err : OnErr answer (IsUnchanged old new)
+-- gets an ordinary tag within the shares of a shallow depth, and tells how many tags it left free, 0 if it is refused
+abbrev pub DoesGetShallow : ℕ → ℕ → Tags ℕ → Result (Found ℕ) TagFault → Holder → Holder → Type 0
+DoesGetShallow depth left tags answer old new =
+    Either (hands.DoesGetShallow depth tags answer) (caches.DoesGetShallow depth tags answer) old new
+    × (left ≡ left_of answer)
 
 -- gets up to n ordinary tags, writes the mask of those won, if there are any, and tells how many tags it left free
-pub record DoesGetBatch (n won left : ℕ) (tags : Tags ℕ) (answer : Result (Option (ℕ × ℕ)) TagFault)
-    (old new : Caller) : Type 0 where
-  pub bad_count : (answer ≡ Err BadCount) ↔ MiscountsBatch tags n
-  pub round_robin : ¬ (MiscountsBatch tags n) → IsTrue (hint_of (hand_of old) Ordinary).round_robin → (answer ≡ Ok None)
-      × IsUnchanged old new
-  pub spent : (answer ≡ Err Spent)
-      ↔ (¬ (MiscountsBatch tags n) × ((hint_of (hand_of old) Ordinary).round_robin ≡ false) × ¬ (HasRoom (hand_of old) Ordinary n))
-  pub succeeds : ¬ (MiscountsBatch tags n) → HasRoom (hand_of old) Ordinary n → IsOk answer
-  pub gets : (hint_of (hand_of old) Ordinary).round_robin ≡ false → IfOk answer (λ run. GetsBatch tags n run (hand_of old) (hand_of new))
-  pub caller : IfOk answer (λ run. Either (λ _ _. ⊤) (caching.GainsRun run) old new)
-  pub mask : IfOk answer (λ run. IfSome run (λ first. won ≡ first.1))
-  pub left_is : TellsLeft left answer old new
-  pub err : OnErr answer (IsUnchanged old new)
+abbrev pub DoesGetBatch : ℕ → ℕ → ℕ → Tags ℕ → Result (Found (ℕ × ℕ)) TagFault → Holder → Holder → Type 0
+DoesGetBatch n won left tags answer old new =
+    Either (hands.DoesGetBatch n tags answer) (caches.DoesGetBatch n tags answer) old new
+    × IfOk answer (λ found. IfSome found.answer (λ run. won ≡ run.1)) × (left ≡ left_of answer)
 
--- clears a tag, and answers how many waiters it granted a wakeup
-pub record DoesClear (tag : ℕ) (tags : Tags ℕ) (answer : Result ℕ TagFault) (old new : Caller) : Type 0 where
-  pub no_such_tag : (answer ≡ Err NoSuchTag) ↔ (total_of tags ≤ tag)
-  pub not_held : (answer ≡ Err NotHeld) ↔ ((tag < total_of tags) × ¬ (Holds old tag))
-  pub succeeds : Holds old tag → IsOk answer
-  pub clears : IfOk answer (λ woken. Either (GivesOne tags tag woken) (caching.Clears tags tag woken) old new)
-  pub err : OnErr answer (IsUnchanged old new)
+-- clears a tag, and counts the waiters that it granted a wakeup
+abbrev pub DoesClear : ℕ → Tags ℕ → Result ℕ TagFault → Holder → Holder → Type 0
+DoesClear tag tags answer =
+    Either (hands.DoesClear itself Counts tag tags answer) (caches.DoesClear itself Counts tag tags answer)
 
--- clears a tag, and answers how many waiters it granted a wakeup in each group
-pub record DoesClearGranted (tag : ℕ) (tags : Tags ℕ) (answer : Result Grants TagFault) (old new : Caller) : Type 0
-  where
-    pub clears : DoesClear tag tags (woken_of answer) old new
-    pub grants : IfOk answer (λ grants. AreGrantsOf grants (group_steps (hand_of old)) (group_steps (hand_of new)))
+-- the same, and reports in which groups they wait
+abbrev pub DoesClearGranted : ℕ → Tags ℕ → Result Grants TagFault → Holder → Holder → Type 0
+DoesClearGranted tag tags answer =
+    Either (hands.DoesClear woken_in Grant tag tags answer) (caches.DoesClear woken_in Grant tag tags answer)
 
--- gives back the tags of a list, and answers how many waiters it granted a wakeup in each group
-pub record DoesClearBatch (list : List ℕ) (tags : Tags ℕ) (answer : Result Grants TagFault) (old new : Caller) : Type 0 where
-  pub bad_count : (answer ≡ Err BadCount) ↔ ¬ (CountsTags list)
-  pub no_such_tag : (answer ≡ Err NoSuchTag) ↔ (CountsTags list × ¬ (AreOrdinary tags list))
-  pub not_held : (answer ≡ Err NotHeld) ↔ (CountsTags list × AreOrdinary tags list × ¬ (AreHeldOnce old list))
-  pub succeeds : IsOk answer ↔ (CountsTags list × AreOrdinary tags list × AreHeldOnce old list)
-  pub gives : IfOk answer (λ grants. Either (GivesList tags list grants.woken) (caching.ClearsList tags list grants.woken)
-      old new)
-  pub grants : IfOk answer (λ grants. AreGrantsOf grants (group_steps (hand_of old)) (group_steps (hand_of new)))
-  pub err : OnErr answer (IsUnchanged old new)
+-- clears the tags of a list, and reports the wakeups that it granted
+abbrev pub DoesClearBatch : List ℕ → Tags ℕ → Result Grants TagFault → Holder → Holder → Type 0
+DoesClearBatch list tags answer =
+    Either (hands.DoesClearBatch woken_in Grant list tags answer) (caches.DoesClearBatch woken_in Grant list tags answer)
+
+-- clears the tags of a mask, and counts the waiters that it granted a wakeup
+abbrev pub DoesClearMask : ℕ → ℕ → Tags ℕ → Result ℕ TagFault → Holder → Holder → Type 0
+DoesClearMask first mask tags answer = Either (hands.DoesClearMask itself Counts first mask tags answer)
+    (caches.DoesClearMask itself Counts first mask tags answer)
+
+-- the same, and reports in which groups they wait
+abbrev pub DoesClearMaskGranted : ℕ → ℕ → Tags ℕ → Result Grants TagFault → Holder → Holder → Type 0
+DoesClearMaskGranted first mask tags answer = Either (hands.DoesClearMask woken_in Grant first mask tags answer)
+    (caches.DoesClearMask woken_in Grant first mask tags answer)
+
+-- gives all kept tags back, of which a hand alone has none, and reports the wakeups that it granted
+abbrev pub DoesFlush : Tags ℕ → Grants → Holder → Holder → Type 0
+DoesFlush tags grants =
+    Either (λ old new. (new ≡ old) × (grants ≡ NO_GRANTS)) (caches.DoesFlush woken_in Grant tags grants)
 
 -- reads the slot of a tag
-pub record DoesRead (tag value : ℕ) (tags : Tags ℕ) (answer : Result ℕ TagFault) (old new : Caller) : Type 0 where
-  pub no_such_tag : (answer ≡ Err NoSuchTag) ↔ (total_of tags ≤ tag)
-  pub not_held : (answer ≡ Err NotHeld) ↔ ((tag < total_of tags) × ¬ (Holds old tag))
-  pub succeeds : Holds old tag → IsOk answer
-  pub found : IfOk answer (λ found. (slot_of old tag ≡ some found) × (value ≡ found))
-  pub reads : IfOk answer (λ found. Either (Reads tag found) caching.Reads old new)
-  pub err : OnErr answer (IsUnchanged old new)
+abbrev pub DoesRead : ℕ → ℕ → Tags ℕ → Result ℕ TagFault → Holder → Holder → Type 0
+DoesRead tag value tags answer old new = Either (hands.DoesRead tag tags answer) (caches.DoesRead tag tags answer) old new
+    × IfOk answer (λ found. value ≡ found)
 
 -- writes the slot of a tag, and returns its former value
-pub record DoesWrite (tag value former : ℕ) (tags : Tags ℕ) (answer : Result ℕ TagFault) (old new : Caller) : Type 0
-  where
-    pub no_such_tag : (answer ≡ Err NoSuchTag) ↔ (total_of tags ≤ tag)
-    pub not_held : (answer ≡ Err NotHeld) ↔ ((tag < total_of tags) × ¬ (Holds old tag))
-    pub succeeds : Holds old tag → IsOk answer
-    pub found : IfOk answer (λ found. (slot_of old tag ≡ some found) × (former ≡ found))
-    pub writes : OnOk answer (Either (Writes tag value) (caching.Writes tag value) old new)
-    pub err : OnErr answer (IsUnchanged old new)
+abbrev pub DoesWrite : ℕ → ℕ → ℕ → Tags ℕ → Result ℕ TagFault → Holder → Holder → Type 0
+DoesWrite tag value former tags answer old new =
+    Either (hands.DoesWrite tag value tags answer) (caches.DoesWrite tag value tags answer) old new
+    × IfOk answer (λ found. former ≡ found)
 
--- posts a tag
-pub record DoesPost (tag : ℕ) (tags : Tags ℕ) (answer : Result ⊤ TagFault) (old new : Caller) : Type 0 where
-  pub no_such_tag : (answer ≡ Err NoSuchTag) ↔ (total_of tags ≤ tag)
-  pub not_held : (answer ≡ Err NotHeld) ↔ ((tag < total_of tags) × ¬ (Holds old tag))
-  pub succeeds : Holds old tag → IsOk answer
-  pub posts : OnOk answer (Either (Posts tag) (caching.Posts tag) old new)
-  pub err : OnErr answer (IsUnchanged old new)
+-- posts a tag; how many waiters the kept tags that go back granted a wakeup is not told
+abbrev pub DoesPost : ℕ → Tags ℕ → Result ⊤ TagFault → Holder → Holder → Type 0
+DoesPost tag tags answer = Either (hands.DoesPost tag tags answer)
+    (λ old new. (counted : Result ℕ TagFault) × (answer ≡ done_of counted)
+    × caches.DoesPost itself Counts tag tags counted old new)
 
 -- takes a posted tag
-pub record DoesTake (tag : ℕ) (tags : Tags ℕ) (answer : Result ⊤ TagFault) (old new : Caller) : Type 0 where
-  pub no_such_tag : (answer ≡ Err NoSuchTag) ↔ (total_of tags ≤ tag)
-  pub takes : OnOk answer (Either (Takes tag) (caching.Takes tag) old new)
-  pub refuses : IfErr answer (λ fault. RefusesTake tag fault (hand_of old) (hand_of new))
-  pub same : OnErr answer (Either (λ _ _. ⊤) caching.Reads old new)
+abbrev pub DoesTake : ℕ → Tags ℕ → Result ⊤ TagFault → Holder → Holder → Type 0
+DoesTake tag tags answer = Either (hands.DoesTake tag tags answer) (caches.DoesTake tag tags answer)
 
--- enters a wait group
-pub record DoesPrepare (tags : Tags ℕ) (answer : Result ℕ TagFault) (old new : Caller) : Type 0 where
-  pub out : IsOk answer ↔ (standing_of (hand_of old) ≡ None)
-  pub enters : IfOk answer (λ group. Either (Enters group) (caching.Enters tags group) old new)
-  pub err : IfErr answer (λ fault. (fault ≡ Waiting) × IsUnchanged old new)
+-- enters a wait group; how many waiters the kept tags that go back granted a wakeup is not told
+abbrev pub DoesPrepare : Tags ℕ → Result ℕ TagFault → Holder → Holder → Type 0
+DoesPrepare tags answer = Either (hands.DoesPrepare answer)
+    (λ old new. (counted : Result (ℕ × ℕ) TagFault) × (answer ≡ first_of counted)
+    × caches.DoesPrepare Counts tags counted old new)
 
 -- leaves the wait group, or stays in it because the group changed meanwhile
-pub record DoesFinish (tags : Tags ℕ) (answer : Result (Option Left) TagFault) (old new : Caller) : Type 0 where
-  pub stands : IsOk answer ↔ IsSome (standing_of (hand_of old))
-  pub leaves : IfOk answer (λ left. IfSome left (λ how. Leaves how (hand_of old) (hand_of new)))
-  pub out : IfOk answer (λ left. IfSome left (λ how. standing_of (hand_of new) ≡ None))
-  pub stays : IfOk answer (λ left. IfNone left (StandsOn (hand_of old) (hand_of new)))
-  pub same : OnOk answer (Either (λ _ _. ⊤) SameTags old new)
-  pub err : IfErr answer (λ fault. (fault ≡ NotWaiting) × IsUnchanged old new)
+abbrev pub DoesFinish : Tags ℕ → Result (Option Left) TagFault → Holder → Holder → Type 0
+DoesFinish tags answer = Either (hands.DoesFinish answer) (caches.DoesFinish answer)

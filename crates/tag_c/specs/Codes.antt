@@ -8,6 +8,8 @@ use Rattle.tag_sets.specs.declared.fault.SetFault.{SetFault}
 use Rattle.tag_sets.specs.declared.fault.SetFault.TheVariants.{Memory, TotalTooLarge, ReservedTooLarge, ShiftTooLarge, CallerCount, LifeTooLong, CapTooLarge}
 use Rattle.tag_sets.specs.declared.fault.TagFault.{TagFault}
 use Rattle.tag_sets.specs.declared.fault.TagFault.TheVariants.{NoSuchTag, NoReserved, NotHeld, NotPosted, BadCount, TooShallow, Spent, Waiting, NotWaiting}
+use Rattle.tag_search.specs.declared.found.Found.{Found}
+use Rattle.tag_c.specs.Left.{answer_of}
 use Rattle.tag_c.specs.declared.status.Status.{Status}
 use Rattle.tag_c.specs.declared.status.Status.TheVariants.{Done, Refused, NoTag, Again, BadHandle, NotEmpty, NoHand, HandsOut, BadKind, TooSmall, BadFlag, NotOpened, NoBerth, HandLost, InUse, HandsWait, CacheTooLarge}
 
@@ -64,26 +66,33 @@ code_of_get (Ok (Some tag)) = pos tag
 code_of_get (Ok None) = code_of NoTag
 code_of_get (Err fault) = code_of_fault fault
 
+-- the same of a get that also tells how many tags it left free
+abbrev pub code_of_found : Result (Found ℕ) TagFault → ℤ
+code_of_found found = code_of_get (answer_of found)
+
 -- the first tag of a batch, or why there is none
 abbrev pub code_of_batch : Result (Option (ℕ × ℕ)) TagFault → ℤ
 code_of_batch (Ok (Some won)) = pos won.0
 code_of_batch (Ok None) = code_of NoTag
 code_of_batch (Err fault) = code_of_fault fault
 
+-- the same of a get that also tells how many tags it left free
+abbrev pub code_of_found_batch : Result (Found (ℕ × ℕ)) TagFault → ℤ
+code_of_found_batch found = code_of_batch (answer_of found)
+
 -- the count, which never exceeds the bound, or the reason why there is none
 abbrev pub code_of_count : Result ℕ TagFault → ℤ
 code_of_count (Ok count) = pos (min count MAX_DEPTH)
 code_of_count (Err fault) = code_of_fault fault
 
--- how many waiters were granted a wakeup, at most the bound, or the reason for the refusal
-abbrev pub code_of_grants : Result Grants TagFault → ℤ
-code_of_grants (Ok grants) = pos (min grants.woken MAX_DEPTH)
-code_of_grants (Err fault) = code_of_fault fault
+-- how many waiters were granted a wakeup, at most the bound
+abbrev pub code_of_told : Grants → ℤ
+code_of_told grants = pos (min grants.woken MAX_DEPTH)
 
--- the same answer with the number of waiters alone
-abbrev pub woken_of : Result Grants TagFault → Result ℕ TagFault
-woken_of (Ok grants) = Ok grants.woken
-woken_of (Err fault) = Err fault
+-- the same, or the reason for the refusal
+abbrev pub code_of_grants : Result Grants TagFault → ℤ
+code_of_grants (Ok grants) = code_of_told grants
+code_of_grants (Err fault) = code_of_fault fault
 
 -- 0 on success, or the reason for the refusal
 abbrev pub code_of_done : {A : Type 0} → Result A TagFault → ℤ

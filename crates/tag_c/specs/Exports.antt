@@ -9,7 +9,8 @@ use Rattle.tag_queue.specs.declared.gather.QueueTotals.{QueueTotals}
 use Rattle.tag_queue.specs.declared.queue.Options.{Options}
 use Rattle.tag_sets.specs.declared.hand.Hand.{Hand}
 use Rattle.tag_sets.specs.declared.tags.Tags.{Tags}
-use Rattle.tag_sets.specs.Opening as sets
+use Rattle.refusals.specs.Refusals.{FailsFirst, PassesAll}
+use Rattle.tag_sets.specs.Refusals.{open_checks}
 use Rattle.tag_cache.specs.declared.keeping.Keeping.TheVariants.{Always, WhileHolding}
 use Rattle.tag_c.specs.declared.cached.CacheTerms.{CacheTerms}
 use Rattle.tag_c.specs.declared.object.Kind.{Kind}
@@ -111,6 +112,11 @@ OpensPool requested most keeping None = ⊥
 OpensPool requested most keeping (Some object) = IsKnown requested most keeping
     × IsNewPool requested.total requested.reserved (options_of requested) (terms_of most keeping) object.kind
 
+-- the tags cannot be opened as requested, for the first check that fails, or because memory runs out
+abbrev pub IsRefusedOpen : RequestedOptions → SetFault → Type 0
+IsRefusedOpen requested fault = let checks = open_checks requested.total requested.reserved (options_of requested) in
+    FailsFirst checks fault ⊎ (PassesAll checks × (fault ≡ Memory))
+
 -- an open is refused for the first that holds: a full handle, an unknown flag or number, too large a cache, a limit
 -- exceeded, lack of memory
 abbrev pub RefusesOpen : Option Object → RequestedOptions → ℕ → ℕ → Status → Type 0
@@ -119,7 +125,7 @@ RefusesOpen old requested most keeping status =
     ⊎ ((status ≡ BadFlag) × (old ≡ None) × ((1 < requested.flags) ⊎ (1 < keeping)))
     ⊎ ((status ≡ CacheTooLarge) × (old ≡ None) × (requested.flags ≤ 1) × (keeping ≤ 1) × (MAX_CACHE < most))
     ⊎ ((fault : SetFault) × (status ≡ NotOpened fault) × (old ≡ None) × IsKnown requested most keeping
-    × sets.RefusesOpen requested.total requested.reserved (options_of requested) fault)
+    × IsRefusedOpen requested fault)
 
 -- the spare hands of a pool
 abbrev pub spare_in : Kind → List (Hand ℕ)

@@ -1,12 +1,9 @@
 pub mod Sharing
 pub mod Codes
-pub mod Callers
-pub mod Caching
+pub mod Holders
 pub mod Calls
-pub mod Flushes
 pub mod Pools
 pub mod Joins
-pub mod Masks
 pub mod Grants
 pub mod Pairs
 pub mod Views

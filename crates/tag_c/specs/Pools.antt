@@ -9,7 +9,9 @@ use Rattle.tag_sets.specs.declared.hand.Hand.{Hand}
 use Rattle.tag_sets.specs.declared.tags.Tags.{Tags}
 use Rattle.tag_sets.specs.declared.kind.Kind.TheVariants.{Ordinary, Reserved}
 use Rattle.tag_sets.specs.Hands.{IsHandOf, total_of, reserved_of, layout_of}
-use Rattle.tag_sets.specs.Opening.{CanOpen, IsOpen}
+use Rattle.refusals.specs.Refusals.{PassesAll}
+use Rattle.tag_sets.specs.Opening.{IsOpen}
+use Rattle.tag_sets.specs.Refusals.{open_checks}
 use Rattle.tag_sets.specs.Gathering.{hands_of, numbers_of, IsGathered}
 use Rattle.tag_c.specs.declared.status.Status.{Status}
 use Rattle.tag_c.specs.declared.status.Status.TheVariants.{NoHand, NotOpened}
@@ -19,7 +21,7 @@ pub record Opens (total reserved : ℕ) (options : Options) (tags : Tags ℕ) (s
   pub hands : List (Hand ℕ)
   pub opened : IsOpen options tags hands
   pub spare_are : spare ≡ reverse hands
-  pub can : CanOpen total reserved options
+  pub can : PassesAll (open_checks total reserved options)
   pub total_is : total_of tags ≡ total
   pub reserved_is : reserved_of tags ≡ reserved
   pub ordinary_shift : HasShift (total - reserved) options.shift (layout_of tags Ordinary).shift

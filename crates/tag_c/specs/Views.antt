@@ -19,15 +19,15 @@ use Rattle.tag_cache.specs.Same.{SameTags}
 use Rattle.tag_c.specs.declared.looks.Counts.{Counts}
 use Rattle.tag_c.specs.declared.looks.Sizes.{Sizes}
 use Rattle.tag_c.specs.declared.status.Status.TheVariants.{Refused, BadKind, TooSmall}
-use Rattle.tag_c.specs.Callers.{Caller, hand_of, Holds, IsKept, Either, IsUnchanged}
+use Rattle.tag_c.specs.Holders.{Holder, hand_of, Holds, IsKept, Either, IsUnchanged}
 use Rattle.tag_c.specs.Codes.{code_of}
 
 -- the caller holds the same tags, and the same tags are kept
-abbrev pub KeepsTags : Caller → Caller → Type 0
+abbrev pub KeepsTags : Holder → Holder → Type 0
 KeepsTags = Either (λ _ _. ⊤) SameTags
 
 -- 1 if the caller holds the tag, 0 if not, refused if there is no such tag; nothing changes
-pub record SaysHeld (tag : ℕ) (code : ℤ) (tags : Tags ℕ) (old new : Caller) : Type 0 where
+pub record SaysHeld (tag : ℕ) (code : ℤ) (tags : Tags ℕ) (old new : Holder) : Type 0 where
   pub no_such_tag : total_of tags ≤ tag → code ≡ code_of (Refused NoSuchTag)
   pub held : tag < total_of tags → ((code ≡ pos 1) × Holds old tag)
       ⊎ ((code ≡ pos 0) × ¬ (Holds old tag))
@@ -35,7 +35,7 @@ pub record SaysHeld (tag : ℕ) (code : ℤ) (tags : Tags ℕ) (old new : Caller
 
 -- a list with too few bits is refused and kept; otherwise the bit of each busy tag becomes 1, every other bit 0, and
 -- the number is how many are busy; the tags that the caller holds are among them, and so are those that are kept
-pub record SaysBusy (before after : List ℕ) (code : ℤ) (tags : Tags ℕ) (old new : Caller) : Type 0 where
+pub record SaysBusy (before after : List ℕ) (code : ℤ) (tags : Tags ℕ) (old new : Holder) : Type 0 where
   pub too_small : 64 * length before < total_of tags → (code ≡ code_of TooSmall) × (after ≡ before)
       × IsUnchanged old new
   pub lists : total_of tags ≤ 64 * length before
@@ -45,7 +45,7 @@ pub record SaysBusy (before after : List ℕ) (code : ℤ) (tags : Tags ℕ) (ol
   pub same : total_of tags ≤ 64 * length before → KeepsTags old new
 
 -- the sizes are those that a show of this set found
-abbrev pub SaysShownOf : Kind → Sizes → ℤ → Tags ℕ → Caller → Caller → Type 0
+abbrev pub SaysShownOf : Kind → Sizes → ℤ → Tags ℕ → Holder → Holder → Type 0
 SaysShownOf kind sizes code tags old new = (code ≡ pos 0) × KeepsTags old new × Shows tags kind (record {
   depth = sizes.depth;
   busy = sizes.busy;
@@ -55,14 +55,14 @@ SaysShownOf kind sizes code tags old new = (code ≡ pos 0) × KeepsTags old new
 }) (hand_of old) (hand_of new)
 
 -- kind 0 is the ordinary set and 1 the reserved one; any other number is refused
-pub record SaysShown (kind : ℕ) (sizes : Sizes) (code : ℤ) (tags : Tags ℕ) (old new : Caller) : Type 0 where
+pub record SaysShown (kind : ℕ) (sizes : Sizes) (code : ℤ) (tags : Tags ℕ) (old new : Holder) : Type 0 where
   pub ordinary : kind ≡ 0 → SaysShownOf Ordinary sizes code tags old new
   pub reserved : kind ≡ 1 → SaysShownOf Reserved sizes code tags old new
   pub bad_kind : 2 ≤ kind → (code ≡ code_of BadKind) × IsUnchanged old new
 
 -- each count comes from a load of its own; what the hand counted is among the completions counted, and the hand among
 -- those that wait if it does; nothing else changes
-pub record SaysWakes (counts : Counts) (code : ℤ) (tags : Tags ℕ) (old new : Caller) : Type 0 where
+pub record SaysWakes (counts : Counts) (code : ℤ) (tags : Tags ℕ) (old new : Holder) : Type 0 where
   pub done : code ≡ pos 0
   pub counted : book_steps (hand_of new) ≡ LookCompletions counts.counted ∷ LookWakeups counts.charged ∷ book_steps (hand_of old)
   pub looks : group_steps (hand_of new) ≡ Look active_at counts.active ∷ Look index_at counts.index ∷ group_steps (hand_of old)
@@ -74,5 +74,5 @@ pub record SaysWakes (counts : Counts) (code : ℤ) (tags : Tags ℕ) (old new :
   pub same : KeepsTags old new
 
 -- 1 if the hand has a cache, 0 if not; nothing changes
-abbrev pub SaysCached : ℤ → Tags ℕ → Caller → Caller → Type 0
+abbrev pub SaysCached : ℤ → Tags ℕ → Holder → Holder → Type 0
 SaysCached code tags = Either (λ old new. (code ≡ pos 0) × (new ≡ old)) (λ old new. (code ≡ pos 1) × (new ≡ old))

@@ -1,5 +1,5 @@
 //! A hand that a thread of the C program has, with a cache of tags that it keeps for its next gets.
-ghost use Rattle.std.specs.Prelude.{◌≡◌, IfErr};
+ghost use Rattle.std.specs.Prelude.{◌≡◌};
 ghost use Rattle.std.specs.Arc.{arc_value};
 ghost use Rattle.tag_cache.specs.Caches.{IsCacheOf};
 ghost use Rattle.tag_cache.specs.Holding.{IsLeftWith};
@@ -34,7 +34,7 @@ impl CachedMember {
         ensures left { IsLeftWith self.cache result.hand }
     {
         let CachedMember { shared, cache } = self;
-        let (hand, _) = cache.into_hand_granted(&shared.tags);
+        let (hand, _) = cache.into_hand::<Count>(&shared.tags);
         Member { shared, hand }
     }
 }

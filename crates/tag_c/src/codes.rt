@@ -2,7 +2,7 @@
 ghost use Rattle.std.specs.Prelude.{◌≡◌, ◌≤◌, IfOk, IfSome, pos, min};
 ghost use Rattle.tag_layout.specs.declared.layout.TheConstants.{MAX_DEPTH};
 ghost use Rattle.tag_c.specs.Left.{answer_of, left_of};
-ghost use Rattle.tag_c.specs.Codes.{IsRefusal, code_of_get, code_of_batch, code_of_count, code_of_grants, code_of_done, code_of_finish, done_of, first_of, woken_of};
+ghost use Rattle.tag_c.specs.Codes.{IsRefusal, code_of_get, code_of_batch, code_of_count, code_of_grants, code_of_done, code_of_finish, done_of, first_of};
 
 use crate::status::{Status, fault_code};
 use tag_sets::{Found, Grants, Left, MAX_DEPTH, TagFault};
@@ -95,9 +95,9 @@ pub(crate) fn done_code(answer: Result<(), TagFault>) -> i32
     }
 }
 
-/// Returns the answer of a post without its grants.
+/// Returns the answer of a post without how many waiters it granted a wakeup.
 #[inline]
-pub(crate) fn without_grants(answer: Result<Grants, TagFault>) -> Result<(), TagFault>
+pub(crate) fn done_alone(answer: Result<u32, TagFault>) -> Result<(), TagFault>
     ensures { result ≡ done_of answer }
 {
     match answer {
@@ -106,9 +106,9 @@ pub(crate) fn without_grants(answer: Result<Grants, TagFault>) -> Result<(), Tag
     }
 }
 
-/// Returns the wait group of the answer without the grants of the flush before it.
+/// Returns the wait group of the answer without how many waiters the flush before it granted a wakeup.
 #[inline]
-pub(crate) fn group_alone(answer: Result<(u32, Grants), TagFault>) -> Result<u32, TagFault>
+pub(crate) fn group_alone(answer: Result<(u32, u32), TagFault>) -> Result<u32, TagFault>
     ensures { result ≡ first_of answer }
 {
     match answer {

@@ -1,11 +1,8 @@
 //! Gives kept tags back, and tells whether a hand keeps any, through the handle of a hand. Each call is described in tags.h.
-ghost use Rattle.std.specs.Prelude.{◌≡◌, List};
-ghost use Rattle.wake_book.specs.declared.steps.GroupStep.{GroupStep};
-ghost use Rattle.wake_book.specs.Grants.{AreGrantsOf};
-ghost use Rattle.tag_c.specs.Calls.{CallsBy, Through};
-ghost use Rattle.tag_c.specs.Codes.{IsRefusal, code_of_grants};
-ghost use Rattle.tag_c.specs.Flushes.{DoesFlush};
-ghost use Rattle.tag_c.specs.Grants.{Filling};
+ghost use Rattle.std.specs.Prelude.{◌≡◌};
+ghost use Rattle.tag_c.specs.Calls.{CallsBy, Through, DoesFlush};
+ghost use Rattle.tag_c.specs.Codes.{IsRefusal, code_of_told};
+ghost use Rattle.tag_c.specs.Grants.{FillingTold};
 ghost use Rattle.tag_c.specs.Views.{SaysCached};
 
 use crate::any_hand::{AnyHand, on_hand};
@@ -16,24 +13,15 @@ use crate::handle::Handle;
 use crate::member::Member;
 use wake_book::{Grants, NO_GRANTS};
 
-/// Returns the grants of a call that granted none.
-#[inline]
-fn no_grants() -> Grants
-    ensures none { result.woken ≡ 0 }
-    ensures grants { (steps : List GroupStep) → AreGrantsOf result steps steps }
-{
-    NO_GRANTS
-}
-
 /// Calls that give kept tags back, of which a hand without a cache has none.
 trait FlushCalls: AnyHand {
     /// Gives all kept tags back, and returns how many waiters were granted a wakeup.
     fn flush(&mut self) -> i32
-        ensures { Self.changes (Through DoesFlush code_of_grants result) self.old self.new };
+        ensures { Self.changes (Through DoesFlush code_of_told result) self.old self.new };
 
     /// Gives all kept tags back, fills in whom that granted a wakeup, and returns how many waiters they are.
     fn flush_granted(&mut self, granted: &mut Granted) -> i32
-        ensures calls { Self.changes (Through (Filling granted.new DoesFlush) code_of_grants result) self.old self.new }
+        ensures calls { Self.changes (Through (FillingTold granted.new DoesFlush) code_of_told result) self.old self.new }
         ensures kept { IsRefusal result → granted.new ≡ granted.old };
 
     /// Returns 1 if the hand has a cache, and 0 if not.
@@ -44,12 +32,12 @@ trait FlushCalls: AnyHand {
 impl FlushCalls for Member {
     #[inline(always)]
     fn flush(&mut self) -> i32 {
-        grants_code(Ok(no_grants()))
+        grants_code(Ok(NO_GRANTS))
     }
 
     #[inline(always)]
     fn flush_granted(&mut self, granted: &mut Granted) -> i32 {
-        fill(Ok(no_grants()), granted)
+        fill(Ok(NO_GRANTS), granted)
     }
 
     #[inline(always)]
@@ -61,12 +49,12 @@ impl FlushCalls for Member {
 impl FlushCalls for CachedMember {
     #[inline(never)]
     fn flush(&mut self) -> i32 {
-        grants_code(Ok(self.cache.flush_granted(&self.shared.tags)))
+        grants_code(Ok(self.cache.flush::<Report>(&self.shared.tags)))
     }
 
     #[inline(never)]
     fn flush_granted(&mut self, granted: &mut Granted) -> i32 {
-        fill(Ok(self.cache.flush_granted(&self.shared.tags)), granted)
+        fill(Ok(self.cache.flush::<Report>(&self.shared.tags)), granted)
     }
 
     #[inline(always)]
@@ -77,14 +65,14 @@ impl FlushCalls for CachedMember {
 
 #[unsafe(no_mangle)]
 pub extern "C" fn tags_flush(hand: &mut Handle) -> i32
-    ensures { CallsBy (Through DoesFlush code_of_grants result) result hand.old.object.value hand.new.object.value }
+    ensures { CallsBy (Through DoesFlush code_of_told result) result hand.old.object.value hand.new.object.value }
 {
     on_hand!(hand.flush())
 }
 
 #[unsafe(no_mangle)]
 pub extern "C" fn tags_flush_granted(hand: &mut Handle, granted: &mut Granted) -> i32
-    ensures calls { CallsBy (Through (Filling granted.new DoesFlush) code_of_grants result) result
+    ensures calls { CallsBy (Through (FillingTold granted.new DoesFlush) code_of_told result) result
         hand.old.object.value hand.new.object.value }
     ensures kept { IsRefusal result → granted.new ≡ granted.old }
 {

@@ -2,7 +2,7 @@
 ghost use Rattle.std.specs.Prelude.{◌≡◌};
 ghost use Rattle.tag_c.specs.declared.status.Status.TheVariants.{BadHandle};
 ghost use Rattle.tag_c.specs.Calls.{CallsBy, Through, DoesGet, DoesGetReserved, DoesGetShallow, DoesGetBatch};
-ghost use Rattle.tag_c.specs.Codes.{IsRefusal, code_of, code_of_get, code_of_batch};
+ghost use Rattle.tag_c.specs.Codes.{IsRefusal, code_of, code_of_get};
 
 use crate::any_hand::{AnyHand, on_hand};
 use crate::cached::CachedMember;
@@ -14,7 +14,7 @@ use crate::member::Member;
 trait GetCalls: AnyHand {
     /// Takes a free ordinary tag and returns it. `left` becomes the number of tags that this freed and did not take.
     fn get(&mut self, left: &mut u64) -> i32
-        ensures { Self.changes (Through (DoesGet left.new) code_of_get result) self.old self.new };
+        ensures { Self.changes (Through (DoesGet left.new) code_of_found result) self.old self.new };
 
     /// Takes a free reserved tag and returns it.
     fn get_reserved(&mut self) -> i32
@@ -22,12 +22,12 @@ trait GetCalls: AnyHand {
 
     /// Takes a free ordinary tag within the words' shares of `depth` and returns it.
     fn get_shallow(&mut self, depth: u32, left: &mut u64) -> i32
-        ensures { Self.changes (Through (DoesGetShallow depth left.new) code_of_get result) self.old self.new };
+        ensures { Self.changes (Through (DoesGetShallow depth left.new) code_of_found result) self.old self.new };
 
     /// Takes up to `n` ordinary tags of one word, and returns the first tag of their run. Bit 0 of `won` becomes 1 if
     /// that tag was won, bit 1 if the next one was, and so on. If no tag was won, `won` keeps its value.
     fn get_batch(&mut self, n: u32, won: &mut u64, left: &mut u64) -> i32
-        ensures calls { Self.changes (Through (DoesGetBatch n won.new left.new) code_of_batch result) self.old self.new }
+        ensures calls { Self.changes (Through (DoesGetBatch n won.new left.new) code_of_found_batch result) self.old self.new }
         ensures kept { IsRefusal result → won.new ≡ won.old };
 }
 
@@ -90,7 +90,7 @@ impl GetCalls for CachedMember {
 
 #[unsafe(no_mangle)]
 pub extern "C" fn tags_get(hand: &mut Handle, left: &mut u64) -> i32
-    ensures calls { CallsBy (Through (DoesGet left.new) code_of_get result) result hand.old.object.value hand.new.object.value }
+    ensures calls { CallsBy (Through (DoesGet left.new) code_of_found result) result hand.old.object.value hand.new.object.value }
     ensures bad_handle { result ≡ code_of BadHandle → left.new ≡ 0 }
 {
     *left = 0;
@@ -106,7 +106,7 @@ pub extern "C" fn tags_get_reserved(hand: &mut Handle) -> i32
 
 #[unsafe(no_mangle)]
 pub extern "C" fn tags_get_shallow(hand: &mut Handle, depth: u32, left: &mut u64) -> i32
-    ensures calls { CallsBy (Through (DoesGetShallow depth left.new) code_of_get result) result
+    ensures calls { CallsBy (Through (DoesGetShallow depth left.new) code_of_found result) result
         hand.old.object.value hand.new.object.value }
     ensures bad_handle { result ≡ code_of BadHandle → left.new ≡ 0 }
 {
@@ -116,7 +116,7 @@ pub extern "C" fn tags_get_shallow(hand: &mut Handle, depth: u32, left: &mut u64
 
 #[unsafe(no_mangle)]
 pub extern "C" fn tags_get_batch(hand: &mut Handle, n: u32, won: &mut u64, left: &mut u64) -> i32
-    ensures calls { CallsBy (Through (DoesGetBatch n won.new left.new) code_of_batch result) result
+    ensures calls { CallsBy (Through (DoesGetBatch n won.new left.new) code_of_found_batch result) result
         hand.old.object.value hand.new.object.value }
     ensures kept { IsRefusal result → won.new ≡ won.old }
     ensures bad_handle { result ≡ code_of BadHandle → left.new ≡ 0 }

@@ -35,12 +35,12 @@ impl ClearCalls for Member {
 impl ClearCalls for CachedMember {
     #[inline(never)]
     fn clear(&mut self, tag: u32) -> i32 {
-        count_code(self.cache.clear_counted(&self.shared.tags, tag))
+        count_code(self.cache.clear::<Count>(&self.shared.tags, tag))
     }
 
     #[inline(never)]
     fn clear_batch(&mut self, tags: &[u32]) -> i32 {
-        grants_code(self.cache.clear_batch_granted(&self.shared.tags, tags))
+        grants_code(self.cache.clear_batch::<Report>(&self.shared.tags, tags))
     }
 }
 

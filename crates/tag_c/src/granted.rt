@@ -73,13 +73,13 @@ impl GrantedCalls for Member {
 impl GrantedCalls for CachedMember {
     #[inline(never)]
     fn clear_granted(&mut self, tag: u32, granted: &mut Granted) -> i32 {
-        fill(self.cache.clear_granted(&self.shared.tags, tag), granted)
+        fill(self.cache.clear::<Report>(&self.shared.tags, tag), granted)
     }
 
     #[inline(never)]
     fn clear_batch_granted(&mut self, tags: &[u32], granted: &mut Granted) -> i32 {
         fill(
-            self.cache.clear_batch_granted(&self.shared.tags, tags),
+            self.cache.clear_batch::<Report>(&self.shared.tags, tags),
             granted,
         )
     }

@@ -1,9 +1,8 @@
 //! Gives back the tags of a mask in one call, through the handle of a hand. Each call is described in tags.h.
 ghost use Rattle.std.specs.Prelude.{◌≡◌};
-ghost use Rattle.tag_c.specs.Calls.{CallsBy, Through};
-ghost use Rattle.tag_c.specs.Codes.{IsRefusal, code_of_grants};
+ghost use Rattle.tag_c.specs.Calls.{CallsBy, Through, DoesClearMask, DoesClearMaskGranted};
+ghost use Rattle.tag_c.specs.Codes.{IsRefusal, code_of_count, code_of_grants};
 ghost use Rattle.tag_c.specs.Grants.{Filling};
-ghost use Rattle.tag_c.specs.Masks.{DoesClearMask};
 
 use crate::any_hand::{AnyHand, on_hand};
 use crate::cached::CachedMember;
@@ -16,19 +15,19 @@ use tag_sets::{Count, Report};
 /// Calls that give back the tags of a mask.
 trait MaskCalls: AnyHand {
     /// Gives the held ordinary tags of a mask back, and returns how many waiters were granted a wakeup.
-    fn clear_run(&mut self, first: u32, mask: u64) -> i32
-        ensures { Self.changes (Through (DoesClearMask first mask) code_of_grants result) self.old self.new };
+    fn clear_mask(&mut self, first: u32, mask: u64) -> i32
+        ensures { Self.changes (Through (DoesClearMask first mask) code_of_count result) self.old self.new };
 
     /// Gives the held ordinary tags of a mask back, fills in whom that granted a wakeup, and returns how many waiters
     /// they are.
-    fn clear_run_granted(&mut self, first: u32, mask: u64, granted: &mut Granted) -> i32
-        ensures calls { Self.changes (Through (Filling granted.new (DoesClearMask first mask)) code_of_grants result) self.old self.new }
+    fn clear_mask_granted(&mut self, first: u32, mask: u64, granted: &mut Granted) -> i32
+        ensures calls { Self.changes (Through (Filling granted.new (DoesClearMaskGranted first mask)) code_of_grants result) self.old self.new }
         ensures kept { IsRefusal result → granted.new ≡ granted.old };
 }
 
 impl MaskCalls for Member {
     #[inline(always)]
-    fn clear_run(&mut self, first: u32, mask: u64) -> i32 {
+    fn clear_mask(&mut self, first: u32, mask: u64) -> i32 {
         count_code(
             self.shared
                 .tags
@@ -37,7 +36,7 @@ impl MaskCalls for Member {
     }
 
     #[inline(always)]
-    fn clear_run_granted(&mut self, first: u32, mask: u64, granted: &mut Granted) -> i32 {
+    fn clear_mask_granted(&mut self, first: u32, mask: u64, granted: &mut Granted) -> i32 {
         fill(
             self.shared
                 .tags
@@ -49,41 +48,41 @@ impl MaskCalls for Member {
 
 impl MaskCalls for CachedMember {
     #[inline(never)]
-    fn clear_run(&mut self, first: u32, mask: u64) -> i32 {
+    fn clear_mask(&mut self, first: u32, mask: u64) -> i32 {
         count_code(
             self.cache
-                .clear_mask_counted(&self.shared.tags, first, mask),
+                .clear_mask::<Count>(&self.shared.tags, first, mask),
         )
     }
 
     #[inline(never)]
-    fn clear_run_granted(&mut self, first: u32, mask: u64, granted: &mut Granted) -> i32 {
+    fn clear_mask_granted(&mut self, first: u32, mask: u64, granted: &mut Granted) -> i32 {
         fill(
             self.cache
-                .clear_mask_granted(&self.shared.tags, first, mask),
+                .clear_mask::<Report>(&self.shared.tags, first, mask),
             granted,
         )
     }
 }
 
 #[unsafe(no_mangle)]
-pub extern "C" fn tags_clear_run(hand: &mut Handle, first: u32, mask: u64) -> i32
-    ensures { CallsBy (Through (DoesClearMask first mask) code_of_grants result) result hand.old.object.value
+pub extern "C" fn tags_clear_mask(hand: &mut Handle, first: u32, mask: u64) -> i32
+    ensures { CallsBy (Through (DoesClearMask first mask) code_of_count result) result hand.old.object.value
         hand.new.object.value }
 {
-    on_hand!(hand.clear_run(first, mask))
+    on_hand!(hand.clear_mask(first, mask))
 }
 
 #[unsafe(no_mangle)]
-pub extern "C" fn tags_clear_run_granted(
+pub extern "C" fn tags_clear_mask_granted(
     hand: &mut Handle,
     first: u32,
     mask: u64,
     granted: &mut Granted,
 ) -> i32
-    ensures calls { CallsBy (Through (Filling granted.new (DoesClearMask first mask)) code_of_grants result) result
+    ensures calls { CallsBy (Through (Filling granted.new (DoesClearMaskGranted first mask)) code_of_grants result) result
         hand.old.object.value hand.new.object.value }
     ensures kept { IsRefusal result → granted.new ≡ granted.old }
 {
-    on_hand!(hand.clear_run_granted(first, mask, granted))
+    on_hand!(hand.clear_mask_granted(first, mask, granted))
 }

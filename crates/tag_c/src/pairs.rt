@@ -2,7 +2,7 @@
 //! tags.h.
 ghost use Rattle.std.specs.Prelude.{◌≡◌};
 ghost use Rattle.tag_c.specs.Calls.{CallsBy, Through};
-ghost use Rattle.tag_c.specs.Codes.{IsRefusal, code_of, code_of_get, code_of_count};
+ghost use Rattle.tag_c.specs.Codes.{IsRefusal, code_of, code_of_found, code_of_count};
 ghost use Rattle.tag_c.specs.declared.status.Status.TheVariants.{BadHandle};
 ghost use Rattle.tag_c.specs.Pairs.{DoesGetWrite, DoesReadClear};
 
@@ -18,7 +18,7 @@ use tag_sets::Count;
 trait PairCalls: AnyHand {
     /// Takes a free ordinary tag, writes its slot, and returns the tag.
     fn get_write(&mut self, value: u64, left: &mut u64) -> i32
-        ensures { Self.changes (Through (DoesGetWrite value left.new) code_of_get result) self.old self.new };
+        ensures { Self.changes (Through (DoesGetWrite value left.new) code_of_found result) self.old self.new };
 
     /// Reads the slot of a held tag into `value`, gives the tag back, and returns how many waiters were granted a
     /// wakeup.
@@ -75,13 +75,13 @@ impl PairCalls for CachedMember {
             Err(fault) => return fault_code(fault),
         };
         *value = found;
-        count_code(self.cache.clear_counted(&self.shared.tags, tag))
+        count_code(self.cache.clear::<Count>(&self.shared.tags, tag))
     }
 }
 
 #[unsafe(no_mangle)]
 pub extern "C" fn tags_get_write(hand: &mut Handle, value: u64, left: &mut u64) -> i32
-    ensures calls { CallsBy (Through (DoesGetWrite value left.new) code_of_get result) result
+    ensures calls { CallsBy (Through (DoesGetWrite value left.new) code_of_found result) result
         hand.old.object.value hand.new.object.value }
     ensures bad_handle { result ≡ code_of BadHandle → left.new ≡ 0 }
 {

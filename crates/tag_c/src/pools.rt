@@ -1,9 +1,8 @@
 //! Opens and closes pools, and gives out and takes back their hands, through handles. Each call is described in tags.h.
-ghost use Rattle.std.specs.Prelude.{◌≡◌, ◌≢◌, ◌≤◌, ℕ, ◌⊎◌, ◌↔◌, pos, IsSome, None, IfOk, IfErr, IfSome, IsTrue, OnErr};
-ghost use Rattle.std.specs.Arc.{arc_value};
+ghost use Rattle.std.specs.Prelude.{◌≡◌, ◌≢◌, ℕ, ◌⊎◌, ◌↔◌, pos, IsSome, None, IfOk, IfErr, IfSome, IsTrue, OnErr};
 ghost use Rattle.tag_sets.specs.declared.tags.Tags.{Tags};
 ghost use Rattle.tag_c.specs.Codes.{code_of};
-ghost use Rattle.tag_c.specs.Exports.{HasPool, HasHand, IsPoolIn, IsMemberIn, Refuses, Ends, IsRefusedJoin};
+ghost use Rattle.tag_c.specs.Exports.{HasHand, IsPoolIn, IsMemberIn, Refuses, Ends, IsRefusedJoin};
 ghost use Rattle.tag_c.specs.Exports.{OpensPool, RefusesOpen, JoinsKind, JoinsPool, RefusesHandOf, RefusesJoin, RefusesLeave, ClosesPool, RefusesClose};
 ghost use Rattle.tag_c.specs.declared.status.Status.TheVariants.{Done, NotEmpty, BadHandle, HandsOut, HandLost, NoBerth};
 

@@ -1,5 +1,5 @@
 //! Reports through the handle of a pool, which spend no hand and are made at any time. Each call is described in tags.h.
-ghost use Rattle.std.specs.Prelude.{◌≡◌, ◌≤◌, ◌*◌, length};
+ghost use Rattle.std.specs.Prelude.{◌≡◌, ◌*◌};
 ghost use Rattle.std.specs.Arc.{arc_value};
 ghost use Rattle.tag_c.specs.Codes.{IsRefusal};
 ghost use Rattle.tag_c.specs.Reports.{ReportsBy, TellsBusy, TellsShown, TellsWakes};

@@ -6,7 +6,7 @@ ghost use Rattle.tag_c.specs.Codes.{IsRefusal, code_of_done};
 
 use crate::any_hand::{AnyHand, on_hand};
 use crate::cached::CachedMember;
-use crate::codes::{done_code, value_code, without_grants};
+use crate::codes::{done_code, value_code, done_alone};
 use crate::handle::Handle;
 use crate::member::Member;
 
@@ -67,7 +67,7 @@ impl SlotCalls for CachedMember {
     #[inline(never)]
     fn post(&mut self, tag: u32) -> i32 {
         // Whom this grants a wakeup is not told: a program flushes before its last post.
-        done_code(without_grants(self.cache.post_granted(&self.shared.tags, tag)))
+        done_code(done_alone(self.cache.post::<Count>(&self.shared.tags, tag)))
     }
 
     #[inline(never)]

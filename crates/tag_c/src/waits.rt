@@ -34,7 +34,7 @@ impl WaitCalls for Member {
 impl WaitCalls for CachedMember {
     #[inline(never)]
     fn prepare(&mut self) -> i32 {
-        count_code(group_alone(self.cache.prepare_wait_granted(&self.shared.tags)))
+        count_code(group_alone(self.cache.prepare_wait::<Count>(&self.shared.tags)))
     }
 
     #[inline(never)]

@@ -1,6 +1,6 @@
 -- Once the read has found a value the caller still holds the tag, so the clear succeeds.
 use Rattle.std.proofs.Common.{refl}
-use Rattle.tag_c.specs.Callers.{Caching}
+use Rattle.tag_c.specs.Holders.{Caching}
 use Rattle.tag_c.proofs.Does.{cache_clears}
 use Rattle.tag_c.proofs.Pairing.{refused_read, cleared_read}
 use Rattle.tag_c.proofs.pairs.CachedMemberPairCalls.read_clear.Goals as goal

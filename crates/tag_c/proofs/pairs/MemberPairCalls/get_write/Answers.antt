@@ -1,6 +1,6 @@
 -- The caller holds the tag that it has just won, so the write succeeds.
 use Rattle.std.proofs.Common.{Ok, ap, refl, sym, ◌∙◌}
-use Rattle.tag_c.specs.Callers.{Bare}
+use Rattle.tag_c.specs.Holders.{Bare}
 use Rattle.tag_c.specs.Left.{answer_of}
 use Rattle.tag_c.proofs.Does.{hand_gets}
 use Rattle.tag_c.proofs.Pairing.{get_written, get_alone, get_refused}

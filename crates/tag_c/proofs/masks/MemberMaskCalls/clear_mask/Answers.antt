@@ -1,13 +1,13 @@
 -- The answer comes with the clauses of `DoesClearMask`, and its number fits into 32 bits.
 use Rattle.std.proofs.Common.{refl, ◌∙◌}
 use Rattle.tag_sets.specs.Hands.{group_steps}
-use Rattle.tag_c.specs.Callers.{Bare}
+use Rattle.tag_c.specs.Holders.{Bare}
 use Rattle.tag_c.specs.Masks.{DoesClearMask}
 use Rattle.tag_c.specs.Codes.{code_of_grants}
 use Rattle.tag_c.proofs.Calling.{through}
 use Rattle.tag_c.proofs.Masking.{with_grants, same_number, masks_cleared}
 use Rattle.tag_c.proofs.Parts.{beside}
-use Rattle.tag_c.proofs.masks.MemberMaskCalls.clear_run.Goals as goal
+use Rattle.tag_c.proofs.masks.MemberMaskCalls.clear_mask.Goals as goal
 
 pub returns : goal.returns
 returns c = let e = c.clear_mask.ensures in let r = c.clear_mask.result in
