@@ -8,14 +8,14 @@ pub invariant_of-self : goal.invariant_of-self
 invariant_of-self g c = let cache = c.args.self.now in let call = c.get_shallow in
     owns c.args.tags.now cache call.new.hand c.requires call.ensures.hand (gained_still
     (shallow_call c.args.tags.now c.args.depth cache.hand call.new.hand call.result
-    call.ensures.gets call.ensures.err))
+    call.ensures.gets call.ensures.refusals.same))
 
 pub returns-clause-more : goal.returns-clause-more
 returns-clause-more g c = let cache = c.args.self.now in let call = c.get_shallow in more_of cache _ (search rules)
     (shallow_call c.args.tags.now c.args.depth cache.hand call.new.hand call.result
-    call.ensures.gets call.ensures.err)
+    call.ensures.gets call.ensures.refusals.same)
 
 pub returns-clause-tally : goal.returns-clause-tally
 returns-clause-tally g c = let cache = c.args.self.now in let call = c.get_shallow in tally_of cache _ (search rules)
     (shallow_call c.args.tags.now c.args.depth cache.hand call.new.hand call.result
-    call.ensures.gets call.ensures.err)
+    call.ensures.gets call.ensures.refusals.same)

@@ -6,7 +6,7 @@ use Rattle.tag_cache.proofs.cache.Cache.wait_for.Goals as goal
 pub invariant_of-self : goal.invariant_of-self
 invariant_of-self g c = let cache = c.args.self.now in let call = c.get_blocking in
     owns c.args.tags.now cache call.new.hand c.requires.cache call.ensures.hand
-    (still_on cache.hand call.new.hand call.result _ call.ensures.gets call.ensures.err
+    (still_on cache.hand call.new.hand call.result _ call.ensures.gets call.ensures.refusals.same
     (λ tag gets other h. (gets.more.kept other h).0))
 
 pub lend-requires-clause-held : goal.lend-requires-clause-held
