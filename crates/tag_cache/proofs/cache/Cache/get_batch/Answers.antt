@@ -10,12 +10,16 @@ invariant_of-self g c = let cache = c.args.self.now in let call = c.get_batch in
     (batch_call c.args.tags.now c.args.n cache.hand call.new.hand _ call.result call.ensures.refusals
     call.ensures.round_robin call.ensures.gets))
 
-pub returns-clause-more : goal.returns-clause-more
-returns-clause-more g c = let cache = c.args.self.now in let call = c.get_batch in more_of cache _ (search rules)
-    (batch_call c.args.tags.now c.args.n cache.hand call.new.hand _ call.result call.ensures.refusals
-    call.ensures.round_robin call.ensures.gets)
-
-pub returns-clause-tally : goal.returns-clause-tally
-returns-clause-tally g c = let cache = c.args.self.now in let call = c.get_batch in tally_of cache _ (search rules)
-    (batch_call c.args.tags.now c.args.n cache.hand call.new.hand _ call.result call.ensures.refusals
-    call.ensures.round_robin call.ensures.gets)
+pub returns : goal.returns
+returns g c = let cache = c.args.self.now in let call = c.get_batch in
+    let gain = batch_call c.args.tags.now c.args.n cache.hand call.new.hand _ call.result call.ensures.refusals
+    call.ensures.round_robin call.ensures.gets in record {
+      cache = search rules;
+      refusals = search rules;
+      round_robin = search rules;
+      gets = search rules;
+      more = more_of cache _ (search rules) gain;
+      kept = search rules;
+      window = search rules;
+      tally = tally_of cache _ (search rules) gain;
+    }

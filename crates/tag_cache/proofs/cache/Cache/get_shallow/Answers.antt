@@ -10,12 +10,15 @@ invariant_of-self g c = let cache = c.args.self.now in let call = c.get_shallow 
     (shallow_call c.args.tags.now c.args.depth cache.hand call.new.hand call.result
     call.ensures.gets call.ensures.refusals.same))
 
-pub returns-clause-more : goal.returns-clause-more
-returns-clause-more g c = let cache = c.args.self.now in let call = c.get_shallow in more_of cache _ (search rules)
-    (shallow_call c.args.tags.now c.args.depth cache.hand call.new.hand call.result
-    call.ensures.gets call.ensures.refusals.same)
-
-pub returns-clause-tally : goal.returns-clause-tally
-returns-clause-tally g c = let cache = c.args.self.now in let call = c.get_shallow in tally_of cache _ (search rules)
-    (shallow_call c.args.tags.now c.args.depth cache.hand call.new.hand call.result
-    call.ensures.gets call.ensures.refusals.same)
+pub returns : goal.returns
+returns g c = let cache = c.args.self.now in let call = c.get_shallow in
+    let gain = shallow_call c.args.tags.now c.args.depth cache.hand call.new.hand call.result
+    call.ensures.gets call.ensures.refusals.same in record {
+      cache = search rules;
+      refusals = search rules;
+      gets = search rules;
+      more = more_of cache _ (search rules) gain;
+      kept = search rules;
+      window = search rules;
+      tally = tally_of cache _ (search rules) gain;
+    }
