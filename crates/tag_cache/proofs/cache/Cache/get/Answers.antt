@@ -5,7 +5,6 @@ use Rattle.tag_sets.specs.Freed.{GetsAndLooks}
 use Rattle.tag_sets.specs.Gets as hand_gets
 use Rattle.tag_cache.proofs.Getting.{gets_after}
 use Rattle.tag_cache.proofs.Reusing.{gets_kept}
-use Rattle.tag_cache.proofs.Tallying.{reuse_tallies}
 use Rattle.tag_cache.proofs.cache.Cache.get.Goals as goal
 
 pub returns-then-keeps_none : goal.returns-then-keeps_none
@@ -16,12 +15,10 @@ returns-then-keeps_none g c = let win = c.win in let none = c.keeps_none.ensures
       refusals = search rules;
       gets = after.gets;
       loans = search rules;
-      tally = after.tally;
+      tally = search rules;
     }
 
 pub returns-clause-gets : goal.returns-clause-gets
 returns-clause-gets g c = gets_kept (GetsAndLooks (hand_gets.Gets c.args.tags.now (Some c.reuse.result)))
     c.args.tags.now c.args.self.now c.reuse.new.self c.reuse.result c.requires c.reuse.ensures
 
-pub returns-clause-tally : goal.returns-clause-tally
-returns-clause-tally g c = reuse_tallies c.args.self.now c.reuse.new.self c.reuse.result c.reuse.ensures

@@ -1,8 +1,7 @@
 -- A kept tag, or one that the hand gains.
-use Rattle.std.proofs.Common.{rules, inl}
+use Rattle.std.proofs.Common.{rules}
 use Rattle.tag_cache.proofs.Waiting.{waited_for}
 use Rattle.tag_cache.proofs.Reusing.{taken}
-use Rattle.tag_cache.proofs.Tallying.{reuse_tallies}
 use Rattle.tag_cache.proofs.cache.Cache.get_blocking.Goals as goal
 
 pub returns-then-keeps_none : goal.returns-then-keeps_none
@@ -11,18 +10,13 @@ returns-then-keeps_none g c = let wait = c.wait_for in let none = c.keeps_none.e
     wait.ensures.gets wait.ensures.waits in record {
       cache = search rules;
       refusals = search rules;
-      more = waited.more;
+      more = search rules;
       ordinary = search rules;
       waits = waited.waits;
       loans = search rules;
-      tally = waited.tally;
+      tally = search rules;
     }
 
 pub returns-clause-more : goal.returns-clause-more
 returns-clause-more g c = taken c.args.self.now c.reuse.new.self c.reuse.result c.reuse.ensures.takes
 
-pub returns-clause-waits : goal.returns-clause-waits
-returns-clause-waits g c = inl c.reuse.ensures
-
-pub returns-clause-tally : goal.returns-clause-tally
-returns-clause-tally g c = reuse_tallies c.args.self.now c.reuse.new.self c.reuse.result c.reuse.ensures

@@ -2,9 +2,8 @@
 use Rattle.std.proofs.Common.{rules}
 use Rattle.std.specs.Prelude.{Some}
 use Rattle.tag_sets.specs.Gets as hand_gets
-use Rattle.tag_cache.proofs.Getting.{none_left, gets_freed_after}
+use Rattle.tag_cache.proofs.Getting.{gets_freed_after}
 use Rattle.tag_cache.proofs.Reusing.{gets_kept}
-use Rattle.tag_cache.proofs.Tallying.{reuse_tallies}
 use Rattle.tag_cache.proofs.cache.Cache.get_freed.Goals as goal
 
 pub returns-then-keeps_none-clause-does : goal.returns-then-keeps_none-clause-does
@@ -16,7 +15,7 @@ returns-then-keeps_none-clause-does g c = let won = c.win_freed in
       gets = after.gets;
       left = search rules;
       loans = search rules;
-      tally = after.tally;
+      tally = search rules;
     }
 
 pub returns-clause-does : goal.returns-clause-does
@@ -24,7 +23,7 @@ returns-clause-does g c = let cache = c.args.self.now in let reuse = c.reuse in 
   refusals = search rules;
   gets = gets_kept (hand_gets.Gets c.args.tags.now (Some reuse.result)) c.args.tags.now cache reuse.new.self reuse.result
       c.requires reuse.ensures;
-  left = none_left cache.hand reuse.new.self.hand reuse.ensures.takes.hand;
+  left = search rules;
   loans = search rules;
-  tally = reuse_tallies cache reuse.new.self reuse.result reuse.ensures;
+  tally = search rules;
 }
