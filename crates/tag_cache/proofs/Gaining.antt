@@ -1,17 +1,18 @@
 -- What gets of the hand give the user of a cache.
 use Rattle.std.specs.Prelude.{IsTrue, IsOkAnd}
-use Rattle.std.proofs.Common.{arith, ◌≡◌, ◌<◌, ◌≤◌, ◌^◌, ◌↔◌, Bool, true, false, ℕ, Option, Some, None, Result, Ok, Err, IfOk, IfErr, OnErr, refl, sym, ap, ◌∙◌, subst, inl}
+use Rattle.std.proofs.Common.{arith, ◌≡◌, ◌<◌, ◌≤◌, ◌^◌, Bool, true, false, ℕ, Option, Some, None, Result, Ok, Err, IfOk, OnErr, ◌∷◌, refl, sym, ap, ◌∙◌, subst, inl}
 use Rattle.std.proofs.lemmas.Result.{IfOk-weaker}
+use Rattle.refusals.specs.Refusals.{Checks, RefusesBy}
 use Rattle.tag_layout.specs.Layout.{Layout}
 use Rattle.tag_search.specs.declared.found.Found.{Found}
 use Rattle.tag_search.specs.Gains.{count_of, count_of_run}
 use Rattle.tag_queue.specs.declared.agent.Agent.{Agent}
 use Rattle.tag_sets.specs.declared.fault.TagFault.{TagFault}
-use Rattle.tag_sets.specs.declared.fault.TagFault.TheVariants.{BadCount, Spent}
 use Rattle.tag_queue.specs.Gets as queue_gets
 use Rattle.tag_sets.specs.declared.hand.Hand.{Hand}
 use Rattle.tag_sets.specs.declared.kind.Kind.TheVariants.{Ordinary}
 use Rattle.tag_sets.specs.declared.tags.Tags.{Tags}
+use Rattle.tag_sets.specs.Calls.{DoesGet, DoesGetReserved, DoesGetShallow}
 use Rattle.tag_sets.specs.Hands as hands
 use Rattle.tag_sets.specs.Hands.{layout_of}
 use Rattle.tag_sets.specs.Freed.{GetsAndLooks}
@@ -38,11 +39,6 @@ pub record Gain {R : Type 0} {A : Type 0} (r : Result A TagFault) (named : A →
     (old new : Hand R) : Type 0 where
   pub gains : IfOk r (λ v. Gains (named v) (count v) old new)
   pub refused : OnErr r (new ≡ old)
-
--- a refusal that leaves the hand as it is
-spent_same : {A : Type 0} (X : Type 0) (r : Result A TagFault) → IfErr r (λ fault. (fault ≡ Spent) × X) → OnErr r X
-spent_same X (Ok v) e = tt
-spent_same X (Err fault) e = e.1
 
 -- as many tags as the run in the set has
 as_many_run : (reserved : ℕ) (answer number : Option (ℕ × ℕ)) → answer ≡ whole_run reserved number
@@ -118,20 +114,18 @@ module _ {R : Type 0} where
 
   -- the same of what calls answer
   pub get_call : (tags : Tags R) (a b : Hand R) (r : Result (Option ℕ) TagFault)
-      → IfOk r (λ answer. GetsAndLooks (hand_gets.Gets tags answer) a b)
-      → IfErr r (λ fault. (fault ≡ Spent) × (b ≡ a))
+      → IfOk r (λ answer. GetsAndLooks (hand_gets.Gets tags answer) a b) → OnErr r (b ≡ a)
       → Gain r (λ answer. IsAnswer answer) (λ answer. answered answer) a b
   get_call tags a b r gets err = record {
     gains = IfOk-weaker r _ _ (λ answer. get_gains tags answer a b) gets;
-    refused = spent_same _ r err;
+    refused = err;
   }
 
   pub get_freed_call : (tags : Tags R) (a b : Hand R) (r : Result (Found ℕ) TagFault)
-      → IfOk r (λ found. hand_gets.Gets tags found.answer a b) → IfErr r (λ fault. (fault ≡ Spent) × (b ≡ a))
-      → Gain r (λ found. IsAnswer found.answer) (λ found. answered found.answer) a b
-  get_freed_call tags a b r gets err = record {
-    gains = IfOk-weaker r _ _ (λ found. plain_gains tags found.answer a b) gets;
-    refused = spent_same _ r err;
+      → DoesGet tags r a b → Gain r (λ found. IsAnswer found.answer) (λ found. answered found.answer) a b
+  get_freed_call tags a b r does = record {
+    gains = IfOk-weaker r _ _ (λ found. plain_gains tags found.answer a b) does.gets;
+    refused = does.refusals.same;
   }
 
   pub shallow_call : (tags : Tags R) (depth : ℕ) (a b : Hand R) (r : Result (Option ℕ) TagFault)
@@ -144,55 +138,52 @@ module _ {R : Type 0} where
   }
 
   pub shallow_freed_call : (tags : Tags R) (depth : ℕ) (a b : Hand R) (r : Result (Found ℕ) TagFault)
-      → IfOk r (λ found. hand_gets.GetsShallow tags depth found.answer a b) → OnErr r (b ≡ a)
+      → DoesGetShallow depth tags r a b
       → Gain r (λ found. IsAnswer found.answer) (λ found. answered found.answer) a b
-  shallow_freed_call tags depth a b r gets err = record {
-    gains = IfOk-weaker r _ _ (λ found. shallow_gains tags depth found.answer a b) gets;
-    refused = err;
+  shallow_freed_call tags depth a b r does = record {
+    gains = IfOk-weaker r _ _ (λ found. shallow_gains tags depth found.answer a b) does.gets;
+    refused = does.refusals.same;
   }
 
   pub reserved_call : (tags : Tags R) (a b : Hand R) (r : Result (Option ℕ) TagFault)
-      → IfOk r (λ answer. hand_gets.GetsReserved tags answer a b) → OnErr r (b ≡ a)
-      → Gain r (λ answer. IsAnswer answer) (λ answer. answered answer) a b
-  reserved_call tags a b r gets err = record {
+      → DoesGetReserved tags r a b → Gain r (λ answer. IsAnswer answer) (λ answer. answered answer) a b
+  reserved_call tags a b r does = record {
     gains = IfOk-weaker r _ _ (λ answer (x : hand_gets.GetsReserved tags answer a b).
-        record { more = x.more; moves = reserved_moves tags answer a b x }) gets;
-    refused = err;
+        record { more = x.more; moves = reserved_moves tags answer a b x }) does.gets;
+    refused = does.refusals.same;
   }
 
   -- under round robin a batch get answers no tag and changes nothing
-  pub batch_call : (tags : Tags R) (n : ℕ) (robin : Bool) (miscounts : Type 0) (a b : Hand R)
-      (r : Result (Option (ℕ × ℕ)) TagFault) → (r ≡ Err BadCount) ↔ miscounts
-      → (¬ miscounts → IsTrue robin → (r ≡ Ok None) × (b ≡ a))
-      → (robin ≡ false → IfOk r (λ answer. GetsAndLooks (hand_gets.GetsBatch tags n answer) a b)) → OnErr r (b ≡ a)
-      → Gain r (λ answer. IsInRun answer) (λ answer. answered_run answer) a b
-  batch_call tags n false miscounts a b r bad robin gets err = record {
-    gains = IfOk-weaker r _ _ (λ answer. looked_gains (IsInRun answer) (answered_run answer)
-        (hand_gets.GetsBatch tags n answer) a b (λ x. batch_gains tags n answer a x)) (gets refl);
-    refused = err;
-  }
-  batch_call tags n true miscounts a b (Ok None) bad robin gets err =
-      record { gains = gains_none a b (robin (λ m. let e = bad.1 m in cc) refl).1; refused = tt }
-  batch_call tags n true miscounts a b (Ok (Some won)) bad robin gets err =
-      let e = (robin (λ m. let x = bad.1 m in cc) refl).0 in cc
-  batch_call tags n true miscounts a b (Err e) bad robin gets err = record { gains = tt; refused = err }
+  module _ (tags : Tags R) (n : ℕ) (a b : Hand R) {counts : Type 0} {fault : TagFault} {later : Checks TagFault} where
+    pub batch_call : (robin : Bool) (r : Result (Option (ℕ × ℕ)) TagFault)
+        → RefusesBy ((counts, fault) ∷ later) (b ≡ a) r → (counts → IsTrue robin → (r ≡ Ok None) × (b ≡ a))
+        → (robin ≡ false → IfOk r (λ answer. GetsAndLooks (hand_gets.GetsBatch tags n answer) a b))
+        → Gain r (λ answer. IsInRun answer) (λ answer. answered_run answer) a b
+    batch_call false r refusals none gets = record {
+      gains = IfOk-weaker r _ _ (λ answer. looked_gains (IsInRun answer) (answered_run answer)
+          (hand_gets.GetsBatch tags n answer) a b (λ x. batch_gains tags n answer a x)) (gets refl);
+      refused = refusals.same;
+    }
+    batch_call true (Ok None) refusals none gets =
+        record { gains = gains_none a b (none refusals.passes.0 refl).1; refused = tt }
+    batch_call true (Ok (Some won)) refusals none gets = let e = (none refusals.passes.0 refl).0 in cc
+    batch_call true (Err e) refusals none gets = record { gains = tt; refused = refusals.same }
 
-  pub batch_freed_call : (tags : Tags R) (n : ℕ) (robin : Bool) (miscounts : Type 0) (a b : Hand R)
-      (r : Result (Found (ℕ × ℕ)) TagFault) → (r ≡ Err BadCount) ↔ miscounts
-      → (¬ miscounts → IsTrue robin → IsOkAnd r (λ found. found.answer ≡ None) × (b ≡ a))
-      → (robin ≡ false → IfOk r (λ found. hand_gets.GetsBatch tags n found.answer a b)) → OnErr r (b ≡ a)
-      → Gain r (λ found. IsInRun found.answer) (λ found. answered_run found.answer) a b
-  batch_freed_call tags n false miscounts a b r bad robin gets err = record {
-    gains = IfOk-weaker r _ _ (λ found. batch_gains tags n found.answer a b) (gets refl);
-    refused = err;
-  }
-  batch_freed_call tags n true miscounts a b (Ok found) bad robin gets err =
-      let same = robin (λ m. let e = bad.1 m in cc) refl in record {
-        gains = subst (λ (answer : Option (ℕ × ℕ)). Gains (IsInRun answer) (answered_run answer) a b) (sym same.0)
-            (gains_none a b same.1);
-        refused = tt;
-      }
-  batch_freed_call tags n true miscounts a b (Err e) bad robin gets err = record { gains = tt; refused = err }
+    pub batch_freed_call : (robin : Bool) (r : Result (Found (ℕ × ℕ)) TagFault)
+        → RefusesBy ((counts, fault) ∷ later) (b ≡ a) r
+        → (counts → IsTrue robin → IsOkAnd r (λ found. found.answer ≡ None) × (b ≡ a))
+        → (robin ≡ false → IfOk r (λ found. hand_gets.GetsBatch tags n found.answer a b))
+        → Gain r (λ found. IsInRun found.answer) (λ found. answered_run found.answer) a b
+    batch_freed_call false r refusals none gets = record {
+      gains = IfOk-weaker r _ _ (λ found. batch_gains tags n found.answer a b) (gets refl);
+      refused = refusals.same;
+    }
+    batch_freed_call true (Ok found) refusals none gets = let same = none refusals.passes.0 refl in record {
+      gains = subst (λ (answer : Option (ℕ × ℕ)). Gains (IsInRun answer) (answered_run answer) a b) (sym same.0)
+          (gains_none a b same.1);
+      refused = tt;
+    }
+    batch_freed_call true (Err e) refusals none gets = record { gains = tt; refused = refusals.same }
 
   -- the hand still has what it had
   pub gained_still : {A : Type 0} {r : Result A TagFault} {named : A → ℕ → Type 0} {count : A → ℕ} {a b : Hand R}

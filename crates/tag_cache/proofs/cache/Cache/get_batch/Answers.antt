@@ -7,15 +7,19 @@ use Rattle.tag_cache.proofs.cache.Cache.get_batch.Goals as goal
 pub invariant_of-self : goal.invariant_of-self
 invariant_of-self g c = let cache = c.args.self.now in let call = c.get_batch in
     owns c.args.tags.now cache call.new.hand c.requires call.ensures.hand (gained_still
-    (batch_call c.args.tags.now c.args.n _ _ cache.hand call.new.hand call.result
-    call.ensures.bad_count call.ensures.round_robin call.ensures.gets call.ensures.err))
+    (batch_call c.args.tags.now c.args.n cache.hand call.new.hand _ call.result call.ensures.refusals
+    call.ensures.round_robin call.ensures.gets))
 
-pub returns-clause-more : goal.returns-clause-more
-returns-clause-more g c = let cache = c.args.self.now in let call = c.get_batch in more_of cache _ (search rules)
-    (batch_call c.args.tags.now c.args.n _ _ cache.hand call.new.hand call.result
-    call.ensures.bad_count call.ensures.round_robin call.ensures.gets call.ensures.err)
-
-pub returns-clause-tally : goal.returns-clause-tally
-returns-clause-tally g c = let cache = c.args.self.now in let call = c.get_batch in tally_of cache _ (search rules)
-    (batch_call c.args.tags.now c.args.n _ _ cache.hand call.new.hand call.result
-    call.ensures.bad_count call.ensures.round_robin call.ensures.gets call.ensures.err)
+pub returns : goal.returns
+returns g c = let cache = c.args.self.now in let call = c.get_batch in
+    let gain = batch_call c.args.tags.now c.args.n cache.hand call.new.hand _ call.result call.ensures.refusals
+    call.ensures.round_robin call.ensures.gets in record {
+      cache = search rules;
+      refusals = search rules;
+      round_robin = search rules;
+      gets = search rules;
+      more = more_of cache _ (search rules) gain;
+      kept = search rules;
+      window = search rules;
+      tally = tally_of cache _ (search rules) gain;
+    }

@@ -5,17 +5,21 @@ use Rattle.tag_cache.proofs.Gaining.{batch_freed_call, gained_still, more_of, ta
 use Rattle.tag_cache.proofs.cache.Cache.get_batch_freed.Goals as goal
 
 pub invariant_of-self : goal.invariant_of-self
-invariant_of-self g c = let cache = c.args.self.now in let call = c.get_batch_freed in
+invariant_of-self g c = let cache = c.args.self.now in let call = c.get_batch_freed in let does = call.ensures.does in
     owns c.args.tags.now cache call.new.hand c.requires call.ensures.hand (gained_still
-    (batch_freed_call c.args.tags.now c.args.n _ _ cache.hand call.new.hand call.result
-    call.ensures.bad_count call.ensures.round_robin call.ensures.gets call.ensures.err))
+    (batch_freed_call c.args.tags.now c.args.n cache.hand call.new.hand _ call.result does.refusals does.round_robin
+    does.gets))
 
-pub returns-clause-more : goal.returns-clause-more
-returns-clause-more g c = let cache = c.args.self.now in let call = c.get_batch_freed in
-    more_of cache _ (search rules) (batch_freed_call c.args.tags.now c.args.n _ _ cache.hand call.new.hand call.result
-    call.ensures.bad_count call.ensures.round_robin call.ensures.gets call.ensures.err)
-
-pub returns-clause-tally : goal.returns-clause-tally
-returns-clause-tally g c = let cache = c.args.self.now in let call = c.get_batch_freed in
-    tally_of cache _ (search rules) (batch_freed_call c.args.tags.now c.args.n _ _ cache.hand call.new.hand call.result
-    call.ensures.bad_count call.ensures.round_robin call.ensures.gets call.ensures.err)
+pub returns-clause-does : goal.returns-clause-does
+returns-clause-does g c = let cache = c.args.self.now in let call = c.get_batch_freed in let does = call.ensures.does in
+    let gain = batch_freed_call c.args.tags.now c.args.n cache.hand call.new.hand _ call.result does.refusals
+    does.round_robin does.gets in record {
+      refusals = search rules;
+      round_robin = search rules;
+      gets = search rules;
+      left = search rules;
+      more = more_of cache _ (search rules) gain;
+      kept = search rules;
+      window = search rules;
+      tally = tally_of cache _ (search rules) gain;
+    }

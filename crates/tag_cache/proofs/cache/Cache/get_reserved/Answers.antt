@@ -1,18 +1,22 @@
 -- The tag that the hand gains is the user's.
 use Rattle.std.proofs.Common.{rules}
 use Rattle.tag_cache.proofs.Carrying.{owns}
-use Rattle.tag_cache.proofs.Gaining.{reserved_call, gained_still, more_of, tally_of}
+use Rattle.tag_cache.proofs.Gaining.{reserved_call, gained_still, more_of}
 use Rattle.tag_cache.proofs.cache.Cache.get_reserved.Goals as goal
 
 pub invariant_of-self : goal.invariant_of-self
 invariant_of-self g c = let cache = c.args.self.now in let call = c.get_reserved in
-    owns c.args.tags.now cache call.new.hand c.requires call.ensures.hand (gained_still
-    (reserved_call c.args.tags.now cache.hand call.new.hand call.result call.ensures.gets call.ensures.err))
+    owns c.args.tags.now cache call.new.hand c.requires call.ensures.hand
+    (gained_still (reserved_call c.args.tags.now cache.hand call.new.hand call.result call.ensures.does))
 
-pub returns-clause-more : goal.returns-clause-more
-returns-clause-more g c = let cache = c.args.self.now in let call = c.get_reserved in more_of cache _ (search rules)
-    (reserved_call c.args.tags.now cache.hand call.new.hand call.result call.ensures.gets call.ensures.err)
-
-pub returns-clause-tally : goal.returns-clause-tally
-returns-clause-tally g c = let cache = c.args.self.now in let call = c.get_reserved in tally_of cache _ (search rules)
-    (reserved_call c.args.tags.now cache.hand call.new.hand call.result call.ensures.gets call.ensures.err)
+pub returns-clause-does : goal.returns-clause-does
+returns-clause-does g c = let cache = c.args.self.now in let call = c.get_reserved in
+    let gain = reserved_call c.args.tags.now cache.hand call.new.hand call.result call.ensures.does in record {
+      refusals = search rules;
+      gets = search rules;
+      more = more_of cache _ (search rules) gain;
+      reserved = search rules;
+      kept = search rules;
+      window = search rules;
+      tally = search rules;
+    }

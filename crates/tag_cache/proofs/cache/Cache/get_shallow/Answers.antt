@@ -1,21 +1,24 @@
 -- The tag that the hand gains is the user's.
 use Rattle.std.proofs.Common.{rules}
 use Rattle.tag_cache.proofs.Carrying.{owns}
-use Rattle.tag_cache.proofs.Gaining.{shallow_call, gained_still, more_of, tally_of}
+use Rattle.tag_cache.proofs.Gaining.{shallow_call, gained_still, more_of}
 use Rattle.tag_cache.proofs.cache.Cache.get_shallow.Goals as goal
 
 pub invariant_of-self : goal.invariant_of-self
 invariant_of-self g c = let cache = c.args.self.now in let call = c.get_shallow in
     owns c.args.tags.now cache call.new.hand c.requires call.ensures.hand (gained_still
     (shallow_call c.args.tags.now c.args.depth cache.hand call.new.hand call.result
-    call.ensures.gets call.ensures.err))
+    call.ensures.gets call.ensures.refusals.same))
 
-pub returns-clause-more : goal.returns-clause-more
-returns-clause-more g c = let cache = c.args.self.now in let call = c.get_shallow in more_of cache _ (search rules)
-    (shallow_call c.args.tags.now c.args.depth cache.hand call.new.hand call.result
-    call.ensures.gets call.ensures.err)
-
-pub returns-clause-tally : goal.returns-clause-tally
-returns-clause-tally g c = let cache = c.args.self.now in let call = c.get_shallow in tally_of cache _ (search rules)
-    (shallow_call c.args.tags.now c.args.depth cache.hand call.new.hand call.result
-    call.ensures.gets call.ensures.err)
+pub returns : goal.returns
+returns g c = let cache = c.args.self.now in let call = c.get_shallow in
+    let gain = shallow_call c.args.tags.now c.args.depth cache.hand call.new.hand call.result
+    call.ensures.gets call.ensures.refusals.same in record {
+      cache = search rules;
+      refusals = search rules;
+      gets = search rules;
+      more = more_of cache _ (search rules) gain;
+      kept = search rules;
+      window = search rules;
+      tally = search rules;
+    }

@@ -7,15 +7,17 @@ use Rattle.tag_cache.proofs.cache.Cache.get_shallow_freed.Goals as goal
 pub invariant_of-self : goal.invariant_of-self
 invariant_of-self g c = let cache = c.args.self.now in let call = c.get_shallow_freed in
     owns c.args.tags.now cache call.new.hand c.requires call.ensures.hand (gained_still
-    (shallow_freed_call c.args.tags.now c.args.depth cache.hand call.new.hand call.result
-    call.ensures.gets call.ensures.err))
+    (shallow_freed_call c.args.tags.now c.args.depth cache.hand call.new.hand call.result call.ensures.does))
 
-pub returns-clause-more : goal.returns-clause-more
-returns-clause-more g c = let cache = c.args.self.now in let call = c.get_shallow_freed in
-    more_of cache _ (search rules) (shallow_freed_call c.args.tags.now c.args.depth cache.hand call.new.hand call.result
-    call.ensures.gets call.ensures.err)
-
-pub returns-clause-tally : goal.returns-clause-tally
-returns-clause-tally g c = let cache = c.args.self.now in let call = c.get_shallow_freed in
-    tally_of cache _ (search rules) (shallow_freed_call c.args.tags.now c.args.depth cache.hand call.new.hand call.result
-    call.ensures.gets call.ensures.err)
+pub returns-clause-does : goal.returns-clause-does
+returns-clause-does g c = let cache = c.args.self.now in let call = c.get_shallow_freed in
+    let gain = shallow_freed_call c.args.tags.now c.args.depth cache.hand call.new.hand call.result call.ensures.does in
+    record {
+      refusals = search rules;
+      gets = search rules;
+      left = search rules;
+      more = more_of cache _ (search rules) gain;
+      kept = search rules;
+      window = search rules;
+      tally = tally_of cache _ (search rules) gain;
+    }

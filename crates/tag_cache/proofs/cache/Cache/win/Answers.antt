@@ -6,7 +6,8 @@ use Rattle.tag_cache.proofs.cache.Cache.win.Goals as goal
 pub invariant_of-self : goal.invariant_of-self
 invariant_of-self g c = let cache = c.args.self.now in let call = c.get in
     owns c.args.tags.now cache call.new.hand c.requires.cache call.ensures.hand
-    (gained_still (get_call c.args.tags.now cache.hand call.new.hand call.result call.ensures.gets call.ensures.err))
+    (gained_still (get_call c.args.tags.now cache.hand call.new.hand call.result call.ensures.gets
+    call.ensures.refusals.same))
 
 pub lend-requires : goal.lend-requires
 lend-requires g c = let gets = c.in_ok-tag.ensures.gets in
