@@ -1,13 +1,14 @@
 -- What a clear owes its user, from what becomes of the tag.
-use Rattle.std.proofs.Common.{◌≡◌, ℕ, Result, Ok, Err, IfOk, OnOk, inl, refl}
-use Rattle.std.specs.Prelude.{IsOk}
+use Rattle.std.proofs.Common.{◌≡◌, ℕ, Result, Ok, Err, IfOk, OnOk, inl}
+use Rattle.refusals.specs.Refusals.{PassesAll}
 use Rattle.wake_book.specs.declared.grants.Grants.{Grants}
 use Rattle.tag_sets.specs.declared.fault.TagFault.{TagFault}
 use Rattle.tag_sets.specs.declared.tags.Tags.{Tags}
 use Rattle.tag_cache.specs.declared.cache.Cache.{Cache}
-use Rattle.tag_cache.specs.Caches.{IsCacheOf, IsLent, Holds}
+use Rattle.tag_cache.specs.Caches.{IsCacheOf, IsLent}
 use Rattle.tag_cache.specs.Clears.{Goes, GoesOrdinary}
 use Rattle.tag_cache.specs.Holding.{HoldsLess}
+use Rattle.tag_cache.specs.Refusals.{tag_checks}
 use Rattle.tag_cache.specs.Tallies.{Tallies}
 use Rattle.tag_cache.proofs.Going.{goes_less, goes_tallies}
 use Rattle.tag_cache.proofs.Reusing.{lent_held, lent_ordinary_of}
@@ -29,10 +30,10 @@ module _ {R : Type 0} (tags : Tags R) (tag : ℕ) (old new : Cache R) where
       }
 
   -- what a clear answers
-  pub less_on : (r : Result Grants TagFault) → (IsOk r → Holds old tag)
+  pub less_on : (r : Result Grants TagFault) → OnOk r (PassesAll (tag_checks tags old tag))
       → IfOk r (λ grants. Goes tags tag grants.woken old new) → OnOk r (HoldsLess (λ other. other ≡ tag) old new)
-  less_on (Ok grants) held goes = goes_less tags tag grants.woken old new (held refl).1 goes
-  less_on (Err fault) held goes = tt
+  less_on (Ok grants) passes goes = goes_less tags tag grants.woken old new passes.1.0.1 goes
+  less_on (Err fault) passes goes = tt
 
   pub tally_on : (r : Result Grants TagFault) → IfOk r (λ grants. Goes tags tag grants.woken old new)
       → OnOk r (Tallies 0 1 old new)

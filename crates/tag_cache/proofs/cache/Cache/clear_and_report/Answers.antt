@@ -25,7 +25,7 @@ returns-then-lends-clause-tally g c = (cleared c.args.tags.now c.args.tag c.args
 
 pub returns-clause-less : goal.returns-clause-less
 returns-clause-less g c = less_on c.args.tags.now c.args.tag c.args.self.now c.clear_other.new.self
-    c.clear_other.result c.clear_other.ensures.succeeds.0 c.clear_other.ensures.way
+    c.clear_other.result c.clear_other.ensures.refusals.passes c.clear_other.ensures.way
 
 pub returns-clause-tally : goal.returns-clause-tally
 returns-clause-tally g c = tally_on c.args.tags.now c.args.tag c.args.self.now c.clear_other.new.self

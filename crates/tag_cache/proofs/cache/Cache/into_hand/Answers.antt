@@ -3,5 +3,5 @@ use Rattle.tag_cache.proofs.Carrying.{left_with}
 use Rattle.tag_cache.proofs.cache.Cache.into_hand.Goals as goal
 
 pub returns-clause-left : goal.returns-clause-left
-returns-clause-left g c = left_with c.args.self c.flush-answer.new.self c.flush-answer.ensures.same
-    c.flush-answer.ensures.none
+returns-clause-left g c = left_with c.args.self c.flush-answer.new.self c.flush-answer.ensures.does.same
+    c.flush-answer.ensures.does.none
