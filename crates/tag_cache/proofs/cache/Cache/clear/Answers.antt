@@ -1,16 +1,15 @@
 -- A tag that has a place is held and ordinary, so it needs no test; what becomes of it says the rest.
-use Rattle.std.proofs.Common.{rules}
 use Rattle.tag_cache.proofs.Answering.{cleared}
 use Rattle.tag_cache.proofs.cache.Cache.clear.Goals as goal
 
 pub returns-then-has_place-clause-does : goal.returns-then-has_place-clause-does
 returns-then-has_place-clause-does g c = let e = c.keep_or_give_back_all.ensures in
-    let cleared = cleared c.args.tags.now c.args.tag c.args.self.now c.keep_or_give_back_all.new.self _ c.requires
+    let all = cleared c.args.tags.now c.args.tag c.args.self.now c.keep_or_give_back_all.new.self _ c.requires
     (c.has_place.ensures.0 c.if-has_place.true).lent e.way in record {
-      refusals = search rules;
-      less = cleared.less;
-      way = cleared.way;
+      refusals = record { first = tt; passes = all.passes; same = tt };
+      less = all.less;
+      way = all.way;
       tells = e.tells;
       loans = λ leaves. e.loans;
-      tally = cleared.tally;
+      tally = all.tally;
     }
