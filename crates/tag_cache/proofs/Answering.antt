@@ -15,7 +15,8 @@ use Rattle.tag_cache.proofs.Going.{goes_less, goes_tallies}
 use Rattle.tag_cache.proofs.Reusing.{lent_held, lent_ordinary_of}
 
 module _ {R : Type 0} (tags : Tags R) (tag : ℕ) (old new : Cache R) where
-  -- every check passed, the user holds the tag no more, the clear went its way with so many woken, and one tag was taken back
+  -- every check passed, the user holds the tag no more, the clear went its way with so many woken, and one tag was
+  -- taken back
   pub record Cleared (woken : ℕ) : Type 0 where
     pub passes : PassesAll (tag_checks tags old tag)
     pub less : HoldsLess (λ other. other ≡ tag) old new

@@ -22,10 +22,11 @@ pub returns-then-self-inside-ne0 : goal.returns-then-self-inside-ne0
 returns-then-self-inside-ne0 g c = let cache = c.args.self.now in
     let passed = c.in_ok-check_mask.ensures.refusals.passes in
     let apart = no_common cache.first cache.kept c.args.first c.args.mask c.inside.result cache.wide.0
-    c.ranges.mask.fits c.inside.ensures.inside in record {
+    c.ranges.mask.fits c.inside.ensures.inside in
+    let not_held : ¬ (All (Holds cache) (tags_in c.args.first c.args.mask)) = λ held.
+    let none = apart.1 (λ k d l. (held k d l).1) in let some = c.if-self-inside-ne0.true in omega arith in record {
       refusals = record {
-        first = inr (passed.0, inr (passed.1.0, inl ((λ held. let none = apart.1 (λ k d l. (held k d l).1) in
-            let some = c.if-self-inside-ne0.true in omega arith), refl)));
+        first = inr (passed.0, inr (passed.1.0, inl (not_held, refl)));
         passes = tt;
         same = tt;
       };

@@ -8,7 +8,8 @@ use Rattle.tag_cache.proofs.cache.Cache.clear_and_tell.Goals as goal
 
 pub returns-clause-does : goal.returns-clause-does
 returns-clause-does g c = let old = c.args.self.now in let mid = c.clear_and_report.new.self in
-    let new = c.tell.new.self in let tag = c.args.tag in let e = c.in_ok-grants.ensures in let t = c.tell.ensures in record {
+    let new = c.tell.new.self in let tag = c.args.tag in
+    let e = c.in_ok-grants.ensures in let t = c.tell.ensures in record {
       refusals = search rules;
       less = less_same (λ other. other ≡ tag) old mid new e.less t.same.held;
       way = subst (λ (n : ℕ). Goes c.args.tags.now tag n old new) (sym t.woken)

@@ -22,11 +22,12 @@ returns-in_err-check_batch-clause-does g c = let list = c.args.list.now in let c
 
 pub returns-then-not-keeps_none_of-clause-does : goal.returns-then-not-keeps_none_of-clause-does
 returns-then-not-keeps_none_of-clause-does g c = let list = c.args.list.now in let cache = c.args.self.now in
-    let passed = c.in_ok-check_batch.ensures.refusals.passes in record {
+    let passed = c.in_ok-check_batch.ensures.refusals.passes in
+    let not_held : ¬ (AreHeldOnce cache list) = λ held.
+    let none = c.keeps_none_of.ensures.1 (none_is_kept cache list held) in
+    let some = c.if-not-keeps_none_of.true in cc in record {
       refusals = record {
-        first = inr (passed.0, inr (passed.1.0, inl ((λ held.
-            let none = c.keeps_none_of.ensures.1 (none_is_kept cache list held) in
-            let some = c.if-not-keeps_none_of.true in cc), refl)));
+        first = inr (passed.0, inr (passed.1.0, inl (not_held, refl)));
         passes = tt;
         same = search rules;
       };
