@@ -22,3 +22,4 @@ pub mod Getting
 pub mod Telling
 pub mod Told
 pub mod Joining
+pub mod Refused

@@ -1,9 +1,6 @@
 -- What becomes of a list of tags that is cleared, and what that is for the user and for the tallies.
-use Rattle.std.proofs.Common.{arith, ◌≡◌, ◌↔◌, ℕ, ◌^◌, ◌<◌, ◌≤◌, List, length, All, Result, Err, inl, inr, sym, ◌∙◌, subst, ⊎_elim}
-use Rattle.std.specs.Prelude.{Contains, IsOk}
-use Rattle.std.proofs.lemmas.Bool.{false≢true}
-use Rattle.tag_sets.specs.declared.fault.TagFault.{TagFault}
-use Rattle.tag_sets.specs.declared.fault.TagFault.TheVariants.{NotHeld}
+use Rattle.std.proofs.Common.{arith, ◌≡◌, ◌↔◌, ℕ, ◌^◌, ◌<◌, ◌≤◌, List, length, All, inl, inr, sym, ◌∙◌, subst, ⊎_elim}
+use Rattle.std.specs.Prelude.{Contains}
 use Rattle.tag_sets.specs.declared.tags.Tags.{Tags}
 use Rattle.tag_sets.specs.Batches as hand_batches
 use Rattle.tag_cache.specs.declared.cache.Cache.{Cache}
@@ -21,22 +18,6 @@ use Rattle.tag_cache.proofs.Looking.{kept_same, same_loans}
 use Rattle.tag_cache.proofs.Reusing.{no_count}
 use Rattle.tag_cache.proofs.Tallying.{stays_moves}
 use Rattle.tag_cache.proofs.Windows.{none_in, emptied}
-
--- a refusal of the hand's tags is one of the user's, who holds no more than the hand
-pub refused_not_held : {A B : Type 0} (r : Result A TagFault) (told : Result B TagFault) (e : TagFault)
-    (counts ordinary hand user : Type 0) → r ≡ Err e → told ≡ Err e
-    → (r ≡ Err NotHeld) ↔ (counts × ordinary × ¬ hand) → IsOk r ↔ (counts × ordinary × hand) → (user → hand)
-    → (told ≡ Err NotHeld) ↔ (counts × ordinary × ¬ user)
-refused_not_held {A} r told e counts ordinary hand user was same not_held ok more = (
-  (λ x. let is : r ≡ Err NotHeld = cc in let h = not_held.0 is in (h.0, h.1, λ u. h.2 (more u))),
-  (λ h. let is = not_held.1 (
-    h.0,
-    h.1,
-    λ held.
-        let none : IsOk {T = A} {E = TagFault} (Err e) =
-        subst (λ (x : Result A TagFault). IsOk x) was (ok.1 (h.0, h.1, held)) in false≢true none,
-  ) in cc),
-)
 
 module _ {R : Type 0} where
   -- the user holds what the hand holds and does not keep

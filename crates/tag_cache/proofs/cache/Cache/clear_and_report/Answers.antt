@@ -11,21 +11,22 @@ pub keep_or_give_back-requires-clause-aimed : goal.keep_or_give_back-requires-cl
 keep_or_give_back-requires-clause-aimed g c =
     inl (lent_within c.args.self.now c.args.tag (c.lends.ensures.0 c.if-lends.true))
 
-pub returns-then-lends-clause-less : goal.returns-then-lends-clause-less
-returns-then-lends-clause-less g c = (cleared c.args.tags.now c.args.tag c.args.self.now c.keep_or_give_back.new.self _ c.requires
-    (c.lends.ensures.0 c.if-lends.true) c.keep_or_give_back.ensures.way).less
-
-pub returns-then-lends-clause-way : goal.returns-then-lends-clause-way
-returns-then-lends-clause-way g c = (cleared c.args.tags.now c.args.tag c.args.self.now c.keep_or_give_back.new.self _ c.requires
-    (c.lends.ensures.0 c.if-lends.true) c.keep_or_give_back.ensures.way).way
-
-pub returns-then-lends-clause-tally : goal.returns-then-lends-clause-tally
-returns-then-lends-clause-tally g c = (cleared c.args.tags.now c.args.tag c.args.self.now c.keep_or_give_back.new.self _ c.requires
-    (c.lends.ensures.0 c.if-lends.true) c.keep_or_give_back.ensures.way).tally
+pub returns-then-lends : goal.returns-then-lends
+returns-then-lends g c = let e = c.keep_or_give_back.ensures in
+    let all = cleared c.args.tags.now c.args.tag c.args.self.now c.keep_or_give_back.new.self _ c.requires
+    (c.lends.ensures.0 c.if-lends.true) e.way in record {
+      cache = e.cache;
+      refusals = record { first = tt; passes = all.passes; same = tt };
+      less = all.less;
+      way = all.way;
+      grants = e.grants;
+      loans = e.loans;
+      tally = all.tally;
+    }
 
 pub returns-clause-less : goal.returns-clause-less
 returns-clause-less g c = less_on c.args.tags.now c.args.tag c.args.self.now c.clear_other.new.self
-    c.clear_other.result c.clear_other.ensures.succeeds.0 c.clear_other.ensures.way
+    c.clear_other.result c.clear_other.ensures.refusals.passes c.clear_other.ensures.way
 
 pub returns-clause-tally : goal.returns-clause-tally
 returns-clause-tally g c = tally_on c.args.tags.now c.args.tag c.args.self.now c.clear_other.new.self

@@ -1,28 +1,21 @@
 -- Telling makes no step, so all is as after the clear.
-use Rattle.std.proofs.Common.{◌≡◌, ℕ, sym, subst}
+use Rattle.std.proofs.Common.{rules, ◌≡◌, ℕ, sym, subst}
 use Rattle.tag_cache.specs.Clears.{Goes}
 use Rattle.tag_cache.proofs.Looking.{lends_less_then_same}
 use Rattle.tag_cache.proofs.Told.{less_same, goes_told}
 use Rattle.tag_cache.proofs.Tallying.{tallies_on}
 use Rattle.tag_cache.proofs.cache.Cache.clear_and_tell.Goals as goal
 
-pub returns-clause-less : goal.returns-clause-less
-returns-clause-less g c = less_same (λ other. other ≡ c.args.tag) c.args.self.now c.clear_and_report.new.self
-    c.tell.new.self c.in_ok-grants.ensures.less c.tell.ensures.same.held
-
-pub returns-clause-way : goal.returns-clause-way
-returns-clause-way g c = subst (λ (n : ℕ). Goes c.args.tags.now c.args.tag n c.args.self.now c.tell.new.self)
-    (sym c.tell.ensures.woken) (goes_told c.in_ok-grants.grants.woken c.clear_and_report.new.self c.tell.new.self
-    (record { none = c.tell.ensures.none; hand = c.tell.ensures.hand; same = c.tell.ensures.same })
-    c.args.tags.now c.args.self.now c.args.tag c.clear_and_report.ensures.cache c.in_ok-grants.ensures.way)
-
-pub returns-clause-tells : goal.returns-clause-tells
-returns-clause-tells g c = c.tell.ensures.tells c.args.self.now.hand c.in_ok-grants.ensures.grants
-
-pub returns-clause-loans : goal.returns-clause-loans
-returns-clause-loans g c = λ leaves. lends_less_then_same c.args.tag c.args.self.now c.clear_and_report.new.self
-    c.tell.new.self (c.in_ok-grants.ensures.loans leaves) c.tell.ensures.same.window.loans
-
-pub returns-clause-tally : goal.returns-clause-tally
-returns-clause-tally g c = tallies_on 0 1 c.args.self.now c.clear_and_report.new.self c.tell.new.self
-    c.in_ok-grants.ensures.tally c.tell.ensures.same.tally
+pub returns-clause-does : goal.returns-clause-does
+returns-clause-does g c = let old = c.args.self.now in let mid = c.clear_and_report.new.self in
+    let new = c.tell.new.self in let tag = c.args.tag in
+    let e = c.in_ok-grants.ensures in let t = c.tell.ensures in record {
+      refusals = search rules;
+      less = less_same (λ other. other ≡ tag) old mid new e.less t.same.held;
+      way = subst (λ (n : ℕ). Goes c.args.tags.now tag n old new) (sym t.woken)
+          (goes_told c.in_ok-grants.grants.woken mid new (record { none = t.none; hand = t.hand; same = t.same })
+          c.args.tags.now old tag c.clear_and_report.ensures.cache e.way);
+      tells = t.tells old.hand e.grants;
+      loans = λ leaves. lends_less_then_same tag old mid new (e.loans leaves) t.same.window.loans;
+      tally = tallies_on 0 1 old mid new e.tally t.same.tally;
+    }

@@ -1,70 +1,61 @@
 -- The hand's refusals are the user's, and a tag that is kept is one that the user does not hold.
-use Rattle.std.proofs.Common.{rules, ◌≡◌, Err, refl}
-use Rattle.tag_queue.proofs.PassedOn.{refused_alike}
-use Rattle.tag_sets.specs.declared.fault.TagFault.TheVariants.{NoSuchTag}
+use Rattle.std.proofs.Common.{rules, inl, inr, refl}
+use Rattle.tag_sets.specs.declared.fault.TagFault.TheVariants.{BadCount, NoSuchTag, NotHeld}
 use Rattle.tag_sets.specs.Batches.{CountsTags, AreOrdinary}
 use Rattle.tag_sets.specs.Batches as hand_batches
 use Rattle.tag_cache.specs.Batches.{AreHeldOnce}
-use Rattle.tag_cache.proofs.Listing.{hand_holds, user_holds, none_is_kept, list_less, list_tallies, refused_not_held}
+use Rattle.tag_cache.proofs.Listing.{hand_holds, user_holds, none_is_kept, list_less, list_tallies}
+use Rattle.tag_cache.proofs.Refused.{refused_user}
 use Rattle.tag_cache.proofs.cache.Cache.clear_batch.Goals as goal
 
-pub returns-in_err-check_batch-clause-not_held : goal.returns-in_err-check_batch-clause-not_held
-returns-in_err-check_batch-clause-not_held g c = let list = c.args.list.now in let cache = c.args.self.now in
-    let same : c.from_residual.result ≡ Err c.in_err-check_batch.field-0.0 = first_of (cc, search rules) in
-    refused_not_held c.check_batch.result c.from_residual.result c.in_err-check_batch.field-0.0 (CountsTags list)
-    (AreOrdinary c.args.tags.now list) (hand_batches.AreHeldOnce cache.hand list) (AreHeldOnce cache list)
-    c.in_err-check_batch.was same c.check_batch.ensures.not_held c.check_batch.ensures.succeeds (hand_holds cache list)
+pub returns-in_err-check_batch-clause-does : goal.returns-in_err-check_batch-clause-does
+returns-in_err-check_batch-clause-does g c = let list = c.args.list.now in let cache = c.args.self.now in record {
+  refusals = refused_user (CountsTags list) (AreOrdinary c.args.tags.now list) BadCount NoSuchTag NotHeld
+      (hand_batches.AreHeldOnce cache.hand list) (AreHeldOnce cache list) (hand_holds cache list) _
+      c.from_residual.result c.from_residual.ensures.1 c.in_err-check_batch.ensures.refusals.first _ (search rules);
+  less = search rules;
+  way = search rules;
+  tells = search rules;
+  loans = search rules;
+  tally = search rules;
+}
 
-pub returns-then-not-keeps_none_of-clause-not_held : goal.returns-then-not-keeps_none_of-clause-not_held
-returns-then-not-keeps_none_of-clause-not_held g c = let list = c.args.list.now in let cache = c.args.self.now in
-    let ok = c.in_ok-check_batch.ensures.succeeds.0 refl in (
-      (λ e. (
-        ok.0,
-        ok.1,
-        λ held. let none = c.keeps_none_of.ensures.1 (none_is_kept cache list held) in
-            let some = c.if-not-keeps_none_of.true in cc,
-      )),
-      (λ h. refl),
-    )
-
-pub returns-clause-not_held : goal.returns-clause-not_held
-returns-clause-not_held g c = let list = c.args.list.now in let cache = c.args.self.now in
-    let ok = c.in_ok-check_batch.ensures.succeeds.0 refl in
-    let none = c.keeps_none_of.ensures.0 (let some = c.if-not-keeps_none_of.false in cc) in (
-      (λ e. cc),
-      (λ h. absurd (h.2 (user_holds cache list ok.2 none))),
-    )
-
-pub returns-clause-succeeds : goal.returns-clause-succeeds
-returns-clause-succeeds g c = let list = c.args.list.now in let cache = c.args.self.now in
-    let ok = c.in_ok-check_batch.ensures.succeeds.0 refl in
-    let none = c.keeps_none_of.ensures.0 (let some = c.if-not-keeps_none_of.false in cc) in (
-      (λ e. (ok.0, ok.1, user_holds cache list ok.2 none)),
-      (λ h. refl),
-    )
-
-pub returns-clause-less : goal.returns-clause-less
-returns-clause-less g c = list_less c.args.tags.now c.args.list.now _ c.args.self.now
-    c.give_back_list.new.self c.give_back_list.ensures.way
-
-pub returns-clause-tally : goal.returns-clause-tally
-returns-clause-tally g c = list_tallies c.args.tags.now c.args.list.now _ c.args.self.now
-    c.give_back_list.new.self c.give_back_list.ensures.way
-
-pub returns-in_err-check_batch-clause-no_such_tag : goal.returns-in_err-check_batch-clause-no_such_tag
-returns-in_err-check_batch-clause-no_such_tag g c =
-    let same : c.from_residual.result ≡ Err c.in_err-check_batch.field-0.0 = first_of (cc, search rules) in
-    refused_alike c.check_batch.result c.from_residual.result c.in_err-check_batch.field-0.0 NoSuchTag _
-    c.in_err-check_batch.was same c.check_batch.ensures.no_such_tag
-
-pub returns-then-not-keeps_none_of-clause-succeeds : goal.returns-then-not-keeps_none_of-clause-succeeds
-returns-then-not-keeps_none_of-clause-succeeds g c = let list = c.args.list.now in let cache = c.args.self.now in (
-  (λ ok. absurd (let no = ok in cc)),
-  (λ h. let none = c.keeps_none_of.ensures.1 (none_is_kept cache list h.2) in
-      let some = c.if-not-keeps_none_of.true in absurd cc),
-)
+pub returns-then-not-keeps_none_of-clause-does : goal.returns-then-not-keeps_none_of-clause-does
+returns-then-not-keeps_none_of-clause-does g c = let list = c.args.list.now in let cache = c.args.self.now in
+    let passed = c.in_ok-check_batch.ensures.refusals.passes in
+    let not_held : ¬ (AreHeldOnce cache list) = λ held.
+    let none = c.keeps_none_of.ensures.1 (none_is_kept cache list held) in
+    let some = c.if-not-keeps_none_of.true in cc in record {
+      refusals = record {
+        first = inr (passed.0, inr (passed.1.0, inl (not_held, refl)));
+        passes = tt;
+        same = search rules;
+      };
+      less = search rules;
+      way = search rules;
+      tells = search rules;
+      loans = search rules;
+      tally = search rules;
+    }
 
 pub give_back_list-requires-clause-held : goal.give_back_list-requires-clause-held
-give_back_list-requires-clause-held g c = let list = c.args.list.now in
-    user_holds c.args.self.now list (c.in_ok-check_batch.ensures.succeeds.0 refl).2
+give_back_list-requires-clause-held g c = user_holds c.args.self.now c.args.list.now
+    c.in_ok-check_batch.ensures.refusals.passes.1.1.0
     (c.keeps_none_of.ensures.0 (let some = c.if-not-keeps_none_of.false in cc))
+
+pub returns-clause-does : goal.returns-clause-does
+returns-clause-does g c = let list = c.args.list.now in let cache = c.args.self.now in
+    let new = c.give_back_list.new.self in let passed = c.in_ok-check_batch.ensures.refusals.passes in
+    let none = c.keeps_none_of.ensures.0 (let some = c.if-not-keeps_none_of.false in cc) in
+    let e = c.give_back_list.ensures in record {
+      refusals = record {
+        first = tt;
+        passes = (passed.0, (passed.1.0, (user_holds cache list passed.1.1.0 none, tt)));
+        same = tt;
+      };
+      less = list_less c.args.tags.now list _ cache new e.way;
+      way = e.way;
+      tells = e.tells;
+      loans = e.loans;
+      tally = list_tallies c.args.tags.now list _ cache new e.way;
+    }
