@@ -3,7 +3,6 @@ use Rattle.std.proofs.Common.{◌≡◌, ℕ, sym, subst}
 use Rattle.tag_cache.specs.Clears.{Goes}
 use Rattle.tag_cache.proofs.Looking.{lends_less_then_same}
 use Rattle.tag_cache.proofs.Told.{less_same, goes_told}
-use Rattle.tag_cache.proofs.Tallying.{tallies_on}
 use Rattle.tag_cache.proofs.cache.Cache.clear_and_tell.Goals as goal
 
 pub returns-clause-less : goal.returns-clause-less
@@ -22,7 +21,3 @@ returns-clause-tells g c = c.tell.ensures.tells c.args.self.now.hand c.in_ok-gra
 pub returns-clause-loans : goal.returns-clause-loans
 returns-clause-loans g c = λ leaves. lends_less_then_same c.args.tag c.args.self.now c.clear_and_report.new.self
     c.tell.new.self (c.in_ok-grants.ensures.loans leaves) c.tell.ensures.same.window.loans
-
-pub returns-clause-tally : goal.returns-clause-tally
-returns-clause-tally g c = tallies_on 0 1 c.args.self.now c.clear_and_report.new.self c.tell.new.self
-    c.in_ok-grants.ensures.tally c.tell.ensures.same.tally
