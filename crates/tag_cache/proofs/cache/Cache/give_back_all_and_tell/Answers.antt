@@ -1,8 +1,7 @@
 -- Telling makes no step, so all is as after the tags went back.
-use Rattle.std.proofs.Common.{ℕ, ◌≤◌, ◌∙◌, sym, subst}
+use Rattle.std.proofs.Common.{ℕ, ◌≤◌, sym, subst}
 use Rattle.tag_queue.proofs.Granted.{granted_since}
 use Rattle.tag_cache.specs.Clears.{GivesWith}
-use Rattle.tag_cache.proofs.Carrying.{terms_twice}
 use Rattle.tag_cache.proofs.Looking.{lends_less_then_same}
 use Rattle.tag_cache.proofs.Told.{with_told, none_still}
 use Rattle.tag_cache.proofs.cache.Cache.give_back_all_and_tell.Goals as goal
@@ -27,9 +26,3 @@ pub returns-clause-none : goal.returns-clause-none
 returns-clause-none g c = none_still c.give_back_all-grants.result.woken c.give_back_all-grants.new.self c.tell.new.self
     (record { none = c.tell.ensures.none; hand = c.tell.ensures.hand; same = c.tell.ensures.same })
     c.give_back_all-grants.ensures.none
-
-pub returns-clause-terms : goal.returns-clause-terms
-returns-clause-terms g c = terms_twice c.give_back_all-grants.ensures.terms c.tell.ensures.same.kept.terms
-
-pub returns-clause-reused : goal.returns-clause-reused
-returns-clause-reused g c = c.tell.ensures.same.kept.reused ∙ c.give_back_all-grants.ensures.reused

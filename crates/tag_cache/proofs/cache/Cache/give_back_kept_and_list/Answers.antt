@@ -8,9 +8,6 @@ use Rattle.tag_cache.proofs.Listing.{all_still}
 use Rattle.tag_cache.proofs.Told.{both_told}
 use Rattle.tag_cache.proofs.cache.Cache.give_back_kept_and_list.Goals as goal
 
-pub leave-sooner-requires-clause-left : goal.leave-sooner-requires-clause-left
-leave-sooner-requires-clause-left g c = λ other i. ((c.requires.left other).0 i).0
-
 pub clear_batch_held-later-requires-clause-held : goal.clear_batch_held-later-requires-clause-held
 clear_batch_held-later-requires-clause-held g c = let e = c.leave-sooner.ensures in let mid = c.leave-sooner.new.self in
     let held = all_still c.args.self.now mid c.args.list.now
@@ -32,9 +29,6 @@ both-requires-clause-few g c = let e = c.clear_batch_held-later.ensures in (
   list_few c.args.tags.now c.args.list.now c.clear_batch_held-later.result.woken c.leave-sooner.new.self.hand
       c.clear_batch_held-later.new.hand (record { gives = e.gives; back = e.back; counts = e.counts }),
 )
-
-pub both-requires-clause-sums : goal.both-requires-clause-sums
-both-requires-clause-sums g c = (c.leave-sooner.ensures.grants.sum_is, c.clear_batch_held-later.ensures.tells.sum_is)
 
 pub returns-clause-gives : goal.returns-clause-gives
 returns-clause-gives g c = let s = c.leave-sooner.ensures in let e = c.clear_batch_held-later.ensures in

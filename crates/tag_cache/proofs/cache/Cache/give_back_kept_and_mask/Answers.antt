@@ -9,9 +9,6 @@ use Rattle.tag_cache.proofs.Listing.{all_still}
 use Rattle.tag_cache.proofs.Told.{both_told}
 use Rattle.tag_cache.proofs.cache.Cache.give_back_kept_and_mask.Goals as goal
 
-pub leave-sooner-requires-clause-left : goal.leave-sooner-requires-clause-left
-leave-sooner-requires-clause-left g c = λ other i. ((c.requires.left other).0 i).0
-
 pub clear_mask_held-later-requires-clause-held : goal.clear_mask_held-later-requires-clause-held
 clear_mask_held-later-requires-clause-held g c = let e = c.leave-sooner.ensures in let mid = c.leave-sooner.new.self in
     let held = all_still c.args.self.now mid (tags_in c.args.first c.args.mask)
@@ -35,9 +32,6 @@ both-requires-clause-few g c = let e = c.clear_mask_held-later.ensures in
           c.clear_mask_held-later.new.hand (mask_gives c.args.tags.now c.args.first c.args.mask c.ranges.mask.fits later
           c.leave-sooner.new.self.hand c.clear_mask_held-later.new.hand e.gives e.back e.counts),
     )
-
-pub both-requires-clause-sums : goal.both-requires-clause-sums
-both-requires-clause-sums g c = (c.leave-sooner.ensures.grants.sum_is, c.clear_mask_held-later.ensures.tells.sum_is)
 
 pub returns-clause-gives : goal.returns-clause-gives
 returns-clause-gives g c = let s = c.leave-sooner.ensures in let e = c.clear_mask_held-later.ensures in

@@ -8,9 +8,6 @@ use Rattle.tag_cache.proofs.Giving.{mask_gives}
 use Rattle.tag_cache.proofs.Listing.{all_still, call_same, goes_after, goes_alone, left_still, lends_after, lends_alone, not_listed, on_same}
 use Rattle.tag_cache.proofs.cache.Cache.give_back_mask.Goals as goal
 
-pub goes_on-requires-clause-left : goal.goes_on-requires-clause-left
-goes_on-requires-clause-left g c = λ other i. ((c.lent_outside-left.ensures other).0 i).0
-
 pub clear_mask_held-requires-clause-held : goal.clear_mask_held-requires-clause-held
 clear_mask_held-requires-clause-held g c = let old = c.args.self.now in let mid = c.goes_on.new.self in
     let same = on_same c.lent_outside-left.result old mid (c.goes_on.ensures.on c.if-goes_on.true) in

@@ -1,11 +1,11 @@
 -- After the look at the active count the tag is kept, or all goes back.
-use Rattle.std.proofs.Common.{arith, ◌≡◌, ◌≤◌, ℕ, inl, inr, refl, sym, ap, ◌∙◌, subst}
+use Rattle.std.proofs.Common.{arith, ◌≡◌, inl, inr, refl, ap, ◌∙◌}
 use Rattle.tag_queue.proofs.Granted.{look_grants_none}
 use Rattle.tag_sets.specs.declared.hand.Hand.{Hand}
 use Rattle.tag_sets.specs.Hands.{group_steps, waiter_of}
 use Rattle.tag_cache.proofs.Going.{found_none}
 use Rattle.tag_cache.proofs.Looking.{goes_with_kept, kept_at_once}
-use Rattle.tag_cache.proofs.Reusing.{lent_held, lent_ordinary, lent_within}
+use Rattle.tag_cache.proofs.Reusing.{lent_within}
 use Rattle.tag_cache.proofs.Steady.{stays_rests, own_rests}
 use Rattle.tag_cache.proofs.cache.Cache.keep_or_give_back_all.Goals as goal
 
@@ -40,10 +40,6 @@ returns-clause-way g c = let zero : c.active.result ≡ 0 = omega arith in inl (
     (record { looks = c.active.ensures.looks; counts = c.active.ensures.counts; stays = c.active.ensures.same }))
     c.requires.place c.keep_at.ensures)
 
-pub give_back_all_and_tell-requires-clause-held : goal.give_back_all_and_tell-requires-clause-held
-give_back_all_and_tell-requires-clause-held g c =
-    let held = lent_held c.args.self.now c.args.tag c.requires.place.lent in ((c.active.ensures.same.same.kept c.args.tag held.0).0, held.1)
-
 pub returns-then-active-ne0-clause-tells : goal.returns-then-active-ne0-clause-tells
 returns-then-active-ne0-clause-tells g c = c.give_back_all_and_tell.ensures.tells c.args.self.now.hand
     (look_grants_none c.active.result (group_steps c.args.self.now.hand) _ c.active.ensures.looks)
@@ -56,15 +52,3 @@ returns-clause-tells g c = c.nobody.ensures.tells (waiter_of c.args.self.now.han
 pub keep_at-requires-clause-offset : goal.keep_at-requires-clause-offset
 keep_at-requires-clause-offset g c = c.offset-offset.ensures.offset
     (c.offset-offset.ensures.within.1 (lent_within c.args.self.now c.args.tag c.requires.place.lent))
-
-pub give_back_all_and_tell-requires-clause-ordinary : goal.give_back_all_and_tell-requires-clause-ordinary
-give_back_all_and_tell-requires-clause-ordinary g c = subst (λ (s : ℕ). s ≤ c.args.tag)
-    (sym c.active.ensures.same.set.split) (lent_ordinary c.args.self.now c.args.tag c.requires.place.lent)
-
-pub keep_at-requires-clause-place : goal.keep_at-requires-clause-place
-keep_at-requires-clause-place g c = let p = c.requires.place in record {
-  lent = p.lent;
-  place = p.place;
-  can = record { some = p.can.some; alive = p.can.alive; within = p.can.within };
-  other = p.other;
-}

@@ -1,5 +1,5 @@
 -- If the tag is the last one known, nothing is kept when it leaves; otherwise it leaves alone.
-use Rattle.std.proofs.Common.{inl, inr, sym, subst}
+use Rattle.std.proofs.Common.{sym, subst}
 use Rattle.wake_book.specs.declared.groups.Waiter.{Waiter}
 use Rattle.tag_sets.specs.Hands.{waiter_of}
 use Rattle.tag_cache.specs.Caches.{IsLast}
@@ -7,16 +7,6 @@ use Rattle.tag_cache.proofs.Carrying.{not_true}
 use Rattle.tag_cache.proofs.Passing.{grants_none, passes, passes_last, posts_waiter}
 use Rattle.tag_cache.proofs.Tallying.{tallies_on}
 use Rattle.tag_cache.proofs.cache.Cache.post_lent.Goals as goal
-
-pub post_alone-requires-clause-lent : goal.post_alone-requires-clause-lent
-post_alone-requires-clause-lent g c = (c.flush-answer.ensures.does.window.loans c.args.tag).1 c.requires.lent
-
-pub post_alone-requires-clause-other : goal.post_alone-requires-clause-other
-post_alone-requires-clause-other g c = inl c.flush-answer.ensures.does.none
-
-pub post_alone-requires-2-clause-other : goal.post_alone-requires-2-clause-other
-post_alone-requires-2-clause-other g c = inr
-    (not_true c.is_last.result (IsLast c.args.tag c.args.self.now) c.is_last.ensures c.if-is_last.false)
 
 pub returns-then-is_last : goal.returns-then-is_last
 returns-then-is_last g c = let old = c.args.self.now in let mid = c.flush-answer.new.self in
