@@ -15,7 +15,7 @@ returns-then-keeps_none-clause-does g c = let won = c.win_freed in
       gets = after.gets;
       left = search rules;
       loans = search rules;
-      tally = search rules;
+      tally = after.tally;
     }
 
 pub returns-clause-does : goal.returns-clause-does
