@@ -5,14 +5,14 @@ use Rattle.wake_book.specs.declared.grants.Grants.{Grants}
 use Rattle.tag_sets.specs.declared.fault.TagFault.{TagFault}
 use Rattle.tag_sets.specs.declared.tags.Tags.{Tags}
 use Rattle.tag_cache.specs.declared.cache.Cache.{Cache}
-use Rattle.tag_cache.specs.Caches.{IsCacheOf, IsLent}
+use Rattle.tag_cache.specs.Caches.{IsCacheOf, IsKnown}
 use Rattle.tag_cache.specs.Clears.{Goes, GoesOrdinary}
 use Rattle.tag_cache.specs.Holding.{HoldsLess}
 use Rattle.tag_cache.specs.Refusals.{tag_checks}
 use Rattle.tag_cache.specs.Tallies.{Tallies}
 use Rattle.tag_cache.proofs.Below.{held_below}
 use Rattle.tag_cache.proofs.Going.{goes_less, goes_tallies}
-use Rattle.tag_cache.proofs.Reusing.{lent_held, lent_ordinary_of}
+use Rattle.tag_cache.proofs.Reusing.{known_held, known_ordinary_of}
 
 module _ {R : Type 0} (tags : Tags R) (tag : ℕ) (old new : Cache R) where
   -- every check passed, the user holds the tag no more, the clear went its way with so many woken, and one tag was
@@ -24,9 +24,9 @@ module _ {R : Type 0} (tags : Tags R) (tag : ℕ) (old new : Cache R) where
     pub tally : Tallies 0 1 old new
 
   -- of a tag that the user is known to hold, which is then an ordinary one
-  pub cleared : (woken : ℕ) → IsCacheOf tags old → IsLent old tag → GoesOrdinary tags tag woken old new → Cleared woken
-  cleared woken own lent ordinary = let held = lent_held old tag lent in
-      let goes : Goes tags tag woken old new = inl (lent_ordinary_of tags old tag own lent, ordinary) in record {
+  pub cleared : (woken : ℕ) → IsCacheOf tags old → IsKnown old tag → GoesOrdinary tags tag woken old new → Cleared woken
+  cleared woken own known ordinary = let held = known_held old tag known in
+      let goes : Goes tags tag woken old new = inl (known_ordinary_of tags old tag own known, ordinary) in record {
         passes = (held_below tags old.hand tag own held.0, (held, tt));
         less = goes_less tags tag woken old new held.1 goes;
         way = goes;

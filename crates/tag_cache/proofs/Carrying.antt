@@ -14,7 +14,7 @@ use Rattle.tag_cache.specs.declared.cache.Cache.{Cache}
 use Rattle.tag_cache.specs.declared.cache.TheConstants.{MOST_REUSED}
 use Rattle.tag_cache.specs.declared.keeping.Keeping.TheVariants.{WhileHolding}
 use Rattle.tag_cache.specs.Windows.{IsIn, AreOwn}
-use Rattle.tag_cache.specs.Caches.{IsKept, IsLent, KeepsNone}
+use Rattle.tag_cache.specs.Caches.{IsKept, IsKnown, KeepsNone}
 use Rattle.tag_cache.specs.Changes.{KeepsSame, SameHand, SameTerms}
 use Rattle.tag_cache.specs.Holding.{HoldsMore, HoldsLess, HoldsSame, Writes, IsLeftWith}
 
@@ -46,20 +46,20 @@ module _ {R : Type 0} where
   abbrev pub Owns : Cache R → Hand R → Type 0
   Owns cache hand = record {
     own : AreOwn hand cache.first cache.kept;
-    loans : AreOwn hand cache.first cache.lent;
-    apart : (tag : ℕ) → IsIn cache.first cache.kept tag → ¬ (IsIn cache.first cache.lent tag);
-    wide : (cache.kept < 2 ^ 64) × (cache.lent < 2 ^ 64);
+    knows : AreOwn hand cache.first cache.known;
+    apart : (tag : ℕ) → IsIn cache.first cache.kept tag → ¬ (IsIn cache.first cache.known tag);
+    wide : (cache.kept < 2 ^ 64) × (cache.known < 2 ^ 64);
     low : cache.first < 2 ^ 31;
     few : (cache.room + count_ones cache.kept ≡ cache.most) × (cache.most ≤ 64);
     alive : cache.reused + count_ones cache.kept ≤ MOST_REUSED + 64;
-    careful : cache.keeping ≡ WhileHolding → 0 < cache.kept → 0 < cache.lent;
+    careful : cache.keeping ≡ WhileHolding → 0 < cache.kept → 0 < cache.known;
   }
 
-  with_own : (cache : Cache R) (b : Hand R) → AreOwn b cache.first cache.kept → AreOwn b cache.first cache.lent
+  with_own : (cache : Cache R) (b : Hand R) → AreOwn b cache.first cache.kept → AreOwn b cache.first cache.known
       → Owns cache b
-  with_own cache b own loans = record {
+  with_own cache b own knows = record {
     own = own;
-    loans = loans;
+    knows = knows;
     apart = cache.apart;
     wide = cache.wide;
     low = cache.low;
@@ -71,7 +71,7 @@ module _ {R : Type 0} where
   pub owns_unchanged : (cache : Cache R) (b : Hand R) → b ≡ cache.hand → Owns cache b
   owns_unchanged cache b e = with_own cache b
       (subst (λ (x : Hand R). AreOwn x cache.first cache.kept) (sym e) cache.own)
-      (subst (λ (x : Hand R). AreOwn x cache.first cache.lent) (sym e) cache.loans)
+      (subst (λ (x : Hand R). AreOwn x cache.first cache.known) (sym e) cache.knows)
 
   -- another hand of the tags does, if it holds what the former one did
   module _ (tags : Tags R) (cache : Cache R) (b : Hand R) (ha : hands.IsHandOf tags cache.hand)
@@ -79,16 +79,16 @@ module _ {R : Type 0} where
     pub owns : ((tag : ℕ) → hands.Holds cache.hand tag → hands.Holds b tag) → Owns cache b
     owns still = with_own cache b
         (own_after tags cache.first cache.kept cache.hand b ha hb cache.own (λ tag h k. still tag h))
-        (own_after tags cache.first cache.lent cache.hand b ha hb cache.loans (λ tag h l. still tag h))
+        (own_after tags cache.first cache.known cache.hand b ha hb cache.knows (λ tag h l. still tag h))
 
     -- but for a tag that is neither kept nor known to be the user's
-    pub owns_but : (tag : ℕ) → ¬ (IsKept cache tag) → ¬ (IsLent cache tag)
+    pub owns_but : (tag : ℕ) → ¬ (IsKept cache tag) → ¬ (IsKnown cache tag)
         → ((other : ℕ) → other ≢ tag → hands.Holds cache.hand other → hands.Holds b other) → Owns cache b
-    owns_but tag unkept unlent still = with_own cache b
+    owns_but tag unkept unknown still = with_own cache b
         (own_after tags cache.first cache.kept cache.hand b ha hb cache.own
         (λ other h k. still other (λ e. unkept (subst (λ (t : ℕ). IsKept cache t) e k)) h))
-        (own_after tags cache.first cache.lent cache.hand b ha hb cache.loans
-        (λ other h l. still other (λ e. unlent (subst (λ (t : ℕ). IsLent cache t) e l)) h))
+        (own_after tags cache.first cache.known cache.hand b ha hb cache.knows
+        (λ other h l. still other (λ e. unknown (subst (λ (t : ℕ). IsKnown cache t) e l)) h))
 
   -- a call that may have posted a tag leaves the hand the others
   pub post_still : (tag : ℕ) (a b : Hand R) (r : Result (Unit {0}) TagFault) → OnOk r (hand_slots.Posts tag a b)

@@ -2,9 +2,9 @@
 use Rattle.std.proofs.Common.{arith, Bool, true, false, ◌≡◌, ◌⊎◌, ℕ, ◌≤◌, sym, ◌∙◌, subst, ⊎_elim}
 use Rattle.tag_cache.specs.declared.cache.Cache.{Cache}
 use Rattle.tag_cache.specs.Caches.{IsKept, IsLast, IsWithin, IsFixed, KeepsNone, CanBeKept, HasNoPlace, count_of, reused_of}
-use Rattle.tag_cache.specs.Changes.{SameHand, KeepsOnly, MayKeep, SameTerms, LendsLess}
+use Rattle.tag_cache.specs.Changes.{SameHand, KeepsOnly, MayKeep, SameTerms, KnowsLess}
 use Rattle.tag_cache.proofs.Carrying.{terms_twice}
-use Rattle.tag_cache.proofs.Looking.{same_loans}
+use Rattle.tag_cache.proofs.Looking.{same_known}
 use Rattle.tag_cache.proofs.Moving.{can_also}
 use Rattle.tag_cache.proofs.Reusing.{no_count}
 
@@ -30,8 +30,8 @@ module _ {R : Type 0} where
         }))) k.1
 
     -- the user is known to hold the same tags but this one, if the window did not move
-    pub less_after : mid ≡ old → (kept : Bool) → MayKeep tag kept mid new → LendsLess tag old new
-    less_after e true k = subst (λ (x : Cache R). LendsLess tag x new) e k.0.loans
+    pub less_after : mid ≡ old → (kept : Bool) → MayKeep tag kept mid new → KnowsLess tag old new
+    less_after e true k = subst (λ (x : Cache R). KnowsLess tag x new) e k.0.knows
     less_after e false k = absurd (has_place k)
 
     pub only_after : (kept : Bool) → MayKeep tag kept mid new → KeepsOnly tag old new
@@ -55,8 +55,8 @@ module _ {R : Type 0} where
     can_still = can_also tag old mid terms reused
         (λ careful w. let low = w.0 in let high = w.1 in (omega arith, omega arith))
 
-    pub last_back : mid.lent ≡ old.lent → IsLast tag mid → IsLast tag old
-    last_back lent l = (sym terms.keeping ∙ l.0, λ other i. l.1 other ((same_loans old mid first lent other).1 i))
+    pub last_back : mid.known ≡ old.known → IsLast tag mid → IsLast tag old
+    last_back known l = (sym terms.keeping ∙ l.0, λ other i. l.1 other ((same_known old mid first known other).1 i))
 
     pub only_back : (new : Cache R) → KeepsOnly tag mid new → KeepsOnly tag old new
     only_back new o = record {

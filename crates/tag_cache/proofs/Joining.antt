@@ -7,14 +7,14 @@ use Rattle.tag_cache.specs.declared.cache.Cache.{Cache}
 use Rattle.tag_cache.specs.declared.cache.TheConstants.{MOST_REUSED}
 use Rattle.tag_cache.specs.declared.keeping.Keeping.TheVariants.{WhileHolding}
 use Rattle.tag_cache.specs.Windows.{IsIn, AreOwn}
-use Rattle.tag_cache.specs.Caches.{IsKept, IsLent, IsLast, Holds, count_of, split_of}
-use Rattle.tag_cache.proofs.Reusing.{another_lent}
+use Rattle.tag_cache.specs.Caches.{IsKept, IsKnown, IsLast, Holds, count_of, split_of}
+use Rattle.tag_cache.proofs.Reusing.{another_known}
 use Rattle.tag_cache.proofs.Windows.{joined_fits, not_set, now_in, ones_added, still_in, was_in, with_bit}
 
--- the tag is this far behind the first one of the window, and the mask has the other tags that are lent
+-- the tag is this far behind the first one of the window, and the mask has the other tags that are known
 module _ {R : Type 0} (cache : Cache R) (tag place rest : ℕ) (held : Holds cache tag) (low : place < 64)
     (is : cache.first + place ≡ tag)
-    (left : (other : ℕ) → IsIn cache.first rest other ↔ (IsLent cache other × other ≢ tag)) where
+    (left : (other : ℕ) → IsIn cache.first rest other ↔ (IsKnown cache other × other ≢ tag)) where
   above : cache.first ≤ tag
   above = omega arith
 
@@ -42,7 +42,7 @@ module _ {R : Type 0} (cache : Cache R) (tag place rest : ℕ) (held : Holds cac
   pub joined_owns : split_of cache ≤ tag → rest < 2 ^ 64 → count_of cache < cache.most → cache.reused < MOST_REUSED
       → ¬ (IsLast tag cache) → record {
         own : AreOwn cache.hand cache.first (with_bit cache.kept place);
-        loans : AreOwn cache.hand cache.first rest;
+        knows : AreOwn cache.hand cache.first rest;
         apart : (other : ℕ) → IsIn cache.first (with_bit cache.kept place) other → ¬ (IsIn cache.first rest other);
         wide : (with_bit cache.kept place < 2 ^ 64) × (rest < 2 ^ 64);
         low : cache.first < 2 ^ 31;
@@ -54,12 +54,12 @@ module _ {R : Type 0} (cache : Cache R) (tag place rest : ℕ) (held : Holds cac
     own = λ other k. ⊎_elim (λ (o : IsKept cache other). cache.own other o)
         (λ (e : other ≡ tag). subst (λ (t : ℕ). hands.Holds cache.hand t × (hands.split_of cache.hand ≤ t)) (sym e)
         (held.0, ordinary)) (joins.none_else other k);
-    loans = λ other l. cache.loans other ((left other).0 l).0;
-    apart = λ other k l. let lent = (left other).0 l in ⊎_elim (λ (o : IsKept cache other). cache.apart other o lent.0)
-        (λ (e : other ≡ tag). lent.1 e) (joins.none_else other k);
+    knows = λ other l. cache.knows other ((left other).0 l).0;
+    apart = λ other k l. let known = (left other).0 l in ⊎_elim (λ (o : IsKept cache other). cache.apart other o known.0)
+        (λ (e : other ≡ tag). known.1 e) (joins.none_else other k);
     wide = (joined_fits cache.kept place cache.wide.0, fits);
     low = cache.low;
     few = (omega arith, cache.few.1);
     alive = omega arith;
-    careful = λ careful some. another_lent cache tag rest fits left another careful;
+    careful = λ careful some. another_known cache tag rest fits left another careful;
   }

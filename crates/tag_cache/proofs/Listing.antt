@@ -6,15 +6,15 @@ use Rattle.tag_sets.specs.Batches as hand_batches
 use Rattle.tag_cache.specs.declared.cache.Cache.{Cache}
 use Rattle.tag_cache.specs.Windows.{IsIn}
 use Rattle.tag_cache.specs.Batches.{AreHeldOnce, AreLast, LeavesNone, GoesOn, CallsForKept, GivesKeptAndList, ListGoesAlone, ListGoesWithKept, ListGoes}
-use Rattle.tag_cache.specs.Caches.{IsKept, IsLent, Holds}
-use Rattle.tag_cache.specs.Changes.{KeepsSame, LendsNoneOf, SameFields}
+use Rattle.tag_cache.specs.Caches.{IsKept, IsKnown, Holds}
+use Rattle.tag_cache.specs.Changes.{KeepsSame, KnowsNoneOf, SameFields}
 use Rattle.tag_cache.specs.Clears.{GivesList}
 use Rattle.tag_cache.specs.Holding.{HoldsLess, HoldsSame}
 use Rattle.tag_cache.specs.Tallies.{Tallies}
 use Rattle.tag_cache.proofs.Carrying.{less, same, same_fields, keeps_twice}
 use Rattle.tag_cache.proofs.Giving.{kept_moves, list_moves}
 use Rattle.tag_cache.proofs.Going.{looks_less, both_less}
-use Rattle.tag_cache.proofs.Looking.{kept_same, same_loans}
+use Rattle.tag_cache.proofs.Looking.{kept_same, same_known}
 use Rattle.tag_cache.proofs.Reusing.{no_count}
 use Rattle.tag_cache.proofs.Tallying.{stays_moves}
 use Rattle.tag_cache.proofs.Windows.{none_in, emptied}
@@ -49,10 +49,10 @@ module _ {R : Type 0} where
   not_listed cache list h tag i = subst (λ (t : ℕ). ¬ (IsKept cache t)) i.2 (h i.0 tag i.1).1
 
 module _ {R : Type 0} (tags : Tags R) (list : List ℕ) (left : ℕ) (old : Cache R) (fits : left < 2 ^ 64)
-    (is : (other : ℕ) → IsIn old.first left other ↔ (IsLent old other × ¬ (Contains list other))) where
+    (is : (other : ℕ) → IsIn old.first left other ↔ (IsKnown old other × ¬ (Contains list other))) where
   -- the tags are the last ones known exactly if the mask without them is 0
   last_one : LeavesNone left old → AreLast list old
-  last_one l = (l.0, λ other n lent. none_in old.first left other l.1 ((is other).1 (lent, n)))
+  last_one l = (l.0, λ other n known. none_in old.first left other l.1 ((is other).1 (known, n)))
 
   one_last : AreLast list old → LeavesNone left old
   one_last l = (l.0, emptied old.first left fits (λ other i. let a = (is other).0 i in l.1 other a.1 a.0))
@@ -89,26 +89,26 @@ module _ {R : Type 0} (tags : Tags R) (list : List ℕ) (left : ℕ) (old : Cach
 
 module _ {R : Type 0} (list : List ℕ) (old mid : Cache R) where
   -- what the user is known to hold after the list went alone
-  pub lends_alone : (left : ℕ) → ((other : ℕ) → IsIn old.first left other ↔ (IsLent old other × ¬ (Contains list other)))
-      → GoesOn left old mid → LendsNoneOf list old mid
-  lends_alone left is o other = (
-    (λ l. (is other).0 ((o.loans other).0 l)),
-    (λ l. (o.loans other).1 ((is other).1 l)),
+  pub learns_alone : (left : ℕ) → ((other : ℕ) → IsIn old.first left other ↔ (IsKnown old other × ¬ (Contains list other)))
+      → GoesOn left old mid → KnowsNoneOf list old mid
+  learns_alone left is o other = (
+    (λ l. (is other).0 ((o.knows other).0 l)),
+    (λ l. (o.knows other).1 ((is other).1 l)),
   )
 
   module _ (f : SameFields old mid) where
     -- the mask is of the same tags after a look that changed the hand alone
     pub left_still : (left : ℕ)
-        → ((other : ℕ) → IsIn old.first left other ↔ (IsLent old other × ¬ (Contains list other)))
-        → (other : ℕ) → IsIn mid.first left other ↔ (IsLent mid other × ¬ (Contains list other))
-    left_still left is other = let s = same_loans old mid f.first f.lent other in (
+        → ((other : ℕ) → IsIn old.first left other ↔ (IsKnown old other × ¬ (Contains list other)))
+        → (other : ℕ) → IsIn mid.first left other ↔ (IsKnown mid other × ¬ (Contains list other))
+    left_still left is other = let s = same_known old mid f.first f.known other in (
       (λ i. let x = (is other).0 (subst (λ (n : ℕ). IsIn n left other) f.first i) in (s.1 x.0, x.1)),
       (λ x. subst (λ (n : ℕ). IsIn n left other) (sym f.first) ((is other).1 (s.0 x.0, x.1))),
     )
 
     -- what the user is known to hold after the list went with the kept tags
-    pub lends_after : (new : Cache R) → LendsNoneOf list mid new → LendsNoneOf list old new
-    lends_after new n other = let s = same_loans old mid f.first f.lent other in (
+    pub learns_after : (new : Cache R) → KnowsNoneOf list mid new → KnowsNoneOf list old new
+    learns_after new n other = let s = same_known old mid f.first f.known other in (
       (λ l. let x = (n other).0 l in (s.0 x.0, x.1)),
       (λ x. (n other).1 (s.1 x.0, x.1)),
     )

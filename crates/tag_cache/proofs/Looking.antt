@@ -5,8 +5,8 @@ use Rattle.tag_sets.specs.declared.hand.Hand.{Hand}
 use Rattle.tag_sets.specs.declared.tags.Tags.{Tags}
 use Rattle.tag_cache.specs.declared.cache.Cache.{Cache}
 use Rattle.tag_cache.specs.Windows.{IsIn}
-use Rattle.tag_cache.specs.Caches.{IsLent, KeepsNone, HasNoPlace, HasPlace, CanBeKept, kept_tags, count_of, reused_of}
-use Rattle.tag_cache.specs.Changes.{KeepsSame, Keeps, SameFields, SameTerms, SameWindow, LendsLess}
+use Rattle.tag_cache.specs.Caches.{IsKnown, KeepsNone, HasNoPlace, HasPlace, CanBeKept, kept_tags, count_of, reused_of}
+use Rattle.tag_cache.specs.Changes.{KeepsSame, Keeps, SameFields, SameTerms, SameWindow, KnowsLess}
 use Rattle.tag_cache.specs.Clears.{LooksOnce, GivesList, GivesKept, GivesWith, KeptUnseen, KeptInstead, GoesAlone, GoesWithKept, MakesRoom}
 use Rattle.tag_cache.proofs.Carrying.{same_fields, keeps_twice}
 use Rattle.tag_cache.proofs.Moving.{also_from, can_also, only_from}
@@ -101,47 +101,47 @@ module _ {R : Type 0} (tags : Tags R) (tag : ℕ) (old mid : Cache R) (s : SameF
             kept = keeps_twice old mid new same a.2;
           })) g
 
--- the same tags are lent if the window and its mask of them are as before
-pub same_loans : {R : Type 0} (old new : Cache R) → new.first ≡ old.first → new.lent ≡ old.lent → (tag : ℕ)
-    → IsIn new.first new.lent tag ↔ IsIn old.first old.lent tag
-same_loans old new first lent tag = (
-  (λ i. subst (λ (m : ℕ). IsIn old.first m tag) lent (subst (λ (f : ℕ). IsIn f new.lent tag) first i)),
-  (λ i. subst (λ (f : ℕ). IsIn f new.lent tag) (sym first) (subst (λ (m : ℕ). IsIn old.first m tag) (sym lent) i)),
+-- the same tags are known if the window and its mask of them are as before
+pub same_known : {R : Type 0} (old new : Cache R) → new.first ≡ old.first → new.known ≡ old.known → (tag : ℕ)
+    → IsIn new.first new.known tag ↔ IsIn old.first old.known tag
+same_known old new first known tag = (
+  (λ i. subst (λ (m : ℕ). IsIn old.first m tag) known (subst (λ (f : ℕ). IsIn f new.known tag) first i)),
+  (λ i. subst (λ (f : ℕ). IsIn f new.known tag) (sym first) (subst (λ (m : ℕ). IsIn old.first m tag) (sym known) i)),
 )
 
-pub same_window : {R : Type 0} (old new : Cache R) → new.first ≡ old.first → new.lent ≡ old.lent → SameWindow old new
-same_window old new first lent = record {
+pub same_window : {R : Type 0} (old new : Cache R) → new.first ≡ old.first → new.known ≡ old.known → SameWindow old new
+same_window old new first known = record {
   place = λ tag. (
     (λ w. let low = w.0 in let high = w.1 in (omega arith, omega arith)),
     (λ w. let low = w.0 in let high = w.1 in (omega arith, omega arith)),
   );
-  loans = λ tag. same_loans old new first lent tag;
+  knows = λ tag. same_known old new first known tag;
 }
 
 -- one call after another
 pub window_twice : {R : Type 0} (a b c : Cache R) → SameWindow a b → SameWindow b c → SameWindow a c
 window_twice a b c s t = record {
   place = λ tag. ((λ w. (s.place tag).0 ((t.place tag).0 w)), (λ w. (t.place tag).1 ((s.place tag).1 w)));
-  loans = λ tag. ((λ l. (s.loans tag).0 ((t.loans tag).0 l)), (λ l. (t.loans tag).1 ((s.loans tag).1 l)));
+  knows = λ tag. ((λ l. (s.knows tag).0 ((t.knows tag).0 l)), (λ l. (t.knows tag).1 ((s.knows tag).1 l)));
 }
 
 -- the user is known to hold the same tags, and then the same but one
-pub same_then_lends_less : {R : Type 0} (tag : ℕ) (a b c : Cache R) → ((other : ℕ) → IsLent b other ↔ IsLent a other)
-    → LendsLess tag b c → LendsLess tag a c
-same_then_lends_less tag a b c s l = λ other. (
+pub same_then_knows_less : {R : Type 0} (tag : ℕ) (a b c : Cache R) → ((other : ℕ) → IsKnown b other ↔ IsKnown a other)
+    → KnowsLess tag b c → KnowsLess tag a c
+same_then_knows_less tag a b c s l = λ other. (
   (λ i. let x = (l other).0 i in ((s other).0 x.0, x.1)),
   (λ x. (l other).1 ((s other).1 x.0, x.1)),
 )
 
 -- the same the other way round
-pub lends_less_then_same : {R : Type 0} (tag : ℕ) (a b c : Cache R) → LendsLess tag a b
-    → ((other : ℕ) → IsLent c other ↔ IsLent b other) → LendsLess tag a c
-lends_less_then_same tag a b c l s = λ other. ((λ i. (l other).0 ((s other).0 i)), (λ x. (s other).1 ((l other).1 x)))
+pub knows_less_then_same : {R : Type 0} (tag : ℕ) (a b c : Cache R) → KnowsLess tag a b
+    → ((other : ℕ) → IsKnown c other ↔ IsKnown b other) → KnowsLess tag a c
+knows_less_then_same tag a b c l s = λ other. ((λ i. (l other).0 ((s other).0 i)), (λ x. (s other).1 ((l other).1 x)))
 
 -- a tag that was not among them
-pub unlent_less : {R : Type 0} (tag : ℕ) (old new : Cache R) → ¬ (IsLent old tag)
-    → ((other : ℕ) → IsLent new other ↔ IsLent old other) → LendsLess tag old new
-unlent_less tag old new out s = λ other. (
-  (λ i. let was = (s other).0 i in (was, λ e. out (subst (λ (t : ℕ). IsLent old t) e was))),
+pub unknown_less : {R : Type 0} (tag : ℕ) (old new : Cache R) → ¬ (IsKnown old tag)
+    → ((other : ℕ) → IsKnown new other ↔ IsKnown old other) → KnowsLess tag old new
+unknown_less tag old new out s = λ other. (
+  (λ i. let was = (s other).0 i in (was, λ e. out (subst (λ (t : ℕ). IsKnown old t) e was))),
   (λ x. (s other).1 x.0),
 )

@@ -18,15 +18,15 @@ use Rattle.tag_sets.specs.Sets.{kind_of}
 use Rattle.tag_sets.specs.Hands.{Changes, split_of, group_steps, waiter_of}
 use Rattle.tag_sets.specs.Slots.{Posts}
 use Rattle.tag_cache.specs.declared.cache.Cache.{Cache}
-use Rattle.tag_cache.specs.Caches.{IsLast, IsLent, KeepsNone}
+use Rattle.tag_cache.specs.Caches.{IsLast, IsKnown, KeepsNone}
 use Rattle.tag_cache.specs.Changes.{Forgets, KeepsSame, SameTerms, SameWindow}
 use Rattle.tag_cache.specs.Holding.{HoldsSame}
 use Rattle.tag_cache.specs.Rings.{GrantsNone}
 use Rattle.tag_cache.specs.Slots.{Passes, PassesAlone, PostsLast}
 use Rattle.tag_cache.specs.Tallies.{Tallies}
 use Rattle.tag_cache.proofs.Carrying.{keeps_twice, less, none_after, same_then_less, same_user, terms_twice}
-use Rattle.tag_cache.proofs.Looking.{lends_less_then_same, same_then_lends_less, unlent_less}
-use Rattle.tag_cache.proofs.Reusing.{last_unlent}
+use Rattle.tag_cache.proofs.Looking.{knows_less_then_same, same_then_knows_less, unknown_less}
+use Rattle.tag_cache.proofs.Reusing.{last_unknown}
 use Rattle.tag_cache.proofs.Tallying.{Moves, moves_in, moves_tallies, unchanged_tallies}
 
 module _ {R : Type 0} where
@@ -79,7 +79,7 @@ module _ {R : Type 0} (tag : ℕ) where
     kept = λ n. a.kept;
     last = λ l. none_after old new (none l) a.kept;
     terms = a.kept.terms;
-    loans = a.loans;
+    knows = a.knows;
   }
 
   -- if all kept tags went back before, as the tag is the last one known
@@ -91,7 +91,7 @@ module _ {R : Type 0} (tag : ℕ) where
     kept = λ n. absurd (n last);
     last = λ l. none_after mid new none a.kept;
     terms = terms_twice terms a.kept.terms;
-    loans = same_then_lends_less tag old mid new window.loans a.loans;
+    knows = same_then_knows_less tag old mid new window.knows a.knows;
   }
 
   -- if it was forgotten before
@@ -102,16 +102,16 @@ module _ {R : Type 0} (tag : ℕ) where
         (less mid new keeps (λ other. other ≡ tag) p.less);
     posts = subst (λ (h : Hand R). Posts tag h new.hand) f.same.hand p;
     kept = keeps_twice old mid new f.same.kept keeps;
-    loans = lends_less_then_same tag old mid new f.loans window.loans;
+    knows = knows_less_then_same tag old mid new f.knows window.knows;
   }
 
   -- if it was not known to be the user's
-  pub unlent_passes : (old new : Cache R) → KeepsSame old new → SameWindow old new → ¬ (IsLent old tag)
+  pub unknown_passes : (old new : Cache R) → KeepsSame old new → SameWindow old new → ¬ (IsKnown old tag)
       → (r : Result (Unit {0}) TagFault) → OnOk r (Posts tag old.hand new.hand) → OnOk r (Passes tag old new)
-  unlent_passes old new keeps window out (Ok u) p = passes old new (record {
+  unknown_passes old new keeps window out (Ok u) p = passes old new (record {
     less = less old new keeps (λ other. other ≡ tag) p.less;
     posts = p;
     kept = keeps;
-    loans = unlent_less tag old new out window.loans;
-  }) (last_unlent old tag out)
-  unlent_passes old new keeps window out (Err e) p = tt
+    knows = unknown_less tag old new out window.knows;
+  }) (last_unknown old tag out)
+  unknown_passes old new keeps window out (Err e) p = tt

@@ -1,4 +1,4 @@
--- What a change of the kept tags is for the user of a cache, and what is known of lent ones.
+-- What a change of the kept tags is for the user of a cache, and what is known of known ones.
 use Rattle.std.proofs.Common.{arith, ◌↔◌, Some, ◌≡◌, ◌≢◌, ℕ, ◌+◌, ◌^◌, ◌<◌, ◌≤◌, inl, inr, refl, sym, ap, subst, ⊎_elim}
 use mathlib.Core.Logic.{dite}
 use native.Mathlib.Decide.{ℕ_discrete}
@@ -14,7 +14,7 @@ use Rattle.tag_sets.specs.Gets.{IsOrdinaryTag}
 use Rattle.tag_cache.specs.declared.cache.Cache.{Cache}
 use Rattle.tag_cache.specs.declared.keeping.Keeping.TheVariants.{WhileHolding}
 use Rattle.tag_cache.specs.Windows.{IsIn}
-use Rattle.tag_cache.specs.Caches.{IsKept, IsLent, IsLast, IsWithin, KeepsNone, KeepsWithCare, Holds, count_of, split_of}
+use Rattle.tag_cache.specs.Caches.{IsKept, IsKnown, IsLast, IsWithin, KeepsNone, KeepsWithCare, Holds, count_of, split_of}
 use Rattle.tag_cache.specs.Changes.{SameHand, KeepsAlso, TakesLeast, Reuses}
 use Rattle.tag_cache.specs.Gets.{GetsBy}
 use Rattle.tag_cache.specs.Holding.{HoldsMore, HoldsLess}
@@ -72,18 +72,18 @@ module _ {R : Type 0} where
   }
 
   -- a tag that the user is known to hold is held and not kept, ordinary, and in the window
-  pub lent_held : (cache : Cache R) (tag : ℕ) → IsLent cache tag → Holds cache tag
-  lent_held cache tag l = ((cache.loans tag l).0, λ k. cache.apart tag k l)
+  pub known_held : (cache : Cache R) (tag : ℕ) → IsKnown cache tag → Holds cache tag
+  known_held cache tag l = ((cache.knows tag l).0, λ k. cache.apart tag k l)
 
-  pub lent_ordinary : (cache : Cache R) (tag : ℕ) → IsLent cache tag → split_of cache ≤ tag
-  lent_ordinary cache tag l = (cache.loans tag l).1
+  pub known_ordinary : (cache : Cache R) (tag : ℕ) → IsKnown cache tag → split_of cache ≤ tag
+  known_ordinary cache tag l = (cache.knows tag l).1
 
-  pub lent_ordinary_of : (tags : Tags R) (cache : Cache R) (tag : ℕ) → hands.IsHandOf tags cache.hand
-      → IsLent cache tag → hands.reserved_of tags ≤ tag
-  lent_ordinary_of tags cache tag own l = subst (λ (s : ℕ). s ≤ tag) own.2 (lent_ordinary cache tag l)
+  pub known_ordinary_of : (tags : Tags R) (cache : Cache R) (tag : ℕ) → hands.IsHandOf tags cache.hand
+      → IsKnown cache tag → hands.reserved_of tags ≤ tag
+  known_ordinary_of tags cache tag own l = subst (λ (s : ℕ). s ≤ tag) own.2 (known_ordinary cache tag l)
 
-  pub lent_within : (cache : Cache R) (tag : ℕ) → IsLent cache tag → IsWithin cache tag
-  lent_within cache tag l = (l.0, below_end cache.first cache.lent tag cache.wide.1 l)
+  pub known_within : (cache : Cache R) (tag : ℕ) → IsKnown cache tag → IsWithin cache tag
+  known_within cache tag l = (l.0, below_end cache.first cache.known tag cache.wide.1 l)
 
   -- a cache that keeps no tag has an empty mask, and one that keeps some has none
   pub none_kept : (cache : Cache R) → KeepsNone cache → cache.kept ≡ 0
@@ -107,24 +107,24 @@ module _ {R : Type 0} where
   )
 
   -- if the user is known to hold another tag, the mask without this one is not 0
-  pub another_lent : (cache : Cache R) (tag rest : ℕ) → rest < 2 ^ 64
-      → ((other : ℕ) → IsIn cache.first rest other ↔ (IsLent cache other × other ≢ tag))
+  pub another_known : (cache : Cache R) (tag rest : ℕ) → rest < 2 ^ 64
+      → ((other : ℕ) → IsIn cache.first rest other ↔ (IsKnown cache other × other ≢ tag))
       → ¬ (IsLast tag cache) → cache.keeping ≡ WhileHolding → 0 < rest
-  another_lent cache tag rest fits without more careful = ⊎_elim
+  another_known cache tag rest fits without more careful = ⊎_elim
       (λ (l : rest < 1). let zero : rest ≡ 0 = omega arith in
-      absurd (more (careful, (none_else cache.first cache.lent rest tag fits without).0 zero)))
+      absurd (more (careful, (none_else cache.first cache.known rest tag fits without).0 zero)))
       (λ (h : 1 ≤ rest). omega arith) (cases_lt rest 1)
 
-  -- some tag is lent if the mask of lent ones is not 0
-  some_lent : (cache : Cache R) → 0 < cache.lent → IsLent cache (cache.first + trailing_zeros w64 cache.lent)
-  some_lent cache some = least_in cache.first cache.lent some cache.wide.1
+  -- some tag is known if the mask of known ones is not 0
+  some_known : (cache : Cache R) → 0 < cache.known → IsKnown cache (cache.first + trailing_zeros w64 cache.known)
+  some_known cache some = least_in cache.first cache.known some cache.wide.1
 
   pub keeps_with_care : (cache : Cache R) → KeepsWithCare cache
   keeps_with_care cache careful kept k = let some = cache.careful careful (some_in cache.first cache.kept kept k) in
-      (cache.first + trailing_zeros w64 cache.lent, lent_held cache _ (some_lent cache some))
+      (cache.first + trailing_zeros w64 cache.known, known_held cache _ (some_known cache some))
 
-  -- if no tag but one may be lent, and that one is not, none is kept
-  pub last_unlent : (cache : Cache R) (tag : ℕ) → ¬ (IsLent cache tag) → IsLast tag cache → KeepsNone cache
-  last_unlent cache tag out last kept k =
-      let some = some_lent cache (cache.careful last.0 (some_in cache.first cache.kept kept k)) in
-      out (subst (λ (t : ℕ). IsLent cache t) (last.1 _ some) some)
+  -- if no tag but one may be known, and that one is not, none is kept
+  pub last_unknown : (cache : Cache R) (tag : ℕ) → ¬ (IsKnown cache tag) → IsLast tag cache → KeepsNone cache
+  last_unknown cache tag out last kept k =
+      let some = some_known cache (cache.careful last.0 (some_in cache.first cache.kept kept k)) in
+      out (subst (λ (t : ℕ). IsKnown cache t) (last.1 _ some) some)

@@ -4,7 +4,7 @@ use Rattle.tag_sets.specs.declared.hand.Hand.{Hand}
 use Rattle.tag_sets.specs.declared.tags.Tags.{Tags}
 use Rattle.tag_cache.specs.declared.cache.Cache.{Cache}
 use Rattle.tag_cache.specs.declared.keeping.Keeping.TheVariants.{WhileHolding}
-use Rattle.tag_cache.specs.Caches.{IsLent, KeepsNone, Holds, keeping_of, reused_of}
+use Rattle.tag_cache.specs.Caches.{IsKnown, KeepsNone, Holds, keeping_of, reused_of}
 use Rattle.tag_cache.specs.Changes.{KeepsSame, SameFields, SameTerms}
 use Rattle.tag_cache.specs.Windows.{IsIn}
 use Rattle.tag_cache.specs.Clears.{LooksOnce, GivesList, GivesKept}
@@ -21,7 +21,7 @@ AreHeldOnce cache list = All (Holds cache) list × AllPairs (λ a b. a ≢ b) li
 -- tags are kept only while the user is known to hold one, and it is known to hold none but those of the list
 abbrev pub AreLast : {R : Type 0} → List ℕ → Cache R → Type 0
 AreLast list cache = (keeping_of cache ≡ WhileHolding)
-    × ((other : ℕ) → ¬ (Contains list other) → ¬ (IsLent cache other))
+    × ((other : ℕ) → ¬ (Contains list other) → ¬ (IsKnown cache other))
 
 -- a look at the active count calls for everything to go back: it found somebody waiting, or tags are kept only while
 -- the user is known to hold others than those of the list
@@ -37,7 +37,7 @@ pub record GoesOn {R : Type 0} (left : ℕ) (old new : Cache R) : Type 0 where
   pub more : ¬ (LeavesNone left old)
   pub looked : LooksOnce 0 old.hand new.hand
   pub kept : KeepsSame old new
-  pub loans : (other : ℕ) → IsLent new other ↔ IsIn old.first left other
+  pub knows : (other : ℕ) → IsKnown new other ↔ IsIn old.first left other
 
 -- a look called for all kept tags to go back, and changed the hand alone
 pub record CallsForKept {R : Type 0} (left : ℕ) (old new : Cache R) : Type 0 where

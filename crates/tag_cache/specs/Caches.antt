@@ -48,8 +48,8 @@ abbrev pub Holds : {R : Type 0} → Cache R → ℕ → Type 0
 Holds cache tag = hands.Holds cache.hand tag × ¬ (IsKept cache tag)
 
 -- the user is known to hold the tag, an ordinary one of the window
-abbrev pub IsLent : {R : Type 0} → Cache R → ℕ → Type 0
-IsLent cache tag = IsIn cache.first cache.lent tag
+abbrev pub IsKnown : {R : Type 0} → Cache R → ℕ → Type 0
+IsKnown cache tag = IsIn cache.first cache.known tag
 
 -- the value in the slot of a tag, if the hand holds it
 abbrev pub slot_of : {R : Type 0} → Cache R → ℕ → maybe.Option R
@@ -73,7 +73,7 @@ IsFixed cache = ¬ (KeepsNone cache) ⊎ (keeping_of cache ≡ WhileHolding)
 
 -- tags are kept only while the user is known to hold one, which is this one and no other
 abbrev pub IsLast : {R : Type 0} → ℕ → Cache R → Type 0
-IsLast tag cache = (keeping_of cache ≡ WhileHolding) × ((other : ℕ) → IsLent cache other → other ≡ tag)
+IsLast tag cache = (keeping_of cache ≡ WhileHolding) × ((other : ℕ) → IsKnown cache other → other ≡ tag)
 
 -- if tags are kept only while the user holds one, and any is kept, the user holds one
 abbrev pub KeepsWithCare : {R : Type 0} → Cache R → Type 0
@@ -93,7 +93,7 @@ pub record CanBeKept {R : Type 0} (tag : ℕ) (cache : Cache R) : Type 0 where
 
 -- a clear keeps the tag if nobody waits: the user is known to hold it, and it may be kept besides those that are
 pub record HasPlace {R : Type 0} (tag : ℕ) (cache : Cache R) : Type 0 where
-  pub lent : IsLent cache tag
+  pub known : IsKnown cache tag
   pub place : ¬ (HasNoPlace tag cache)
   pub can : CanBeKept tag cache
   pub other : ¬ (IsLast tag cache)

@@ -20,9 +20,9 @@ use Rattle.tag_sets.specs.Waits.{Leaves, StandsOn}
 use Rattle.tag_cache.specs.declared.cache.Cache.{Cache}
 use Rattle.tag_cache.specs.Batches.{ListGoes, answered_run}
 use Rattle.tag_cache.specs.Caches.{KeepsNone, IsLast, LeavesWindow, hand_of, slot_of, reused_of}
-use Rattle.tag_cache.specs.Changes.{IsUnchanged, KeepsSame, SameTerms, SameWindow, LendsLess, LendsNoneOf}
+use Rattle.tag_cache.specs.Changes.{IsUnchanged, KeepsSame, SameTerms, SameWindow, KnowsLess, KnowsNoneOf}
 use Rattle.tag_cache.specs.Clears.{Goes, GivesKept}
-use Rattle.tag_cache.specs.Gets.{GetsFreed, LendsAnswer}
+use Rattle.tag_cache.specs.Gets.{GetsFreed, LearnsAnswer}
 use Rattle.tag_cache.specs.Holding.{HoldsLess, HoldsMore, HoldsSame, Writes}
 use Rattle.tag_cache.specs.Refusals.{get_checks, tag_checks, list_checks, mask_checks}
 use Rattle.tag_cache.specs.Same.{SameTags}
@@ -35,7 +35,7 @@ pub record DoesGet {R : Type 0} (tags : Tags R) (result : Result (Found ℕ) Tag
   pub refusals : RefusesBy (get_checks old) (IsUnchanged old new) result
   pub gets : IfOk result (λ found. GetsFreed tags found.answer old new)
   pub left : IfOk result (λ found. found.left ≡ left_free (hand_of old) (hand_of new))
-  pub loans : IfOk result (λ found. LendsAnswer found.answer old new)
+  pub knows : IfOk result (λ found. LearnsAnswer found.answer old new)
   pub tally : IfOk result (λ found. Tallies (answered found.answer) 0 old new)
 
 -- gets a reserved tag
@@ -81,7 +81,7 @@ pub record DoesClear {R Told : Type 0} (woken : Told → ℕ) (Tells : Told → 
   pub less : OnOk result (HoldsLess (λ other. other ≡ tag) old new)
   pub way : IfOk result (λ told. Goes tags tag (woken told) old new)
   pub tells : IfOk result (λ told. Tells told (waiter_of (hand_of old)) (waiter_of (hand_of new)))
-  pub loans : LeavesWindow tag old → OnOk result (LendsLess tag old new)
+  pub knows : LeavesWindow tag old → OnOk result (KnowsLess tag old new)
   pub tally : OnOk result (Tallies 0 1 old new)
 
 -- clears the tags of a list, and tells in this way whom that granted a wakeup
@@ -91,7 +91,7 @@ pub record DoesClearBatch {R Told : Type 0} (woken : Told → ℕ) (Tells : Told
   pub less : OnOk result (HoldsLess (Contains list) old new)
   pub way : IfOk result (λ told. ListGoes tags list (woken told) old new)
   pub tells : IfOk result (λ told. Tells told (waiter_of (hand_of old)) (waiter_of (hand_of new)))
-  pub loans : OnOk result (LendsNoneOf list old new)
+  pub knows : OnOk result (KnowsNoneOf list old new)
   pub tally : OnOk result (Tallies 0 (length list) old new)
 
 -- clears the tags of a mask, and tells in this way whom that granted a wakeup
@@ -101,7 +101,7 @@ pub record DoesClearMask {R Told : Type 0} (woken : Told → ℕ) (Tells : Told 
   pub less : OnOk result (HoldsLess (Contains (tags_in first mask)) old new)
   pub way : IfOk result (λ told. ListGoes tags (tags_in first mask) (woken told) old new)
   pub tells : IfOk result (λ told. Tells told (waiter_of (hand_of old)) (waiter_of (hand_of new)))
-  pub loans : OnOk result (LendsNoneOf (tags_in first mask) old new)
+  pub knows : OnOk result (KnowsNoneOf (tags_in first mask) old new)
   pub tally : OnOk result (Tallies 0 (count_ones mask) old new)
 
 -- reads the slot of a tag
@@ -135,7 +135,7 @@ pub record DoesPost {R Told : Type 0} (woken : Told → ℕ) (Tells : Told → W
   pub nobody : ¬ (IsLast tag old) → IfOk result (λ told. woken told ≡ 0)
   pub tells : IfOk result (λ told. Tells told (waiter_of (hand_of old)) (waiter_of (hand_of new)))
   pub terms : SameTerms old new
-  pub loans : OnOk result (LendsLess tag old new)
+  pub knows : OnOk result (KnowsLess tag old new)
   pub tally : Tallies 0 0 old new
 
 -- takes a posted tag; whether it is posted only the step can tell

@@ -1,7 +1,7 @@
 -- How the tags that are kept change, and those that the user is known to hold.
 use Rattle.std.specs.Prelude.{◌≡◌, ◌≢◌, ◌⊎◌, ◌↔◌, ℕ, ◌+◌, ◌≤◌, Bool, true, false, List, Contains}
 use Rattle.tag_cache.specs.declared.cache.Cache.{Cache}
-use Rattle.tag_cache.specs.Caches.{hand_of, count_of, most_of, keeping_of, reused_of, IsKept, IsLent, IsWithin, KeepsNone, HasNoPlace, CanBeKept}
+use Rattle.tag_cache.specs.Caches.{hand_of, count_of, most_of, keeping_of, reused_of, IsKept, IsKnown, IsWithin, KeepsNone, HasNoPlace, CanBeKept}
 
 -- as many tags may be kept, and when
 pub record SameTerms {R : Type 0} (old new : Cache R) : Type 0 where
@@ -18,13 +18,13 @@ pub record KeepsSame {R : Type 0} (old new : Cache R) : Type 0 where
 -- the window is where it was, and the user is known to hold the same tags
 pub record SameWindow {R : Type 0} (old new : Cache R) : Type 0 where
   pub place : (tag : ℕ) → IsWithin new tag ↔ IsWithin old tag
-  pub loans : (tag : ℕ) → IsLent new tag ↔ IsLent old tag
+  pub knows : (tag : ℕ) → IsKnown new tag ↔ IsKnown old tag
 
 -- all fields but the hand are as they were
 pub record SameFields {R : Type 0} (old new : Cache R) : Type 0 where
   pub first : new.first ≡ old.first
   pub kept : new.kept ≡ old.kept
-  pub lent : new.lent ≡ old.lent
+  pub known : new.known ≡ old.known
   pub most : new.most ≡ old.most
   pub keeping : new.keeping ≡ old.keeping
   pub reused : new.reused ≡ old.reused
@@ -42,23 +42,23 @@ pub record IsUnchanged {R : Type 0} (old new : Cache R) : Type 0 where
 
 -- the user is known to hold this tag besides those that it was known to hold, unless none was kept and the window moved
 -- to it
-pub record Lends {R : Type 0} (tag : ℕ) (old new : Cache R) : Type 0 where
-  pub now : IsLent new tag
-  pub still : (KeepsNone old → IsWithin old tag) → (other : ℕ) → IsLent old other → IsLent new other
-  pub none_else : (other : ℕ) → IsLent new other → IsLent old other ⊎ (other ≡ tag)
+pub record Learns {R : Type 0} (tag : ℕ) (old new : Cache R) : Type 0 where
+  pub now : IsKnown new tag
+  pub still : (KeepsNone old → IsWithin old tag) → (other : ℕ) → IsKnown old other → IsKnown new other
+  pub none_else : (other : ℕ) → IsKnown new other → IsKnown old other ⊎ (other ≡ tag)
 
 -- the user is known to hold the same tags but this one
-abbrev pub LendsLess : {R : Type 0} → ℕ → Cache R → Cache R → Type 0
-LendsLess tag old new = (other : ℕ) → IsLent new other ↔ (IsLent old other × other ≢ tag)
+abbrev pub KnowsLess : {R : Type 0} → ℕ → Cache R → Cache R → Type 0
+KnowsLess tag old new = (other : ℕ) → IsKnown new other ↔ (IsKnown old other × other ≢ tag)
 
 -- the user is known to hold the same tags but those of the list
-abbrev pub LendsNoneOf : {R : Type 0} → List ℕ → Cache R → Cache R → Type 0
-LendsNoneOf list old new = (other : ℕ) → IsLent new other ↔ (IsLent old other × ¬ (Contains list other))
+abbrev pub KnowsNoneOf : {R : Type 0} → List ℕ → Cache R → Cache R → Type 0
+KnowsNoneOf list old new = (other : ℕ) → IsKnown new other ↔ (IsKnown old other × ¬ (Contains list other))
 
 -- it is no longer known that the user holds this tag, and nothing else changed
 pub record Forgets {R : Type 0} (tag : ℕ) (old new : Cache R) : Type 0 where
   pub same : SameHand old new
-  pub loans : LendsLess tag old new
+  pub knows : KnowsLess tag old new
 
 -- the least kept tag is kept no more
 pub record TakesLeast {R : Type 0} (tag : ℕ) (old new : Cache R) : Type 0 where
@@ -72,7 +72,7 @@ pub record TakesLeast {R : Type 0} (tag : ℕ) (old new : Cache R) : Type 0 wher
 -- the least kept tag is kept no more, but handed to the user, once more than before
 pub record Reuses {R : Type 0} (tag : ℕ) (old new : Cache R) : Type 0 where
   pub takes : TakesLeast tag old new
-  pub lends : Lends tag old new
+  pub learns : Learns tag old new
   pub reused : reused_of new ≡ reused_of old + 1
 
 -- this tag is kept besides the others, on the same terms, and none was handed out again
@@ -88,7 +88,7 @@ pub record KeepsAlso {R : Type 0} (tag : ℕ) (old new : Cache R) : Type 0 where
 pub record Keeps {R : Type 0} (tag : ℕ) (old new : Cache R) : Type 0 where
   pub hand : hand_of new ≡ hand_of old
   pub also : KeepsAlso tag old new
-  pub loans : LendsLess tag old new
+  pub knows : KnowsLess tag old new
 
 -- the tag is kept besides, or nothing changed, since there is no place for it or it may not be kept
 abbrev pub MayKeep : {R : Type 0} → ℕ → Bool → Cache R → Cache R → Type 0

@@ -8,7 +8,7 @@ use Rattle.tag_sets.specs.Gets as hands
 use Rattle.tag_sets.specs.Waits as hand_waits
 use Rattle.tag_cache.specs.declared.cache.Cache.{Cache}
 use Rattle.tag_cache.specs.Caches.{KeepsNone}
-use Rattle.tag_cache.specs.Changes.{KeepsSame, SameWindow, Lends, Reuses}
+use Rattle.tag_cache.specs.Changes.{KeepsSame, SameWindow, Learns, Reuses}
 use Rattle.tag_cache.specs.Holding.{HoldsMore}
 
 -- the answer is the least kept tag, by no step
@@ -51,6 +51,6 @@ abbrev pub WaitsFor : {R : Type 0} → Tags R → ℕ → Cache R → Cache R �
 WaitsFor tags tag old new = Reuses tag old new ⊎ FromWaiting tags tag old new
 
 -- the user is known to hold the tag returned, if there is one, and otherwise what it was known to hold
-abbrev pub LendsAnswer : {R : Type 0} → Option ℕ → Cache R → Cache R → Type 0
-LendsAnswer None old new = SameWindow old new
-LendsAnswer (Some tag) old new = Lends tag old new
+abbrev pub LearnsAnswer : {R : Type 0} → Option ℕ → Cache R → Cache R → Type 0
+LearnsAnswer None old new = SameWindow old new
+LearnsAnswer (Some tag) old new = Learns tag old new

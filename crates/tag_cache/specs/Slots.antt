@@ -5,7 +5,7 @@ use Rattle.tag_sets.specs.declared.tags.Tags.{Tags}
 use Rattle.tag_sets.specs.Slots as hands
 use Rattle.tag_cache.specs.declared.cache.Cache.{Cache}
 use Rattle.tag_cache.specs.Caches.{IsLast, KeepsNone, hand_of}
-use Rattle.tag_cache.specs.Changes.{KeepsSame, LendsLess, SameTerms}
+use Rattle.tag_cache.specs.Changes.{KeepsSame, KnowsLess, SameTerms}
 use Rattle.tag_cache.specs.Clears.{GivesKept}
 use Rattle.tag_cache.specs.Holding.{HoldsLess}
 
@@ -20,7 +20,7 @@ pub record PassesAlone {R : Type 0} (tag : ℕ) (old new : Cache R) : Type 0 whe
   pub less : HoldsLess (λ other. other ≡ tag) old new
   pub posts : hands.Posts tag (hand_of old) (hand_of new)
   pub kept : KeepsSame old new
-  pub loans : LendsLess tag old new
+  pub knows : KnowsLess tag old new
 
 -- this tag is the user's no more; the hand only posted it, unless it was the last one known, and then none is kept
 pub record Passes {R : Type 0} (tag : ℕ) (old new : Cache R) : Type 0 where
@@ -29,4 +29,4 @@ pub record Passes {R : Type 0} (tag : ℕ) (old new : Cache R) : Type 0 where
   pub kept : ¬ (IsLast tag old) → KeepsSame old new
   pub last : IsLast tag old → KeepsNone new
   pub terms : SameTerms old new
-  pub loans : LendsLess tag old new
+  pub knows : KnowsLess tag old new

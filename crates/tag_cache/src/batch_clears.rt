@@ -5,8 +5,8 @@ ghost use Rattle.tag_sets.specs.Hands.{waiter_of};
 ghost use Rattle.tag_sets.specs.declared.hand.Hand.{Hand};
 ghost use Rattle.tag_cache.specs.Windows.{IsIn};
 ghost use Rattle.tag_cache.specs.Batches.{AreHeldOnce, GivesKeptAndList, ListGoes};
-ghost use Rattle.tag_cache.specs.Caches.{IsCacheOf, IsKept, IsLent, hand_of};
-ghost use Rattle.tag_cache.specs.Changes.{LendsNoneOf};
+ghost use Rattle.tag_cache.specs.Caches.{IsCacheOf, IsKept, IsKnown, hand_of};
+ghost use Rattle.tag_cache.specs.Changes.{KnowsNoneOf};
 ghost use Rattle.tag_cache.specs.Rings.{GrantsNone};
 ghost use Rattle.tag_cache.specs.Calls.{DoesClearBatch};
 
@@ -45,9 +45,9 @@ impl<R: Copy> Cache<R> {
         ensures cache { IsCacheOf tags.now self.new }
         ensures way { ListGoes tags.now list.now (W.woken result) self.old self.new }
         ensures tells { W.tells result (waiter_of (hand_of self.old)) (waiter_of (hand_of self.new)) }
-        ensures loans { LendsNoneOf list.now self.old self.new }
+        ensures knows { KnowsNoneOf list.now self.old self.new }
     {
-        let left = self.lent_without_all(list);
+        let left = self.known_without_all(list);
         if self.goes_on(tags, left) {
             return tags.clear_batch_held::<Since<W>>(&mut self.hand, list);
         }
@@ -65,14 +65,14 @@ impl<R: Copy> Cache<R> {
     ) -> W::Answer
         requires cache { IsCacheOf tags.now self.old }
         requires left { (other : ℕ) → IsIn self.old.first left other
-            ↔ (IsLent self.old other × ¬ (Contains list.now other)) }
+            ↔ (IsKnown self.old other × ¬ (Contains list.now other)) }
         requires list { CountsTags list.now × AreOrdinary tags.now list.now }
         requires held { AreHeldOnce self.old list.now }
         ensures cache { IsCacheOf tags.now self.new }
         ensures gives { GivesKeptAndList tags.now list.now (W.woken result) self.old self.new }
         ensures tells { (before : Hand R) → GrantsNone before (hand_of self.old)
             → W.tells result (waiter_of before) (waiter_of (hand_of self.new)) }
-        ensures loans { LendsNoneOf list.now self.old self.new }
+        ensures knows { KnowsNoneOf list.now self.old self.new }
     {
         let sooner = self.leave(tags, left);
         let later = tags.clear_batch_held::<Report>(&mut self.hand, list);
@@ -94,10 +94,10 @@ impl<R> Cache<R> {
     }
 
     /// Returns the mask of the tags that the user is known to hold, without these.
-    fn lent_without_all(&self, list: &[u32]) -> u64
-        ensures { (other : ℕ) → IsIn self.now.first result other ↔ (IsLent self.now other × ¬ (Contains list.now other)) }
+    fn known_without_all(&self, list: &[u32]) -> u64
+        ensures { (other : ℕ) → IsIn self.now.first result other ↔ (IsKnown self.now other × ¬ (Contains list.now other)) }
     {
-        let mut left = self.lent;
+        let mut left = self.known;
         for tag in list {
             left = self.without(left, *tag);
         }

@@ -4,7 +4,7 @@ ghost use Rattle.wake_book.specs.Grants.{AreGrantsOf};
 ghost use Rattle.tag_sets.specs.Hands.{group_steps};
 ghost use Rattle.tag_cache.specs.Windows.{IsIn};
 ghost use Rattle.tag_cache.specs.Batches.{GoesOn, CallsForKept, LeavesNone};
-ghost use Rattle.tag_cache.specs.Caches.{IsCacheOf, IsLent, KeepsNone, hand_of, reused_of};
+ghost use Rattle.tag_cache.specs.Caches.{IsCacheOf, IsKnown, KeepsNone, hand_of, reused_of};
 ghost use Rattle.tag_cache.specs.Changes.{SameTerms};
 ghost use Rattle.tag_cache.specs.Clears.{GivesKept};
 
@@ -19,7 +19,7 @@ impl<R: Copy> Cache<R> {
     #[inline]
     pub(crate) fn goes_on(&mut self, tags: &Tags<R>, left: u64) -> bool
         requires cache { IsCacheOf tags.now self.old }
-        requires left { (other : ℕ) → IsIn self.old.first left other → IsLent self.old other }
+        requires left { (other : ℕ) → IsIn self.old.first left other → IsKnown self.old other }
         ensures cache { IsCacheOf tags.now self.new }
         ensures on { IsTrue result → GoesOn left self.old self.new }
         ensures ends { IsFalse result → CallsForKept left self.old self.new }
@@ -30,25 +30,25 @@ impl<R: Copy> Cache<R> {
         if self.leaves_none(left) {
             return false;
         }
-        self.lent = left;
+        self.known = left;
         true
     }
 
     /// Gives all kept tags back, and says that the user is known to hold only the tags of this mask.
     pub(crate) fn leave(&mut self, tags: &Tags<R>, left: u64) -> Grants
         requires cache { IsCacheOf tags.now self.old }
-        requires left { (other : ℕ) → IsIn self.old.first left other → IsLent self.old other }
+        requires left { (other : ℕ) → IsIn self.old.first left other → IsKnown self.old other }
         ensures cache { IsCacheOf tags.now self.new }
         ensures gives { GivesKept tags.now result.woken self.old (hand_of self.old) (hand_of self.new) }
         ensures grants { AreGrantsOf result (group_steps (hand_of self.old)) (group_steps (hand_of self.new)) }
         ensures none { KeepsNone self.new }
         ensures terms { SameTerms self.old self.new }
         ensures reused { reused_of self.new ≡ reused_of self.old }
-        ensures loans { (other : ℕ) → IsLent self.new other ↔ IsIn self.old.first left other }
+        ensures knows { (other : ℕ) → IsKnown self.new other ↔ IsIn self.old.first left other }
         ensures few { result.woken ≤ 8 }
     {
         let grants = self.give_back_kept(tags);
-        self.lent = left;
+        self.known = left;
         grants
     }
 }

@@ -28,19 +28,19 @@ pub struct Cache<R> {
     /// Which tags of the window are kept: bit 0 is the first one, and 1 is kept.
     pub(crate) kept: u64,
     /// Which ordinary tags of the window the user is known to hold, and so need no test: bit 0 is the first one.
-    pub(crate) lent: u64,
+    pub(crate) known: u64,
     /// Number of kept tags that were handed out again.
     pub(crate) reused: u64,
     /// Must be the last field: a hand ends with padding, so that caches that are adjacent in memory share no cache line.
     pub(crate) hand: Hand<R>,
     ghost own: { AreOwn hand first kept },
-    ghost loans: { AreOwn hand first lent },
-    ghost apart: { (tag : ℕ) → IsIn first kept tag → ¬ (IsIn first lent tag) },
-    ghost wide: { (kept < 2 ^ 64) × (lent < 2 ^ 64) },
+    ghost knows: { AreOwn hand first known },
+    ghost apart: { (tag : ℕ) → IsIn first kept tag → ¬ (IsIn first known tag) },
+    ghost wide: { (kept < 2 ^ 64) × (known < 2 ^ 64) },
     ghost low: { first < 2 ^ 31 },
     ghost few: { (room + count_ones kept ≡ most) × (most ≤ 64) },
     ghost alive: { reused + count_ones kept ≤ MOST_REUSED + 64 },
-    ghost careful: { keeping ≡ WhileHolding → 0 < kept → 0 < lent },
+    ghost careful: { keeping ≡ WhileHolding → 0 < kept → 0 < known },
 }
 
 impl<R> Cache<R> {
@@ -73,7 +73,7 @@ impl<R> Cache<R> {
             room: most,
             keeping,
             kept: 0,
-            lent: 0,
+            known: 0,
             reused: 0,
             hand,
         }

@@ -3,8 +3,8 @@ ghost use Rattle.std.specs.Prelude.{◌≡◌, ◌⊎◌, ◌<◌, ◌≤◌, If
 ghost use Rattle.wake_book.specs.Grants.{AreGrantsOf};
 ghost use Rattle.tag_sets.specs.declared.hand.Hand.{Hand};
 ghost use Rattle.tag_sets.specs.Hands.{group_steps, waiter_of};
-ghost use Rattle.tag_cache.specs.Caches.{IsCacheOf, Holds, HasPlace, IsLast, IsLent, IsWithin, IsFixed, KeepsNone, LeavesWindow, hand_of, split_of, reused_of};
-ghost use Rattle.tag_cache.specs.Changes.{IsUnchanged, KeepsSame, SameTerms, SameWindow, LendsLess};
+ghost use Rattle.tag_cache.specs.Caches.{IsCacheOf, Holds, HasPlace, IsLast, IsKnown, IsWithin, IsFixed, KeepsNone, LeavesWindow, hand_of, split_of, reused_of};
+ghost use Rattle.tag_cache.specs.Changes.{IsUnchanged, KeepsSame, SameTerms, SameWindow, KnowsLess};
 ghost use Rattle.tag_cache.specs.Holding.{HoldsLess};
 ghost use Rattle.tag_cache.specs.Rings.{GrantsNone};
 ghost use Rattle.tag_cache.specs.Tallies.{Tallies};
@@ -45,7 +45,7 @@ impl<R: Copy> Cache<R> {
         ensures cache { IsCacheOf tags.now self.new }
         ensures way { GoesOrdinary tags.now tag (W.woken result) self.old self.new }
         ensures tells { W.tells result (waiter_of (hand_of self.old)) (waiter_of (hand_of self.new)) }
-        ensures loans { LendsLess tag self.old self.new }
+        ensures knows { KnowsLess tag self.old self.new }
     {
         let offset = self.offset(tag);
         if tags.active(&mut self.hand) != 0 {
@@ -66,7 +66,7 @@ impl<R: Copy> Cache<R> {
             (hand_of self.old) (hand_of self.new) }
         ensures tells { (before : Hand R) → GrantsNone before (hand_of self.old)
             → W.tells result (waiter_of before) (waiter_of (hand_of self.new)) }
-        ensures loans { LendsLess tag self.old self.new }
+        ensures knows { KnowsLess tag self.old self.new }
         ensures none { KeepsNone self.new }
         ensures terms { SameTerms self.old self.new }
         ensures reused { reused_of self.new ≡ reused_of self.old }
@@ -96,10 +96,10 @@ impl<R: Copy> Cache<R> {
         ensures way { IfOk result (λ grants. Goes tags.now tag grants.woken self.old self.new) }
         ensures grants { IfOk result (λ grants.
             AreGrantsOf grants (group_steps (hand_of self.old)) (group_steps (hand_of self.new))) }
-        ensures loans { LeavesWindow tag self.old → OnOk result (LendsLess tag self.old self.new) }
+        ensures knows { LeavesWindow tag self.old → OnOk result (KnowsLess tag self.old self.new) }
         ensures tally { OnOk result (Tallies 0 1 self.old self.new) }
     {
-        if self.lends(tag) {
+        if self.knows(tag) {
             return Ok(self.keep_or_give_back(tags, tag));
         }
         self.clear_other(tags, tag)
@@ -108,12 +108,12 @@ impl<R: Copy> Cache<R> {
     /// Clears a tag that the user is not known to hold.
     fn clear_other(&mut self, tags: &Tags<R>, tag: u32) -> Result<Grants, TagFault>
         requires cache { IsCacheOf tags.now self.old }
-        requires unlent { ¬ (IsLent self.old tag) }
+        requires unknown { ¬ (IsKnown self.old tag) }
         ensures cache { IsCacheOf tags.now self.new }
         ensures refusals { RefusesBy (tag_checks tags.now self.old tag) (IsUnchanged self.old self.new) result }
         ensures way { IfOk result (λ grants. Goes tags.now tag grants.woken self.old self.new) }
         ensures grants { IfOk result (λ grants. AreGrantsOf grants (group_steps (hand_of self.old)) (group_steps (hand_of self.new))) }
-        ensures loans { LeavesWindow tag self.old → OnOk result (LendsLess tag self.old self.new) }
+        ensures knows { LeavesWindow tag self.old → OnOk result (KnowsLess tag self.old self.new) }
     {
         let kind = tags.find_held(&self.hand, tag)?;
         if self.keeps(tag) {
@@ -134,7 +134,7 @@ impl<R: Copy> Cache<R> {
         ensures cache { IsCacheOf tags.now self.new }
         ensures way { GoesOrdinary tags.now tag result.woken self.old self.new }
         ensures grants { AreGrantsOf result (group_steps (hand_of self.old)) (group_steps (hand_of self.new)) }
-        ensures loans { LeavesWindow tag self.old → LendsLess tag self.old self.new }
+        ensures knows { LeavesWindow tag self.old → KnowsLess tag self.old self.new }
     {
         self.follow(tag);
         self.keep_or_give_back(tags, tag)
@@ -149,7 +149,7 @@ impl<R: Copy> Cache<R> {
         ensures cache { IsCacheOf tags.now self.new }
         ensures way { GoesOrdinary tags.now tag result.woken self.old self.new }
         ensures grants { AreGrantsOf result (group_steps (hand_of self.old)) (group_steps (hand_of self.new)) }
-        ensures loans { LeavesWindow tag self.old → LendsLess tag self.old self.new }
+        ensures knows { LeavesWindow tag self.old → KnowsLess tag self.old self.new }
     {
         if tags.active(&mut self.hand) != 0 {
             return self.give_back_all(tags, tag);
@@ -173,7 +173,7 @@ impl<R: Copy> Cache<R> {
         ensures cache { IsCacheOf tags.now self.new }
         ensures way { MakesRoom tags.now tag result.woken self.old self.new }
         ensures grants { AreGrantsOf result (group_steps (hand_of self.old)) (group_steps (hand_of self.new)) }
-        ensures loans { LeavesWindow tag self.old → LendsLess tag self.old self.new }
+        ensures knows { LeavesWindow tag self.old → KnowsLess tag self.old self.new }
     {
         if !self.can_keep(tag) {
             return self.give_back_alone(tags, tag);
@@ -191,7 +191,7 @@ impl<R: Copy> Cache<R> {
         ensures cache { IsCacheOf tags.now self.new }
         ensures gives { GivesWith tags.now tag result.woken self.old (hand_of self.old) (hand_of self.new) }
         ensures grants { AreGrantsOf result (group_steps (hand_of self.old)) (group_steps (hand_of self.new)) }
-        ensures loans { LendsLess tag self.old self.new }
+        ensures knows { KnowsLess tag self.old self.new }
         ensures none { KeepsNone self.new }
         ensures terms { SameTerms self.old self.new }
         ensures reused { reused_of self.new ≡ reused_of self.old }
@@ -210,7 +210,7 @@ impl<R: Copy> Cache<R> {
         ensures cache { IsCacheOf tags.now self.new }
         ensures gives { GivesOne tags.now tag result.woken (hand_of self.old) (hand_of self.new) }
         ensures grants { AreGrantsOf result (group_steps (hand_of self.old)) (group_steps (hand_of self.new)) }
-        ensures loans { LendsLess tag self.old self.new }
+        ensures knows { KnowsLess tag self.old self.new }
         ensures kept { KeepsSame self.old self.new }
         ensures few { result.woken ≤ 8 }
     {
@@ -223,7 +223,7 @@ impl<R: Copy> Cache<R> {
     fn give_back(&mut self, tags: &Tags<R>, tag: u32) -> Grants
         requires cache { IsCacheOf tags.now self.old }
         requires held { Holds self.old tag }
-        requires unlent { ¬ (IsLent self.old tag) }
+        requires unknown { ¬ (IsKnown self.old tag) }
         ensures cache { IsCacheOf tags.now self.new }
         ensures gives { GivesOne tags.now tag result.woken (hand_of self.old) (hand_of self.new) }
         ensures grants { AreGrantsOf result (group_steps (hand_of self.old)) (group_steps (hand_of self.new)) }

@@ -35,7 +35,7 @@ impl<R: Copy> Cache<R> {
         ensures grants { AreGrantsOf result (group_steps (hand_of self.old)) (group_steps (hand_of self.new)) }
         ensures terms { SameTerms self.old self.new }
         ensures reused { reused_of self.new ≡ reused_of self.old }
-        ensures window { (self.new.first ≡ self.old.first) × (self.new.lent ≡ self.old.lent) }
+        ensures window { (self.new.first ≡ self.old.first) × (self.new.known ≡ self.old.known) }
         ensures few { result.woken ≤ 8 }
     {
         let kept = self.kept;

@@ -5,7 +5,7 @@ ghost use Rattle.tag_sets.specs.Freed.{left_free};
 ghost use Rattle.tag_sets.specs.Gets as hands;
 ghost use Rattle.tag_cache.specs.Caches.{IsCacheOf, KeepsNone, hand_of};
 ghost use Rattle.tag_cache.specs.Changes.{IsUnchanged, KeepsSame};
-ghost use Rattle.tag_cache.specs.Gets.{LendsAnswer};
+ghost use Rattle.tag_cache.specs.Gets.{LearnsAnswer};
 ghost use Rattle.refusals.specs.Refusals.{RefusesBy};
 ghost use Rattle.tag_cache.specs.Calls.{DoesGet, DoesGetShallow, DoesGetBatch};
 
@@ -41,13 +41,13 @@ impl<R: Copy> Cache<R> {
         ensures gets { IfOk result (λ found. hands.Gets tags.now found.answer (hand_of self.old) (hand_of self.new)) }
         ensures left { IfOk result (λ found. found.left ≡ left_free (hand_of self.old) (hand_of self.new)) }
         ensures kept { KeepsSame self.old self.new }
-        ensures loans { IfOk result (λ found. LendsAnswer found.answer self.old self.new) }
+        ensures knows { IfOk result (λ found. LearnsAnswer found.answer self.old self.new) }
     {
         let Found { answer, left } = tags.get_freed(&mut self.hand)?;
         let Some(tag) = answer else {
             return Ok(Found { answer: None, left });
         };
-        self.lend(tag);
+        self.learn(tag);
         Ok(Found {
             answer: Some(tag),
             left,

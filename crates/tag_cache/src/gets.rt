@@ -6,10 +6,10 @@ ghost use Rattle.tag_sets.specs.Gets as hands;
 ghost use Rattle.tag_sets.specs.Waits as hand_waits;
 ghost use Rattle.tag_sets.specs.Gets.{IsOrdinaryTag};
 ghost use Rattle.tag_cache.specs.Caches.{IsCacheOf, KeepsNone, hand_of};
-ghost use Rattle.tag_cache.specs.Changes.{IsUnchanged, KeepsSame, Lends};
+ghost use Rattle.tag_cache.specs.Changes.{IsUnchanged, KeepsSame, Learns};
 ghost use Rattle.tag_cache.specs.Holding.{HoldsMore};
 ghost use Rattle.tag_cache.specs.Tallies.{Tallies, answered};
-ghost use Rattle.tag_cache.specs.Gets.{Gets, WaitsFor, LendsAnswer};
+ghost use Rattle.tag_cache.specs.Gets.{Gets, WaitsFor, LearnsAnswer};
 ghost use Rattle.refusals.specs.Refusals.{RefusesBy};
 ghost use Rattle.tag_cache.specs.Refusals.{get_checks, blocking_checks};
 ghost use Rattle.tag_cache.specs.Calls.{DoesGetReserved};
@@ -27,7 +27,7 @@ impl<R: Copy> Cache<R> {
         ensures cache { IsCacheOf tags.now self.new }
         ensures refusals { RefusesBy (get_checks self.old) (IsUnchanged self.old self.new) result }
         ensures gets { IfOk result (λ answer. Gets tags.now answer self.old self.new) }
-        ensures loans { IfOk result (λ answer. LendsAnswer answer self.old self.new) }
+        ensures knows { IfOk result (λ answer. LearnsAnswer answer self.old self.new) }
         ensures tally { IfOk result (λ answer. Tallies (answered answer) 0 self.old self.new) }
     {
         if self.keeps_none() {
@@ -45,12 +45,12 @@ impl<R: Copy> Cache<R> {
         ensures refusals { RefusesBy (of_hand.get_checks (hand_of self.old)) (IsUnchanged self.old self.new) result }
         ensures gets { IfOk result (λ answer. GetsAndLooks (hands.Gets tags.now answer) (hand_of self.old) (hand_of self.new)) }
         ensures kept { KeepsSame self.old self.new }
-        ensures loans { IfOk result (λ answer. LendsAnswer answer self.old self.new) }
+        ensures knows { IfOk result (λ answer. LearnsAnswer answer self.old self.new) }
     {
         let Some(tag) = tags.get(&mut self.hand)? else {
             return Ok(None);
         };
-        self.lend(tag);
+        self.learn(tag);
         Ok(Some(tag))
     }
 
@@ -74,7 +74,7 @@ impl<R: Copy> Cache<R> {
         ensures more { IfOk result (λ tag. HoldsMore (λ other. other ≡ tag) self.old self.new) }
         ensures ordinary { IfOk result (λ tag. IsOrdinaryTag tags.now tag) }
         ensures waits { IfOk result (λ tag. WaitsFor tags.now tag self.old self.new) }
-        ensures loans { IfOk result (λ tag. Lends tag self.old self.new) }
+        ensures knows { IfOk result (λ tag. Learns tag self.old self.new) }
         ensures tally { OnOk result (Tallies 1 0 self.old self.new) }
     {
         if self.keeps_none() {
@@ -93,10 +93,10 @@ impl<R: Copy> Cache<R> {
         ensures gets { IfOk result (λ tag. hands.BlockingGets tags.now tag (hand_of self.old) (hand_of self.new)) }
         ensures waits { IfOk result (λ tag. hand_waits.WaitsFor tags.now tag (hand_of self.old) (hand_of self.new)) }
         ensures kept { KeepsSame self.old self.new }
-        ensures loans { IfOk result (λ tag. Lends tag self.old self.new) }
+        ensures knows { IfOk result (λ tag. Learns tag self.old self.new) }
     {
         let tag = tags.get_blocking(rt, &mut self.hand)?;
-        self.lend(tag);
+        self.learn(tag);
         Ok(tag)
     }
 }

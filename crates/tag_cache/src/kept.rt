@@ -1,7 +1,7 @@
 //! Which tags are kept.
 ghost use Rattle.std.specs.Prelude.{◌≡◌, ◌+◌, ◌⊎◌, ◌<◌, ◌≤◌, ◌^◌, ◌↔◌, IsTrue, IsFalse};
 ghost use Rattle.tag_cache.specs.Caches.{IsKept, IsWithin, IsFixed, IsLast, HasPlace, KeepsNone, KeepsWithCare, LeavesWindow, CanBeKept, Holds, most_of, count_of, split_of, hand_of};
-ghost use Rattle.tag_cache.specs.Changes.{Reuses, Keeps, MayKeep, KeepsOnly, LendsLess};
+ghost use Rattle.tag_cache.specs.Changes.{Reuses, Keeps, MayKeep, KeepsOnly, KnowsLess};
 
 use crate::cache::{Cache, MOST_REUSED, WINDOW};
 use crate::keeping::Keeping;
@@ -54,7 +54,7 @@ impl<R> Cache<R> {
     {
         let place = self.kept.trailing_zeros();
         self.kept &= !(1 << place);
-        self.lent |= 1 << place;
+        self.known |= 1 << place;
         self.room += 1;
         self.reused += 1;
         self.first + place
@@ -86,7 +86,7 @@ impl<R> Cache<R> {
         requires other { ¬ (IsLast tag self.old) }
         ensures hand { hand_of self.new ≡ hand_of self.old }
         ensures only { KeepsOnly tag self.old self.new }
-        ensures loans { LeavesWindow tag self.old → LendsLess tag self.old self.new }
+        ensures knows { LeavesWindow tag self.old → KnowsLess tag self.old self.new }
     {
         self.follow(tag);
         let _ = self.keep(tag);
@@ -111,7 +111,7 @@ impl<R> Cache<R> {
         if self.reused >= MOST_REUSED {
             return false;
         }
-        self.lent = self.lent_without(tag);
+        self.known = self.known_without(tag);
         self.kept |= 1 << offset;
         self.room -= 1;
         true
@@ -122,7 +122,7 @@ impl<R> Cache<R> {
     pub(crate) fn has_place(&self, tag: u32) -> bool
         ensures { IsTrue result ↔ HasPlace tag self.now }
     {
-        if !self.lends(tag) {
+        if !self.knows(tag) {
             return false;
         }
         if self.is_full() {
@@ -141,7 +141,7 @@ impl<R> Cache<R> {
         requires offset { self.old.first + offset ≡ tag }
         ensures { Keeps tag self.old self.new }
     {
-        self.lent &= !(1 << offset);
+        self.known &= !(1 << offset);
         self.kept |= 1 << offset;
         self.room -= 1;
     }

@@ -14,7 +14,7 @@ mod grants;
 mod holds;
 mod keeping;
 mod kept;
-mod lent;
+mod known;
 mod looks;
 mod masks;
 mod meets;

@@ -6,8 +6,8 @@ ghost use Rattle.tag_sets.specs.Hands.{waiter_of};
 ghost use Rattle.tag_sets.specs.declared.hand.Hand.{Hand};
 ghost use Rattle.tag_cache.specs.Windows.{IsIn};
 ghost use Rattle.tag_cache.specs.Batches.{GivesKeptAndList, ListGoes};
-ghost use Rattle.tag_cache.specs.Caches.{IsCacheOf, IsWithin, IsLent, Holds, hand_of};
-ghost use Rattle.tag_cache.specs.Changes.{LendsNoneOf};
+ghost use Rattle.tag_cache.specs.Caches.{IsCacheOf, IsWithin, IsKnown, Holds, hand_of};
+ghost use Rattle.tag_cache.specs.Changes.{KnowsNoneOf};
 ghost use Rattle.tag_cache.specs.Rings.{GrantsNone};
 ghost use Rattle.refusals.specs.Refusals.{RefusesBy};
 ghost use Rattle.tag_cache.specs.Refusals.{mask_checks};
@@ -62,9 +62,9 @@ impl<R: Copy> Cache<R> {
         ensures cache { IsCacheOf tags.now self.new }
         ensures way { ListGoes tags.now (tags_in first mask) (W.woken result) self.old self.new }
         ensures tells { W.tells result (waiter_of (hand_of self.old)) (waiter_of (hand_of self.new)) }
-        ensures loans { LendsNoneOf (tags_in first mask) self.old self.new }
+        ensures knows { KnowsNoneOf (tags_in first mask) self.old self.new }
     {
-        let left = self.lent_outside(first, mask);
+        let left = self.known_outside(first, mask);
         if self.goes_on(tags, left) {
             return tags.clear_mask_held::<Since<W>>(&mut self.hand, first, mask);
         }
@@ -83,14 +83,14 @@ impl<R: Copy> Cache<R> {
     ) -> W::Answer
         requires cache { IsCacheOf tags.now self.old }
         requires left { (other : ℕ) → IsIn self.old.first left other
-            ↔ (IsLent self.old other × ¬ (Contains (tags_in first mask) other)) }
+            ↔ (IsKnown self.old other × ¬ (Contains (tags_in first mask) other)) }
         requires mask { (1 ≤ mask) × AreOrdinary tags.now (tags_in first mask) }
         requires held { All (Holds self.old) (tags_in first mask) }
         ensures cache { IsCacheOf tags.now self.new }
         ensures gives { GivesKeptAndList tags.now (tags_in first mask) (W.woken result) self.old self.new }
         ensures tells { (before : Hand R) → GrantsNone before (hand_of self.old)
             → W.tells result (waiter_of before) (waiter_of (hand_of self.new)) }
-        ensures loans { LendsNoneOf (tags_in first mask) self.old self.new }
+        ensures knows { KnowsNoneOf (tags_in first mask) self.old self.new }
     {
         let sooner = self.leave(tags, left);
         let later = tags.clear_mask_held::<Report>(&mut self.hand, first, mask);
@@ -101,11 +101,11 @@ impl<R: Copy> Cache<R> {
 impl<R> Cache<R> {
     /// Returns the mask of the tags that the user is known to hold, without those of a mask.
     #[inline]
-    fn lent_outside(&self, first: u32, mask: u64) -> u64
+    fn known_outside(&self, first: u32, mask: u64) -> u64
         ensures { (other : ℕ) → IsIn self.now.first result other
-            ↔ (IsLent self.now other × ¬ (Contains (tags_in first mask) other)) }
+            ↔ (IsKnown self.now other × ¬ (Contains (tags_in first mask) other)) }
     {
-        self.lent & !self.inside(first, mask)
+        self.known & !self.inside(first, mask)
     }
 
     /// Returns the tags of a mask that are in the window, as a mask of the window.

@@ -3,7 +3,7 @@ ghost use Rattle.std.specs.Prelude.{◌≡◌, ◌⊎◌, ◌<◌, OnOk, ⊤};
 ghost use mathlib.Core.Option.{some};
 ghost use Rattle.tag_sets.specs.Hands.{waiter_of};
 ghost use Rattle.tag_sets.specs.Slots as hands;
-ghost use Rattle.tag_cache.specs.Caches.{IsCacheOf, IsLast, IsLent, KeepsNone, Holds, slot_of, hand_of};
+ghost use Rattle.tag_cache.specs.Caches.{IsCacheOf, IsLast, IsKnown, KeepsNone, Holds, slot_of, hand_of};
 ghost use Rattle.tag_cache.specs.Changes.{IsUnchanged, KeepsSame, SameWindow};
 ghost use Rattle.tag_cache.specs.Holding.{Writes};
 ghost use Rattle.tag_cache.specs.Slots.{Passes, PassesAlone, PostsLast};
@@ -24,8 +24,8 @@ impl<R: Copy> Cache<R> {
         ensures cache { IsCacheOf tags.now self.new }
         ensures does { DoesRead tag tags.now result self.old self.new }
     {
-        if self.lends(tag) {
-            return Ok(self.read_lent(tags, tag));
+        if self.knows(tag) {
+            return Ok(self.read_known(tags, tag));
         }
         if self.keeps(tag) {
             return Err(TagFault::NotHeld);
@@ -41,16 +41,16 @@ impl<R: Copy> Cache<R> {
         ensures cache { IsCacheOf tags.now self.new }
         ensures does { DoesWrite tag value tags.now result self.old self.new }
     {
-        if self.lends(tag) {
-            return Ok(self.write_lent(tags, tag, value));
+        if self.knows(tag) {
+            return Ok(self.write_known(tags, tag, value));
         }
-        self.check_unlent(tags, tag)?;
-        Ok(self.write_unlent(tags, tag, value))
+        self.check_unknown(tags, tag)?;
+        Ok(self.write_unknown(tags, tag, value))
     }
 
     /// Checks that the user holds a tag that it is not known to hold. It is out of line, so that other writes are short.
     #[inline(never)]
-    fn check_unlent(&self, tags: &Tags<R>, tag: u32) -> Result<(), TagFault>
+    fn check_unknown(&self, tags: &Tags<R>, tag: u32) -> Result<(), TagFault>
         requires { IsCacheOf tags.now self.now }
         ensures refusals { RefusesBy (tag_checks tags.now self.now tag) ⊤ result }
     {
@@ -63,7 +63,7 @@ impl<R: Copy> Cache<R> {
 
     /// Writes the slot of a tag that the user holds, and returns its former value.
     #[inline(never)]
-    fn write_unlent(&mut self, tags: &Tags<R>, tag: u32, value: R) -> R
+    fn write_unknown(&mut self, tags: &Tags<R>, tag: u32, value: R) -> R
         requires cache { IsCacheOf tags.now self.old }
         requires held { Holds self.old tag }
         ensures cache { IsCacheOf tags.now self.new }
@@ -86,8 +86,8 @@ impl<R: Copy> Cache<R> {
         ensures cache { IsCacheOf tags.now self.new }
         ensures does { DoesPost W.woken W.tells tag tags.now result self.old self.new }
     {
-        if self.lends(tag) {
-            return Ok(self.post_lent::<W>(tags, tag));
+        if self.knows(tag) {
+            return Ok(self.post_known::<W>(tags, tag));
         }
         self.post_other(tags, tag)?;
         Ok(W::nobody())
@@ -96,7 +96,7 @@ impl<R: Copy> Cache<R> {
     /// Gives up a tag that the user is not known to hold.
     fn post_other(&mut self, tags: &Tags<R>, tag: u32) -> Result<(), TagFault>
         requires cache { IsCacheOf tags.now self.old }
-        requires unlent { ¬ (IsLent self.old tag) }
+        requires unknown { ¬ (IsKnown self.old tag) }
         ensures cache { IsCacheOf tags.now self.new }
         ensures refusals { RefusesBy (tag_checks tags.now self.old tag) (IsUnchanged self.old self.new) result }
         ensures passes { OnOk result (Passes tag self.old self.new) }
@@ -112,9 +112,9 @@ impl<R: Copy> Cache<R> {
 
     /// Gives up a tag that the user is known to hold. If it is the last, all kept tags go back first, and whom they
     /// granted a wakeup is told before it leaves.
-    fn post_lent<W: Waking>(&mut self, tags: &Tags<R>, tag: u32) -> W::Answer
+    fn post_known<W: Waking>(&mut self, tags: &Tags<R>, tag: u32) -> W::Answer
         requires cache { IsCacheOf tags.now self.old }
-        requires lent { IsLent self.old tag }
+        requires known { IsKnown self.old tag }
         ensures cache { IsCacheOf tags.now self.new }
         ensures passes { Passes tag self.old self.new }
         ensures flushes { IsLast tag self.old → PostsLast tags.now tag (W.woken result) self.old self.new }
@@ -134,7 +134,7 @@ impl<R: Copy> Cache<R> {
     /// Gives up a tag that the user is known to hold, and no kept tag with it. If it is the last, none is kept.
     fn post_alone(&mut self, tags: &Tags<R>, tag: u32)
         requires cache { IsCacheOf tags.now self.old }
-        requires lent { IsLent self.old tag }
+        requires known { IsKnown self.old tag }
         requires other { KeepsNone self.old ⊎ ¬ (IsLast tag self.old) }
         ensures cache { IsCacheOf tags.now self.new }
         ensures passes { PassesAlone tag self.old self.new }

@@ -1,8 +1,8 @@
 //! The window: its place, and which of its tags the user is known to hold.
 ghost use Rattle.std.specs.Prelude.{◌≡◌, ◌≢◌, ◌⊎◌, ℕ, ◌+◌, ◌^◌, ◌<◌, ◌≤◌, ◌↔◌, IsTrue};
 ghost use Rattle.tag_cache.specs.Windows.{IsIn};
-ghost use Rattle.tag_cache.specs.Caches.{IsLent, IsWithin, IsFixed, IsLast, KeepsNone, LeavesWindow, Holds, split_of};
-ghost use Rattle.tag_cache.specs.Changes.{SameHand, Lends, Forgets};
+ghost use Rattle.tag_cache.specs.Caches.{IsKnown, IsWithin, IsFixed, IsLast, KeepsNone, LeavesWindow, Holds, split_of};
+ghost use Rattle.tag_cache.specs.Changes.{SameHand, Learns, Forgets};
 
 use crate::cache::{Cache, WINDOW};
 use crate::keeping::Keeping;
@@ -19,26 +19,26 @@ impl<R> Cache<R> {
 
     /// Returns whether the user is known to hold the tag, which is then an ordinary one.
     #[inline(always)]
-    pub(crate) fn lends(&self, tag: u32) -> bool
-        ensures { IsTrue result ↔ IsLent self.now tag }
+    pub(crate) fn knows(&self, tag: u32) -> bool
+        ensures { IsTrue result ↔ IsKnown self.now tag }
     {
         let offset = self.offset(tag);
         if offset >= WINDOW {
             return false;
         }
-        self.lent >> offset & 1 == 1
+        self.known >> offset & 1 == 1
     }
 
     /// Returns the mask of the tags that the user is known to hold, without this one.
     #[inline(always)]
-    pub(crate) fn lent_without(&self, tag: u32) -> u64
-        ensures { (other : ℕ) → IsIn self.now.first result other ↔ (IsLent self.now other × other ≢ tag) }
+    pub(crate) fn known_without(&self, tag: u32) -> u64
+        ensures { (other : ℕ) → IsIn self.now.first result other ↔ (IsKnown self.now other × other ≢ tag) }
     {
         let offset = self.offset(tag);
         if offset >= WINDOW {
-            return self.lent;
+            return self.known;
         }
-        self.lent & !(1 << offset)
+        self.known & !(1 << offset)
     }
 
     /// Returns whether nothing may be kept any more once this tag is cleared or posted: the user is known to hold no
@@ -49,7 +49,7 @@ impl<R> Cache<R> {
     {
         match self.keeping {
             Keeping::Always => false,
-            Keeping::WhileHolding => self.lent_without(tag) == 0,
+            Keeping::WhileHolding => self.known_without(tag) == 0,
         }
     }
 
@@ -59,7 +59,7 @@ impl<R> Cache<R> {
         requires { KeepsNone self.old ⊎ ¬ (IsLast tag self.old) }
         ensures { Forgets tag self.old self.new }
     {
-        self.lent = self.lent_without(tag);
+        self.known = self.known_without(tag);
     }
 
     /// Moves the window to the tag if nothing is kept and the tag is outside. What the user holds in the former window is
@@ -70,7 +70,7 @@ impl<R> Cache<R> {
         ensures aimed { IsWithin self.new tag ⊎ ((self.new ≡ self.old) × ¬ (KeepsNone self.old)) }
         ensures moved { KeepsNone self.old ⊎ (self.new ≡ self.old) }
         ensures still { (KeepsNone self.old → IsWithin self.old tag) → self.new ≡ self.old }
-        ensures loans { (other : ℕ) → IsLent self.new other → IsLent self.old other }
+        ensures knows { (other : ℕ) → IsKnown self.new other → IsKnown self.old other }
     {
         if self.kept != 0 {
             return;
@@ -79,7 +79,7 @@ impl<R> Cache<R> {
             return;
         }
         self.first = tag / WINDOW * WINDOW;
-        self.lent = 0;
+        self.known = 0;
     }
 
     /// Moves the window to a tag that is cleared as `aim` does, unless tags are kept only while the user is known to hold
@@ -98,13 +98,13 @@ impl<R> Cache<R> {
     }
 
     /// Says that the user holds an ordinary tag, where nothing is kept. The window moves there first.
-    pub(crate) fn lend(&mut self, tag: u32)
+    pub(crate) fn learn(&mut self, tag: u32)
         requires held { Holds self.old tag }
         requires ordinary { split_of self.old ≤ tag }
         requires low { tag < 2 ^ 31 }
         requires none { KeepsNone self.old }
         ensures same { SameHand self.old self.new }
-        ensures lends { Lends tag self.old self.new }
+        ensures learns { Learns tag self.old self.new }
     {
         self.aim(tag);
         self.note(tag);
@@ -115,12 +115,12 @@ impl<R> Cache<R> {
         requires held { Holds self.old tag }
         requires ordinary { split_of self.old ≤ tag }
         ensures same { SameHand self.old self.new }
-        ensures lends { IsWithin self.old tag → Lends tag self.old self.new }
+        ensures learns { IsWithin self.old tag → Learns tag self.old self.new }
     {
         let offset = self.offset(tag);
         if offset >= WINDOW {
             return;
         }
-        self.lent |= 1 << offset;
+        self.known |= 1 << offset;
     }
 }

@@ -113,12 +113,6 @@ pub some_tag : (first mask : ℕ) → mask < 2 ^ 64 → mask ≢ 0 → (t : ℕ)
 some_tag first mask fits some = let low = bit_at-trailing_zeros w64 mask (omega arith) fits in
     let k : ℕ = trailing_zeros w64 mask in (first + k, omega arith, bit_plus first mask k ∙ low.1)
 
--- and otherwise it has none
-pub none_in_zero : (first mask : ℕ) → mask < 2 ^ 64 → mask ≡ 0 → (P : ℕ → Type 0) → All P (tags_in first mask)
-none_in_zero first mask fits zero P = all_in first mask fits P (λ t one. let p = place_one first mask t one in
-    let none = ap (λ (m : ℕ). bit_at m (t - first)) zero ∙ bit_at-zero (t - first) in
-    let b = p.1 in absurd (omega arith))
-
 -- it has 1 to 64 bits
 pub few_ones : (mask : ℕ) → mask < 2 ^ 64 → 1 ≤ mask → (1 ≤ count_ones mask) × (count_ones mask ≤ 64)
 few_ones mask fits some = (

@@ -9,8 +9,8 @@ pub invariant_of-self-clause-own : goal.invariant_of-self-clause-own
 invariant_of-self-clause-own g c = λ other i.
     absurd (none_in (c.args.tag / 64 * 64) c.args.self.now.kept other c.if-self-ne0.false i)
 
-pub invariant_of-self-clause-loans : goal.invariant_of-self-clause-loans
-invariant_of-self-clause-loans g c = λ other i. absurd (none_in (c.args.tag / 64 * 64) 0 other refl i)
+pub invariant_of-self-clause-knows : goal.invariant_of-self-clause-knows
+invariant_of-self-clause-knows g c = λ other i. absurd (none_in (c.args.tag / 64 * 64) 0 other refl i)
 
 pub invariant_of-self-clause-apart : goal.invariant_of-self-clause-apart
 invariant_of-self-clause-apart g c = λ other k i. none_in (c.args.tag / 64 * 64) 0 other refl i
@@ -44,5 +44,5 @@ returns g c = let cache = c.args.self.now in let first : ℕ = c.args.tag / 64 *
       moved = inl none;
       still = λ within. let far = c.if-offset-lt-WINDOW.false in
           let near = c.offset.ensures.within.1 (within none) in absurd (omega arith);
-      loans = λ other l. absurd (none_in first 0 other refl l);
+      knows = λ other l. absurd (none_in first 0 other refl l);
     }

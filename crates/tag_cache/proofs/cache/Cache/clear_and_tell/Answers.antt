@@ -1,7 +1,7 @@
 -- Telling makes no step, so all is as after the clear.
 use Rattle.std.proofs.Common.{rules, ◌≡◌, ℕ, sym, subst}
 use Rattle.tag_cache.specs.Clears.{Goes}
-use Rattle.tag_cache.proofs.Looking.{lends_less_then_same}
+use Rattle.tag_cache.proofs.Looking.{knows_less_then_same}
 use Rattle.tag_cache.proofs.Told.{less_same, goes_told}
 use Rattle.tag_cache.proofs.Tallying.{tallies_on}
 use Rattle.tag_cache.proofs.cache.Cache.clear_and_tell.Goals as goal
@@ -16,6 +16,6 @@ returns-clause-does g c = let old = c.args.self.now in let mid = c.clear_and_rep
           (goes_told c.in_ok-grants.grants.woken mid new (record { none = t.none; hand = t.hand; same = t.same })
           c.args.tags.now old tag c.clear_and_report.ensures.cache e.way);
       tells = t.tells old.hand e.grants;
-      loans = λ leaves. lends_less_then_same tag old mid new (e.loans leaves) t.same.window.loans;
+      knows = λ leaves. knows_less_then_same tag old mid new (e.knows leaves) t.same.window.knows;
       tally = tallies_on 0 1 old mid new e.tally t.same.tally;
     }

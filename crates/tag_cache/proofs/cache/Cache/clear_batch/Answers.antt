@@ -16,7 +16,7 @@ returns-in_err-check_batch-clause-does g c = let list = c.args.list.now in let c
   less = search rules;
   way = search rules;
   tells = search rules;
-  loans = search rules;
+  knows = search rules;
   tally = search rules;
 }
 
@@ -34,7 +34,7 @@ returns-then-not-keeps_none_of-clause-does g c = let list = c.args.list.now in l
       less = search rules;
       way = search rules;
       tells = search rules;
-      loans = search rules;
+      knows = search rules;
       tally = search rules;
     }
 
@@ -56,6 +56,6 @@ returns-clause-does g c = let list = c.args.list.now in let cache = c.args.self.
       less = list_less c.args.tags.now list _ cache new e.way;
       way = e.way;
       tells = e.tells;
-      loans = e.loans;
+      knows = e.knows;
       tally = list_tallies c.args.tags.now list _ cache new e.way;
     }

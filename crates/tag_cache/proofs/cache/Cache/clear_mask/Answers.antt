@@ -19,7 +19,7 @@ returns-in_err-check_mask-clause-does g c = let list = tags_in c.args.first c.ar
       less = search rules;
       way = search rules;
       tells = search rules;
-      loans = search rules;
+      knows = search rules;
       tally = search rules;
     }
 
@@ -31,7 +31,7 @@ returns-clause-does g c = let tags = c.args.tags.now in let old = c.args.self.no
       less = list_less tags list _ old new e.way;
       way = e.way;
       tells = e.tells;
-      loans = e.loans;
+      knows = e.knows;
       tally = subst (λ (n : ℕ). Tallies 0 n old new) (tags_in-length c.args.first c.args.mask c.ranges.mask.fits)
           (list_tallies tags list _ old new e.way);
     }

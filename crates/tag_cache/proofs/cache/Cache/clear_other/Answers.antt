@@ -2,7 +2,7 @@
 use Rattle.std.proofs.Common.{inl, inr, sym, ◌∙◌}
 use Rattle.tag_sets.specs.Hands.{reserved_of}
 use Rattle.tag_sets.proofs.Numbering.{ordinary_at, reserved_at}
-use Rattle.tag_cache.proofs.Looking.{unlent_less}
+use Rattle.tag_cache.proofs.Looking.{unknown_less}
 use Rattle.tag_cache.proofs.cache.Cache.clear_other.Goals as goal
 
 pub returns-in-Ordinary-clause-way : goal.returns-in-Ordinary-clause-way
@@ -11,8 +11,8 @@ returns-in-Ordinary-clause-way g c = inl (
   c.keep_or_give_back_other.ensures.way,
 )
 
-pub returns-in-Ordinary-clause-loans : goal.returns-in-Ordinary-clause-loans
-returns-in-Ordinary-clause-loans g c = c.keep_or_give_back_other.ensures.loans
+pub returns-in-Ordinary-clause-knows : goal.returns-in-Ordinary-clause-knows
+returns-in-Ordinary-clause-knows g c = c.keep_or_give_back_other.ensures.knows
 
 pub returns-in-Reserved-clause-way : goal.returns-in-Reserved-clause-way
 returns-in-Reserved-clause-way g c = inr (record {
@@ -22,6 +22,6 @@ returns-in-Reserved-clause-way g c = inr (record {
   kept = c.give_back.ensures.kept;
 })
 
-pub returns-in-Reserved-clause-loans : goal.returns-in-Reserved-clause-loans
-returns-in-Reserved-clause-loans g c = λ leaves. unlent_less c.args.tag c.args.self.now c.give_back.new.self
-    c.requires.unlent c.give_back.ensures.window.loans
+pub returns-in-Reserved-clause-knows : goal.returns-in-Reserved-clause-knows
+returns-in-Reserved-clause-knows g c = λ leaves. unknown_less c.args.tag c.args.self.now c.give_back.new.self
+    c.requires.unknown c.give_back.ensures.window.knows

@@ -1,4 +1,4 @@
--- Under the option some tag is lent if any is kept.
+-- Under the option some tag is known if any is kept.
 use Rattle.tag_cache.proofs.Reusing.{keeps_with_care}
 use Rattle.tag_cache.proofs.cache.Cache.count.Goals as goal
 

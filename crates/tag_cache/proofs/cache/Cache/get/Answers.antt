@@ -14,7 +14,7 @@ returns-then-keeps_none g c = let win = c.win in let none = c.keeps_none.ensures
       cache = search rules;
       refusals = search rules;
       gets = after.gets;
-      loans = search rules;
+      knows = search rules;
       tally = after.tally;
     }
 

@@ -13,7 +13,7 @@ returns-then-keeps_none g c = let wait = c.wait_for in let none = c.keeps_none.e
       more = waited.more;
       ordinary = search rules;
       waits = waited.waits;
-      loans = search rules;
+      knows = search rules;
       tally = waited.tally;
     }
 

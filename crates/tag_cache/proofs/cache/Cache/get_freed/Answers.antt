@@ -14,7 +14,7 @@ returns-then-keeps_none-clause-does g c = let won = c.win_freed in
       refusals = search rules;
       gets = after.gets;
       left = search rules;
-      loans = search rules;
+      knows = search rules;
       tally = after.tally;
     }
 
@@ -24,6 +24,6 @@ returns-clause-does g c = let cache = c.args.self.now in let reuse = c.reuse in 
   gets = gets_kept (hand_gets.Gets c.args.tags.now (Some reuse.result)) c.args.tags.now cache reuse.new.self
       reuse.result c.requires reuse.ensures;
   left = search rules;
-  loans = search rules;
+  knows = search rules;
   tally = search rules;
 }

@@ -2,7 +2,7 @@
 use Rattle.std.proofs.Common.{◌∙◌, inl}
 use Rattle.tag_sets.specs.Hands.{group_steps}
 use Rattle.tag_cache.proofs.Giving.{flushed}
-use Rattle.tag_cache.proofs.Looking.{same_loans, same_then_lends_less}
+use Rattle.tag_cache.proofs.Looking.{same_known, same_then_knows_less}
 use Rattle.tag_cache.proofs.cache.Cache.give_back_all.Goals as goal
 
 pub give_back_alone-later-requires-clause-held : goal.give_back_alone-later-requires-clause-held
@@ -44,7 +44,7 @@ returns-clause-terms g c = record {
   keeping = c.give_back_alone-later.ensures.kept.terms.keeping ∙ c.give_back_kept-sooner.ensures.terms.keeping;
 }
 
-pub returns-clause-loans : goal.returns-clause-loans
-returns-clause-loans g c = let w = c.give_back_kept-sooner.ensures.window in
-    same_then_lends_less c.args.tag c.args.self.now c.give_back_kept-sooner.new.self c.give_back_alone-later.new.self
-    (same_loans c.args.self.now c.give_back_kept-sooner.new.self w.0 w.1) c.give_back_alone-later.ensures.loans
+pub returns-clause-knows : goal.returns-clause-knows
+returns-clause-knows g c = let w = c.give_back_kept-sooner.ensures.window in
+    same_then_knows_less c.args.tag c.args.self.now c.give_back_kept-sooner.new.self c.give_back_alone-later.new.self
+    (same_known c.args.self.now c.give_back_kept-sooner.new.self w.0 w.1) c.give_back_alone-later.ensures.knows

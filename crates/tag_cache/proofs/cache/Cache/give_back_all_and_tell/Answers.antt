@@ -2,7 +2,7 @@
 use Rattle.std.proofs.Common.{ℕ, ◌≤◌, sym, subst}
 use Rattle.tag_queue.proofs.Granted.{granted_since}
 use Rattle.tag_cache.specs.Clears.{GivesWith}
-use Rattle.tag_cache.proofs.Looking.{lends_less_then_same}
+use Rattle.tag_cache.proofs.Looking.{knows_less_then_same}
 use Rattle.tag_cache.proofs.Told.{with_told, none_still}
 use Rattle.tag_cache.proofs.cache.Cache.give_back_all_and_tell.Goals as goal
 
@@ -18,9 +18,9 @@ pub returns-clause-tells : goal.returns-clause-tells
 returns-clause-tells g c = λ before none. c.tell.ensures.tells before
     (granted_since c.give_back_all-grants.result _ _ _ none c.give_back_all-grants.ensures.grants)
 
-pub returns-clause-loans : goal.returns-clause-loans
-returns-clause-loans g c = lends_less_then_same c.args.tag c.args.self.now c.give_back_all-grants.new.self
-    c.tell.new.self c.give_back_all-grants.ensures.loans c.tell.ensures.same.window.loans
+pub returns-clause-knows : goal.returns-clause-knows
+returns-clause-knows g c = knows_less_then_same c.args.tag c.args.self.now c.give_back_all-grants.new.self
+    c.tell.new.self c.give_back_all-grants.ensures.knows c.tell.ensures.same.window.knows
 
 pub returns-clause-none : goal.returns-clause-none
 returns-clause-none g c = none_still c.give_back_all-grants.result.woken c.give_back_all-grants.new.self c.tell.new.self

@@ -28,10 +28,10 @@ clear_mask_held-requires-clause-ordinary g c = kept_ordinary c.args.self.now c.a
 pub clear_mask_held-requires-clause-held : goal.clear_mask_held-requires-clause-held
 clear_mask_held-requires-clause-held g c = kept_held c.args.self.now
 
-pub invariant_of-self-clause-loans : goal.invariant_of-self-clause-loans
-invariant_of-self-clause-loans g c = let cache = c.args.self.now in let e = c.clear_mask_held.ensures in
-    own_after c.args.tags.now cache.first cache.lent cache.hand c.clear_mask_held.new.hand c.requires e.hand
-    cache.loans (λ other h i. (e.gives.less.kept other
+pub invariant_of-self-clause-knows : goal.invariant_of-self-clause-knows
+invariant_of-self-clause-knows g c = let cache = c.args.self.now in let e = c.clear_mask_held.ensures in
+    own_after c.args.tags.now cache.first cache.known cache.hand c.clear_mask_held.new.hand c.requires e.hand
+    cache.knows (λ other h i. (e.gives.less.kept other
     (λ k. cache.apart other ((kept_in c.args.tags.now cache other).0 k) i) h).0)
 
 pub invariant_of-self-clause-apart : goal.invariant_of-self-clause-apart

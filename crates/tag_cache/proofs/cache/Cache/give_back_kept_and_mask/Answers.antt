@@ -18,11 +18,11 @@ clear_mask_held-later-requires-clause-held g c = let e = c.leave-sooner.ensures 
 pub invariant_of-self-clause-own : goal.invariant_of-self-clause-own
 invariant_of-self-clause-own g c = λ other i. absurd (c.leave-sooner.ensures.none other i)
 
-pub invariant_of-self-clause-loans : goal.invariant_of-self-clause-loans
-invariant_of-self-clause-loans g c = let mid = c.leave-sooner.new.self in let e = c.clear_mask_held-later.ensures in
-    own_after c.args.tags.now mid.first mid.lent mid.hand c.clear_mask_held-later.new.hand
-    c.leave-sooner.ensures.cache e.hand mid.loans (λ other h i. (e.gives.less.kept other
-    (λ inside. ((c.requires.left other).0 ((c.leave-sooner.ensures.loans other).0 i)).1 inside) h).0)
+pub invariant_of-self-clause-knows : goal.invariant_of-self-clause-knows
+invariant_of-self-clause-knows g c = let mid = c.leave-sooner.new.self in let e = c.clear_mask_held-later.ensures in
+    own_after c.args.tags.now mid.first mid.known mid.hand c.clear_mask_held-later.new.hand
+    c.leave-sooner.ensures.cache e.hand mid.knows (λ other h i. (e.gives.less.kept other
+    (λ inside. ((c.requires.left other).0 ((c.leave-sooner.ensures.knows other).0 i)).1 inside) h).0)
 
 pub both-requires-clause-few : goal.both-requires-clause-few
 both-requires-clause-few g c = let e = c.clear_mask_held-later.ensures in
@@ -49,8 +49,8 @@ returns-clause-tells g c = λ before none. c.tell.ensures.tells before (granted_
     (group_steps c.leave-sooner.new.self.hand) (group_steps c.clear_mask_held-later.new.hand)
     c.leave-sooner.ensures.grants c.clear_mask_held-later.ensures.tells))
 
-pub returns-clause-loans : goal.returns-clause-loans
-returns-clause-loans g c = let told = c.tell.ensures.same.window.loans in λ other. (
-  (λ l. (c.requires.left other).0 ((c.leave-sooner.ensures.loans other).0 ((told other).0 l))),
-  (λ l. (told other).1 ((c.leave-sooner.ensures.loans other).1 ((c.requires.left other).1 l))),
+pub returns-clause-knows : goal.returns-clause-knows
+returns-clause-knows g c = let told = c.tell.ensures.same.window.knows in λ other. (
+  (λ l. (c.requires.left other).0 ((c.leave-sooner.ensures.knows other).0 ((told other).0 l))),
+  (λ l. (told other).1 ((c.leave-sooner.ensures.knows other).1 ((c.requires.left other).1 l))),
 )

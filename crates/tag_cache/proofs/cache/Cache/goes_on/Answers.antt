@@ -10,7 +10,7 @@ returns-then-active-ne0-clause-ends g c = λ no. record {
   found = c.active.result;
   looked = record { looks = c.active.ensures.looks; counts = c.active.ensures.counts; stays = c.active.ensures.same };
   why = inl (omega arith);
-  fields = record { first = refl; kept = refl; lent = refl; most = refl; keeping = refl; reused = refl };
+  fields = record { first = refl; kept = refl; known = refl; most = refl; keeping = refl; reused = refl };
 }
 
 pub returns-then-leaves_none-clause-ends : goal.returns-then-leaves_none-clause-ends
@@ -18,7 +18,7 @@ returns-then-leaves_none-clause-ends g c = λ no. record {
   found = c.active.result;
   looked = record { looks = c.active.ensures.looks; counts = c.active.ensures.counts; stays = c.active.ensures.same };
   why = inr (c.leaves_none.ensures.0 c.if-leaves_none.true);
-  fields = record { first = refl; kept = refl; lent = refl; most = refl; keeping = refl; reused = refl };
+  fields = record { first = refl; kept = refl; known = refl; most = refl; keeping = refl; reused = refl };
 }
 
 pub returns-clause-on : goal.returns-clause-on
@@ -28,5 +28,5 @@ returns-clause-on g c = let zero : c.active.result ≡ 0 = omega arith in λ yes
   looked = found_none c.args.tags.now c.active.result c.args.self.now.hand c.active.new.hand zero
       (record { looks = c.active.ensures.looks; counts = c.active.ensures.counts; stays = c.active.ensures.same });
   kept = same_fields c.args.self.now _ refl refl refl refl refl;
-  loans = λ other. ((λ l. l), (λ l. l));
+  knows = λ other. ((λ l. l), (λ l. l));
 }

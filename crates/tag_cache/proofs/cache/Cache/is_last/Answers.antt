@@ -11,9 +11,9 @@ returns-in-Always g c = let is = c.in-Always.is in (
 )
 
 pub returns-in-WhileHolding : goal.returns-in-WhileHolding
-returns-in-WhileHolding g c = let cache = c.args.self.now in let rest = c.lent_without.result in
-    let zero = none_else cache.first cache.lent rest c.args.tag
-    c.lent_without.type_inv c.lent_without.ensures in (
+returns-in-WhileHolding g c = let cache = c.args.self.now in let rest = c.known_without.result in
+    let zero = none_else cache.first cache.known rest c.args.tag
+    c.known_without.type_inv c.known_without.ensures in (
       (λ t. (c.in-WhileHolding.is, zero.0 (eqb-true rest 0 t))),
       (λ l. eq-eqb rest 0 (zero.1 l.1)),
     )

@@ -4,7 +4,7 @@ use Rattle.wake_book.specs.Grants.{AreGrantsOf}
 use Rattle.tag_sets.specs.Hands.{group_steps}
 use Rattle.tag_cache.specs.declared.cache.Cache.{Cache}
 use Rattle.tag_cache.specs.Caches.{hand_of, IsLast, LeavesWindow}
-use Rattle.tag_cache.specs.Changes.{LendsLess}
+use Rattle.tag_cache.specs.Changes.{KnowsLess}
 use Rattle.tag_cache.proofs.Carrying.{not_true}
 use Rattle.tag_cache.proofs.Going.{found_none}
 use Rattle.tag_cache.proofs.Granting.{after_look}
@@ -17,17 +17,17 @@ invariant_of-self-clause-own g c = let cache = c.args.self.now in
     own_rests c.args.tags.now cache.first cache.kept cache.hand c.active.new.hand c.requires.cache c.active.ensures.hand
     cache.own (stays_rests cache.hand c.active.new.hand c.active.ensures.same)
 
-pub invariant_of-self-clause-loans : goal.invariant_of-self-clause-loans
-invariant_of-self-clause-loans g c = let cache = c.args.self.now in
-    own_rests c.args.tags.now cache.first cache.lent cache.hand c.active.new.hand c.requires.cache c.active.ensures.hand
-    cache.loans (stays_rests cache.hand c.active.new.hand c.active.ensures.same)
+pub invariant_of-self-clause-knows : goal.invariant_of-self-clause-knows
+invariant_of-self-clause-knows g c = let cache = c.args.self.now in
+    own_rests c.args.tags.now cache.first cache.known cache.hand c.active.new.hand c.requires.cache c.active.ensures.hand
+    cache.knows (stays_rests cache.hand c.active.new.hand c.active.ensures.same)
 
 pub returns-then-active-ne0-clause-way : goal.returns-then-active-ne0-clause-way
 returns-then-active-ne0-clause-way g c = inr (inr (inr (inl (record {
   found = c.active.result;
   some = omega arith;
   gives = goes_with_kept c.args.tags.now c.args.tag c.args.self.now _
-      (record { first = refl; kept = refl; lent = refl; most = refl; keeping = refl; reused = refl })
+      (record { first = refl; kept = refl; known = refl; most = refl; keeping = refl; reused = refl })
       c.active.result c.give_back_all.result.woken c.give_back_all.new.self
       (record { looks = c.active.ensures.looks; counts = c.active.ensures.counts; stays = c.active.ensures.same })
       c.give_back_all.ensures.gives c.give_back_all.ensures.none c.give_back_all.ensures.terms
@@ -42,7 +42,7 @@ pub returns-then-is_last-clause-way : goal.returns-then-is_last-clause-way
 returns-then-is_last-clause-way g c = let zero : c.active.result ≡ 0 = omega arith in inr (inr (inr (inr (record {
   last = c.is_last.ensures.0 c.if-is_last.true;
   gives = goes_with_kept c.args.tags.now c.args.tag c.args.self.now _
-      (record { first = refl; kept = refl; lent = refl; most = refl; keeping = refl; reused = refl })
+      (record { first = refl; kept = refl; known = refl; most = refl; keeping = refl; reused = refl })
       0 c.give_back_all-then-is_last.result.woken c.give_back_all-then-is_last.new.self
       (found_none c.args.tags.now c.active.result c.args.self.now.hand c.active.new.hand zero
       (record { looks = c.active.ensures.looks; counts = c.active.ensures.counts; stays = c.active.ensures.same }))
@@ -58,7 +58,7 @@ returns-then-is_last-clause-grants g c = after_look c.give_back_all-then-is_last
 pub returns-then-keep-clause-way : goal.returns-then-keep-clause-way
 returns-then-keep-clause-way g c = let zero : c.active.result ≡ 0 = omega arith in inl (kept_unseen c.args.tags.now
     c.args.tag c.args.self.now _
-    (record { first = refl; kept = refl; lent = refl; most = refl; keeping = refl; reused = refl })
+    (record { first = refl; kept = refl; known = refl; most = refl; keeping = refl; reused = refl })
     0 c.keep.new.self refl (found_none c.args.tags.now c.active.result c.args.self.now.hand c.active.new.hand zero
     (record { looks = c.active.ensures.looks; counts = c.active.ensures.counts; stays = c.active.ensures.same }))
     c.if-keep.ensures.1 c.if-keep.ensures.2 c.if-keep.ensures.0)
@@ -66,7 +66,7 @@ returns-then-keep-clause-way g c = let zero : c.active.result ≡ 0 = omega arit
 pub returns-clause-way : goal.returns-clause-way
 returns-clause-way g c = let zero : c.active.result ≡ 0 = omega arith in inr (⊎_elim (λ i. inl i) (λ a. inr (inl a))
     (room_goes c.args.tags.now c.args.tag c.args.self.now _
-    (record { first = refl; kept = refl; lent = refl; most = refl; keeping = refl; reused = refl })
+    (record { first = refl; kept = refl; known = refl; most = refl; keeping = refl; reused = refl })
     c.make_room.result.woken c.keep.new.self c.make_room.new.self
     (found_none c.args.tags.now c.active.result c.args.self.now.hand c.active.new.hand zero
     (record { looks = c.active.ensures.looks; counts = c.active.ensures.counts; stays = c.active.ensures.same }))
@@ -83,16 +83,16 @@ make_room-requires-clause-other g c = λ last. not_true c.is_last.result (IsLast
     c.is_last.ensures c.if-is_last.false
     (subst (λ (x : Cache g.row.R.Denot). IsLast c.args.tag x) c.if-keep.ensures.0 last)
 
-pub returns-then-active-ne0-clause-loans : goal.returns-then-active-ne0-clause-loans
-returns-then-active-ne0-clause-loans g c = λ leaves. c.give_back_all.ensures.loans
+pub returns-then-active-ne0-clause-knows : goal.returns-then-active-ne0-clause-knows
+returns-then-active-ne0-clause-knows g c = λ leaves. c.give_back_all.ensures.knows
 
-pub returns-then-is_last-clause-loans : goal.returns-then-is_last-clause-loans
-returns-then-is_last-clause-loans g c = λ leaves. c.give_back_all-then-is_last.ensures.loans
+pub returns-then-is_last-clause-knows : goal.returns-then-is_last-clause-knows
+returns-then-is_last-clause-knows g c = λ leaves. c.give_back_all-then-is_last.ensures.knows
 
-pub returns-then-keep-clause-loans : goal.returns-then-keep-clause-loans
-returns-then-keep-clause-loans g c = λ leaves. c.if-keep.ensures.0.loans
+pub returns-then-keep-clause-knows : goal.returns-then-keep-clause-knows
+returns-then-keep-clause-knows g c = λ leaves. c.if-keep.ensures.0.knows
 
-pub returns-clause-loans : goal.returns-clause-loans
-returns-clause-loans g c = λ leaves. let e = c.if-keep.ensures.0 in
-    subst (λ (x : Cache g.row.R.Denot). LendsLess c.args.tag x c.make_room.new.self) e
-    (c.make_room.ensures.loans (subst (λ (x : Cache g.row.R.Denot). LeavesWindow c.args.tag x) (sym e) leaves))
+pub returns-clause-knows : goal.returns-clause-knows
+returns-clause-knows g c = λ leaves. let e = c.if-keep.ensures.0 in
+    subst (λ (x : Cache g.row.R.Denot). KnowsLess c.args.tag x c.make_room.new.self) e
+    (c.make_room.ensures.knows (subst (λ (x : Cache g.row.R.Denot). LeavesWindow c.args.tag x) (sym e) leaves))

@@ -4,7 +4,7 @@ use Rattle.tag_sets.specs.declared.hand.Hand.{Hand}
 use Rattle.tag_sets.specs.Hands as hands
 use Rattle.tag_cache.specs.declared.cache.Cache.{Cache}
 use Rattle.tag_cache.specs.Caches.{IsFixed, LeavesWindow}
-use Rattle.tag_cache.specs.Changes.{LendsLess}
+use Rattle.tag_cache.specs.Changes.{KnowsLess}
 use Rattle.tag_cache.proofs.Granting.{before_same}
 use Rattle.tag_cache.proofs.Reusing.{held_still}
 use Rattle.tag_cache.proofs.Moving.{goes_from}
@@ -35,7 +35,7 @@ pub keep_or_give_back-requires-clause-aimed : goal.keep_or_give_back-requires-cl
 keep_or_give_back-requires-clause-aimed g c = ⊎_elim (λ w. inl w)
     (λ e. inr (subst (λ (x : Cache g.row.R.Denot). IsFixed x) (sym e.0) e.1)) c.follow.ensures.aimed
 
-pub returns-clause-loans : goal.returns-clause-loans
-returns-clause-loans g c = λ leaves. let e = c.follow.ensures.still leaves in
-    subst (λ (x : Cache g.row.R.Denot). LendsLess c.args.tag x c.keep_or_give_back.new.self) e
-    (c.keep_or_give_back.ensures.loans (subst (λ (x : Cache g.row.R.Denot). LeavesWindow c.args.tag x) (sym e) leaves))
+pub returns-clause-knows : goal.returns-clause-knows
+returns-clause-knows g c = λ leaves. let e = c.follow.ensures.still leaves in
+    subst (λ (x : Cache g.row.R.Denot). KnowsLess c.args.tag x c.keep_or_give_back.new.self) e
+    (c.keep_or_give_back.ensures.knows (subst (λ (x : Cache g.row.R.Denot). LeavesWindow c.args.tag x) (sym e) leaves))

@@ -1,14 +1,14 @@
--- Nothing is kept any more, so any of the tags that were lent may be said to be.
+-- Nothing is kept any more, so any of the tags that were known may be said to be.
 use Rattle.std.proofs.Common.{arith, ℕ, subst}
 use Rattle.tag_cache.specs.Windows.{IsIn}
-use Rattle.tag_cache.proofs.Looking.{same_loans}
+use Rattle.tag_cache.proofs.Looking.{same_known}
 use Rattle.tag_cache.proofs.Reusing.{none_kept}
 use Rattle.tag_cache.proofs.cache.Cache.leave.Goals as goal
 
-pub invariant_of-self-clause-loans : goal.invariant_of-self-clause-loans
-invariant_of-self-clause-loans g c = let new = c.give_back_kept-grants.new.self in
-    let w = c.give_back_kept-grants.ensures.window in λ other i. new.loans other
-    ((same_loans c.args.self.now new w.0 w.1 other).1
+pub invariant_of-self-clause-knows : goal.invariant_of-self-clause-knows
+invariant_of-self-clause-knows g c = let new = c.give_back_kept-grants.new.self in
+    let w = c.give_back_kept-grants.ensures.window in λ other i. new.knows other
+    ((same_known c.args.self.now new w.0 w.1 other).1
     (c.requires.left other (subst (λ (f : ℕ). IsIn f c.args.left other) w.0 i)))
 
 pub invariant_of-self-clause-apart : goal.invariant_of-self-clause-apart

@@ -6,7 +6,7 @@ use Rattle.wake_book.specs.Grants.{AreGrantsOf}
 use Rattle.tag_cache.specs.Clears.{GivesKept}
 use Rattle.tag_cache.proofs.Cautious.{can_still, last_back, only_back}
 use Rattle.tag_cache.proofs.Giving.{flushed}
-use Rattle.tag_cache.proofs.Looking.{same_loans, same_then_lends_less}
+use Rattle.tag_cache.proofs.Looking.{same_known, same_then_knows_less}
 use Rattle.tag_cache.proofs.cache.Cache.make_room.Goals as goal
 
 pub returns-then-not-can_keep-clause-way : goal.returns-then-not-can_keep-clause-way
@@ -48,13 +48,13 @@ returns-clause-grants g c = subst (λ (h : Hand g.row.R.Denot). AreGrantsOf c.gi
     (group_steps c.args.self.now.hand) (group_steps h)) (sym c.keep_first.ensures.hand)
     c.give_back_kept-grants.ensures.grants
 
-pub returns-then-not-can_keep-clause-loans : goal.returns-then-not-can_keep-clause-loans
-returns-then-not-can_keep-clause-loans g c = λ leaves. c.give_back_alone.ensures.loans
+pub returns-then-not-can_keep-clause-knows : goal.returns-then-not-can_keep-clause-knows
+returns-then-not-can_keep-clause-knows g c = λ leaves. c.give_back_alone.ensures.knows
 
-pub returns-clause-loans : goal.returns-clause-loans
-returns-clause-loans g c = λ leaves. let e = c.give_back_kept-grants.ensures in let first = e.window.0 in
-    same_then_lends_less c.args.tag c.args.self.now c.give_back_kept-grants.new.self c.keep_first.new.self
-    (same_loans c.args.self.now c.give_back_kept-grants.new.self e.window.0 e.window.1)
-    (c.keep_first.ensures.loans (⊎_elim
+pub returns-clause-knows : goal.returns-clause-knows
+returns-clause-knows g c = λ leaves. let e = c.give_back_kept-grants.ensures in let first = e.window.0 in
+    same_then_knows_less c.args.tag c.args.self.now c.give_back_kept-grants.new.self c.keep_first.new.self
+    (same_known c.args.self.now c.give_back_kept-grants.new.self e.window.0 e.window.1)
+    (c.keep_first.ensures.knows (⊎_elim
     (λ within. let low = within.0 in let high = within.1 in inl (omega arith, omega arith))
     (λ careful. inr (e.terms.keeping ∙ careful)) leaves))

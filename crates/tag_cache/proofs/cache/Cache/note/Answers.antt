@@ -1,4 +1,4 @@
--- The tag's bit joins the mask of lent tags.
+-- The tag's bit joins the mask of known tags.
 use Rattle.std.proofs.Common.{arith, ◌≡◌, ◌≤◌, ◌-◌, ℕ, sym, subst, ⊎_elim}
 use Rattle.tag_sets.specs.Hands as hands
 use Rattle.tag_cache.specs.Windows.{IsIn}
@@ -12,31 +12,31 @@ invariant_of-self g c = let cache = c.args.self.now in let tag = c.args.tag in
     let is = c.offset-offset.ensures.offset low in let above : cache.first ≤ tag = omega arith in
     let same : tag - cache.first ≡ at = omega arith in record {
       own = cache.own;
-      loans = λ other l. ⊎_elim (λ (o : IsIn cache.first cache.lent other). cache.loans other o)
+      knows = λ other l. ⊎_elim (λ (o : IsIn cache.first cache.known other). cache.knows other o)
           (λ (e : other ≡ tag). subst (λ (t : ℕ). hands.Holds cache.hand t × (hands.split_of cache.hand ≤ t)) (sym e)
           (c.requires.held.0, c.requires.ordinary))
-          (was_in cache.lent at cache.wide.1 low cache.first tag above same other l);
-      apart = λ other k l. ⊎_elim (λ (o : IsIn cache.first cache.lent other). cache.apart other k o)
+          (was_in cache.known at cache.wide.1 low cache.first tag above same other l);
+      apart = λ other k l. ⊎_elim (λ (o : IsIn cache.first cache.known other). cache.apart other k o)
           (λ (e : other ≡ tag). c.requires.held.1 (subst (λ (t : ℕ). IsKept cache t) e k))
-          (was_in cache.lent at cache.wide.1 low cache.first tag above same other l);
-      wide = (cache.wide.0, joined_fits cache.lent at cache.wide.1);
+          (was_in cache.known at cache.wide.1 low cache.first tag above same other l);
+      wide = (cache.wide.0, joined_fits cache.known at cache.wide.1);
       low = cache.low;
       few = cache.few;
       alive = cache.alive;
-      careful = λ careful some. some_in cache.first (with_bit cache.lent at) tag
-          (now_in cache.lent at cache.wide.1 low cache.first tag above same);
+      careful = λ careful some. some_in cache.first (with_bit cache.known at) tag
+          (now_in cache.known at cache.wide.1 low cache.first tag above same);
     }
 
-pub returns-then-offset-ge-WINDOW-clause-lends : goal.returns-then-offset-ge-WINDOW-clause-lends
-returns-then-offset-ge-WINDOW-clause-lends g c = λ within. let low = c.offset-offset.ensures.within.1 within in
+pub returns-then-offset-ge-WINDOW-clause-learns : goal.returns-then-offset-ge-WINDOW-clause-learns
+returns-then-offset-ge-WINDOW-clause-learns g c = λ within. let low = c.offset-offset.ensures.within.1 within in
     absurd (omega arith)
 
-pub returns-clause-lends : goal.returns-clause-lends
-returns-clause-lends g c = let cache = c.args.self.now in let tag = c.args.tag in
+pub returns-clause-learns : goal.returns-clause-learns
+returns-clause-learns g c = let cache = c.args.self.now in let tag = c.args.tag in
     let at = c.offset-offset.result in let low = c.if-offset-ge-WINDOW.false in
     let is = c.offset-offset.ensures.offset low in let above : cache.first ≤ tag = omega arith in
     let same : tag - cache.first ≡ at = omega arith in λ within. record {
-      now = now_in cache.lent at cache.wide.1 low cache.first tag above same;
-      still = λ w. still_in cache.lent at cache.wide.1 low cache.first tag above same;
-      none_else = was_in cache.lent at cache.wide.1 low cache.first tag above same;
+      now = now_in cache.known at cache.wide.1 low cache.first tag above same;
+      still = λ w. still_in cache.known at cache.wide.1 low cache.first tag above same;
+      none_else = was_in cache.known at cache.wide.1 low cache.first tag above same;
     }

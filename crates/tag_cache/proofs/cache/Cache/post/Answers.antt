@@ -1,24 +1,24 @@
--- A tag that is not lent is posted by no step on the wait groups, and so without grants.
+-- A tag that is not known is posted by no step on the wait groups, and so without grants.
 use Rattle.std.proofs.Common.{rules, ℕ, sym, subst}
 use Rattle.tag_cache.specs.Slots.{PostsLast}
 use Rattle.tag_cache.proofs.Passing.{grants_none}
-use Rattle.tag_cache.proofs.Reusing.{lent_held}
+use Rattle.tag_cache.proofs.Reusing.{known_held}
 use Rattle.tag_cache.proofs.Below.{held_allowed}
 use Rattle.tag_cache.proofs.cache.Cache.post.Goals as goal
 
-pub returns-then-lends-clause-does : goal.returns-then-lends-clause-does
-returns-then-lends-clause-does g c = record {
+pub returns-then-knows-clause-does : goal.returns-then-knows-clause-does
+returns-then-knows-clause-does g c = record {
   refusals = held_allowed c.args.tags.now c.args.self.now c.args.tag c.requires
-      (lent_held c.args.self.now c.args.tag (c.lends.ensures.0 c.if-lends.true)) _ _;
+      (known_held c.args.self.now c.args.tag (c.knows.ensures.0 c.if-knows.true)) _ _;
   less = search rules;
-  kept = c.post_lent.ensures.passes.kept;
-  posts = c.post_lent.ensures.passes.posts;
-  last = c.post_lent.ensures.passes.last;
+  kept = c.post_known.ensures.passes.kept;
+  posts = c.post_known.ensures.passes.posts;
+  last = c.post_known.ensures.passes.last;
   flushes = search rules;
   nobody = search rules;
   tells = search rules;
   terms = search rules;
-  loans = search rules;
+  knows = search rules;
   tally = search rules;
 }
 
@@ -35,6 +35,6 @@ returns-clause-does g c = record {
   tells = c.nobody.ensures.tells _ _ (grants_none c.args.self.now.hand c.post_other.new.self.hand
       c.in_ok-post_other.ensures.waiter);
   terms = search rules;
-  loans = search rules;
+  knows = search rules;
   tally = search rules;
 }

@@ -4,7 +4,7 @@ use Rattle.tag_sets.specs.declared.hand.Hand.{Hand}
 use Rattle.tag_sets.specs.Hands.{IsHandOf}
 use Rattle.tag_cache.proofs.Carrying.{owns_but, post_still}
 use Rattle.tag_cache.proofs.Passing.{forgotten_passes, posts_moves}
-use Rattle.tag_cache.proofs.Reusing.{held_still, lent_held}
+use Rattle.tag_cache.proofs.Reusing.{held_still, known_held}
 use Rattle.tag_cache.proofs.Tallying.{moves_tallies, tallies_on, unchanged_tallies}
 use Rattle.tag_cache.proofs.Below.{held_passes}
 use Rattle.tag_cache.proofs.cache.Cache.post_alone.Goals as goal
@@ -17,7 +17,7 @@ post-requires g c = record {
 
 pub unreachable-requires : goal.unreachable-requires
 unreachable-requires g c = held_passes c.args.tags.now c.args.self.now.hand c.args.tag c.requires.cache
-    (lent_held c.args.self.now c.args.tag c.requires.lent).0 c.in_default.field-0
+    (known_held c.args.self.now c.args.tag c.requires.known).0 c.in_default.field-0
     (search rules)
 
 pub invariant_of-self : goal.invariant_of-self
@@ -25,8 +25,8 @@ invariant_of-self g c = let cache = c.args.self.now in let mid = c.forget.new.se
     owns_but c.args.tags.now mid call.new.hand
     (subst (λ (h : Hand g.row.R.Denot). IsHandOf c.args.tags.now h) (sym c.forget.ensures.same.hand) c.requires.cache)
     call.ensures.hand c.args.tag
-    (held_still cache mid c.args.tag c.forget.ensures.same (lent_held cache c.args.tag c.requires.lent)).1
-    (λ l. ((c.forget.ensures.loans c.args.tag).0 l).1 refl)
+    (held_still cache mid c.args.tag c.forget.ensures.same (known_held cache c.args.tag c.requires.known)).1
+    (λ l. ((c.forget.ensures.knows c.args.tag).0 l).1 refl)
     (post_still c.args.tag mid.hand call.new.hand call.result call.ensures.does.posts call.ensures.does.refusals.same)
 
 pub returns-clause-passes : goal.returns-clause-passes

@@ -1,27 +1,27 @@
--- The hand no longer holds the tag, which was neither kept nor lent.
+-- The hand no longer holds the tag, which was neither kept nor known.
 use Rattle.std.proofs.Common.{rules}
 use Rattle.std.proofs.lemmas.Result.{on_ok_weaker}
 use Rattle.tag_sets.specs.Slots.{Posts}
 use Rattle.tag_cache.specs.Caches.{IsKept}
 use Rattle.tag_cache.proofs.Carrying.{not_true, owns_but, post_still}
-use Rattle.tag_cache.proofs.Passing.{last_on, posted_tallies, posts_waiter, unlent_passes}
-use Rattle.tag_cache.proofs.Reusing.{last_unlent}
+use Rattle.tag_cache.proofs.Passing.{last_on, posted_tallies, posts_waiter, unknown_passes}
+use Rattle.tag_cache.proofs.Reusing.{last_unknown}
 use Rattle.tag_cache.proofs.Below.{unkept_refuses}
 use Rattle.tag_cache.proofs.cache.Cache.post_other.Goals as goal
 
 pub invariant_of-self : goal.invariant_of-self
 invariant_of-self g c = let cache = c.args.self.now in let tag = c.args.tag in let call = c.post in
     owns_but c.args.tags.now cache call.new.hand c.requires.cache call.ensures.hand tag
-    (not_true _ (IsKept cache tag) c.keeps.ensures c.if-keeps.false) c.requires.unlent
+    (not_true _ (IsKept cache tag) c.keeps.ensures c.if-keeps.false) c.requires.unknown
     (post_still tag cache.hand call.new.hand call.result call.ensures.does.posts call.ensures.does.refusals.same)
 
 pub returns-clause-passes : goal.returns-clause-passes
-returns-clause-passes g c = unlent_passes c.args.tag c.args.self.now _ (search rules) (search rules) c.requires.unlent
+returns-clause-passes g c = unknown_passes c.args.tag c.args.self.now _ (search rules) (search rules) c.requires.unknown
     c.post.result c.post.ensures.does.posts
 
 pub returns-clause-flushes : goal.returns-clause-flushes
 returns-clause-flushes g c = λ last. last_on c.args.tags.now c.args.tag c.args.self.now _
-    (last_unlent c.args.self.now c.args.tag c.requires.unlent last) c.post.result c.post.ensures.does.posts
+    (last_unknown c.args.self.now c.args.tag c.requires.unknown last) c.post.result c.post.ensures.does.posts
 
 pub returns-clause-waiter : goal.returns-clause-waiter
 returns-clause-waiter g c = on_ok_weaker c.post.result

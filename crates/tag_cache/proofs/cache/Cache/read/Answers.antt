@@ -3,7 +3,7 @@ use Rattle.std.proofs.Common.{rules}
 use Rattle.tag_cache.specs.Caches.{IsKept}
 use Rattle.tag_cache.proofs.Carrying.{not_true, same_on, owns, still_on}
 use Rattle.tag_cache.proofs.Below.{unkept_refuses, held_allowed}
-use Rattle.tag_cache.proofs.Reusing.{lent_held}
+use Rattle.tag_cache.proofs.Reusing.{known_held}
 use Rattle.tag_cache.proofs.cache.Cache.read.Goals as goal
 
 pub invariant_of-self : goal.invariant_of-self
@@ -12,8 +12,8 @@ invariant_of-self g c = let cache = c.args.self.now in let call = c.read in
     (still_on cache.hand call.new.hand call.result _ call.ensures.does.reads call.ensures.does.refusals.same
     (λ value reads tag h. (reads.same.kept tag h).0))
 
-pub returns-then-lends-clause-does : goal.returns-then-lends-clause-does
-returns-then-lends-clause-does g c = let held = lent_held c.args.self.now c.args.tag (c.lends.ensures.0 c.if-lends.true) in
+pub returns-then-knows-clause-does : goal.returns-then-knows-clause-does
+returns-then-knows-clause-does g c = let held = known_held c.args.self.now c.args.tag (c.knows.ensures.0 c.if-knows.true) in
     record {
       refusals = held_allowed c.args.tags.now c.args.self.now c.args.tag c.requires held _ _;
       value = search rules;

@@ -1,4 +1,4 @@
--- The least kept tag leaves the mask of kept tags and joins that of the lent ones.
+-- The least kept tag leaves the mask of kept tags and joins that of the known ones.
 use Rattle.std.proofs.Common.{arith, ◌≡◌, ◌≤◌, ◌+◌, ◌-◌, ℕ, refl, sym, subst, ⊎_elim}
 use Rattle.std.specs.Int.{trailing_zeros, w64}
 use Rattle.tag_sets.specs.Hands as hands
@@ -16,18 +16,18 @@ invariant_of-self g c = let cache = c.args.self.now in let some = some_kept cach
     let fewer = ones_fewer cache.kept place cache.wide.0 at.0 at.1 in let few = cache.few in
     let alive = cache.alive in record {
       own = λ other k. cache.own other ((left cache.kept place cache.wide.0 at.0 cache.first other).0 k).0;
-      loans = λ other l. ⊎_elim (λ (o : IsIn cache.first cache.lent other). cache.loans other o)
+      knows = λ other l. ⊎_elim (λ (o : IsIn cache.first cache.known other). cache.knows other o)
           (λ (e : other ≡ tag). subst (λ (t : ℕ). hands.Holds cache.hand t × (hands.split_of cache.hand ≤ t)) (sym e)
-          (cache.own tag is)) (was_in cache.lent place cache.wide.1 at.0 cache.first tag above same other l);
+          (cache.own tag is)) (was_in cache.known place cache.wide.1 at.0 cache.first tag above same other l);
       apart = λ other k l. let was = (left cache.kept place cache.wide.0 at.0 cache.first other).0 k in ⊎_elim
-          (λ (o : IsIn cache.first cache.lent other). cache.apart other was.0 o) (λ (e : other ≡ tag). was.1 e)
-          (was_in cache.lent place cache.wide.1 at.0 cache.first tag above same other l);
-      wide = (popped_fits cache.kept place cache.wide.0, joined_fits cache.lent place cache.wide.1);
+          (λ (o : IsIn cache.first cache.known other). cache.apart other was.0 o) (λ (e : other ≡ tag). was.1 e)
+          (was_in cache.known place cache.wide.1 at.0 cache.first tag above same other l);
+      wide = (popped_fits cache.kept place cache.wide.0, joined_fits cache.known place cache.wide.1);
       low = cache.low;
       few = (omega arith, cache.few.1);
       alive = omega arith;
-      careful = λ careful more. some_in cache.first (with_bit cache.lent place) tag
-          (now_in cache.lent place cache.wide.1 at.0 cache.first tag above same);
+      careful = λ careful more. some_in cache.first (with_bit cache.known place) tag
+          (now_in cache.known place cache.wide.1 at.0 cache.first tag above same);
     }
 
 pub returns : goal.returns
@@ -44,10 +44,10 @@ returns g c = let cache = c.args.self.now in let some = some_kept cache c.requir
         left = left cache.kept place cache.wide.0 at.0 cache.first;
         fewer = ones_fewer cache.kept place cache.wide.0 at.0 at.1;
       };
-      lends = record {
-        now = now_in cache.lent place cache.wide.1 at.0 cache.first tag above same;
-        still = λ w. still_in cache.lent place cache.wide.1 at.0 cache.first tag above same;
-        none_else = was_in cache.lent place cache.wide.1 at.0 cache.first tag above same;
+      learns = record {
+        now = now_in cache.known place cache.wide.1 at.0 cache.first tag above same;
+        still = λ w. still_in cache.known place cache.wide.1 at.0 cache.first tag above same;
+        none_else = was_in cache.known place cache.wide.1 at.0 cache.first tag above same;
       };
       reused = refl;
     }

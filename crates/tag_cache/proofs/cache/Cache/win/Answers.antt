@@ -9,7 +9,7 @@ invariant_of-self g c = let cache = c.args.self.now in let call = c.get in
     (gained_still (get_call c.args.tags.now cache.hand call.new.hand call.result call.ensures.gets
     call.ensures.refusals.same))
 
-pub lend-requires : goal.lend-requires
-lend-requires g c = let gets = c.in_ok-tag.ensures.gets in
+pub learn-requires : goal.learn-requires
+learn-requires g c = let gets = c.in_ok-tag.ensures.gets in
     won c.args.tags.now c.args.self.now c.get.new.hand c.in-Some.tag _ c.in-Some.is c.get.ensures.hand
     c.requires.none (get_gains c.args.tags.now _ _ _ gets).more gets.gets.ordinary

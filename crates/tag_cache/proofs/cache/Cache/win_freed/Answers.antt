@@ -8,7 +8,7 @@ invariant_of-self g c = let cache = c.args.self.now in let call = c.get_freed in
     owns c.args.tags.now cache call.new.hand c.requires.cache call.ensures.hand
     (gained_still (get_freed_call c.args.tags.now cache.hand call.new.hand call.result call.ensures.does))
 
-pub lend-requires : goal.lend-requires
-lend-requires g c = let gets = c.in_ok-answer.ensures.does.gets in
+pub learn-requires : goal.learn-requires
+learn-requires g c = let gets = c.in_ok-answer.ensures.does.gets in
     won c.args.tags.now c.args.self.now c.get_freed.new.hand c.in-Some.tag _ c.in-Some.is c.get_freed.ensures.hand
     c.requires.none gets.more gets.ordinary

@@ -3,10 +3,10 @@ use Rattle.std.proofs.Common.{◌≡◌, ◌≤◌, ◌∙◌, inl, inr, sym, su
 use Rattle.tag_sets.specs.declared.hand.Hand.{Hand}
 use Rattle.tag_sets.specs.Hands as hands
 use Rattle.tag_cache.specs.declared.cache.Cache.{Cache}
-use Rattle.tag_cache.specs.Caches.{IsLent, IsWithin}
+use Rattle.tag_cache.specs.Caches.{IsKnown, IsWithin}
 use Rattle.tag_cache.proofs.Carrying.{keeps_twice}
 use Rattle.tag_cache.proofs.Reusing.{held_still}
-use Rattle.tag_cache.proofs.cache.Cache.lend.Goals as goal
+use Rattle.tag_cache.proofs.cache.Cache.learn.Goals as goal
 
 pub note-requires-clause-held : goal.note-requires-clause-held
 note-requires-clause-held g c = held_still c.args.self.now c.aim.new.self c.args.tag c.aim.ensures.same
@@ -22,13 +22,13 @@ returns-clause-same g c = record {
   kept = keeps_twice c.args.self.now c.aim.new.self c.note.new.self c.aim.ensures.same.kept c.note.ensures.same.kept;
 }
 
-pub returns-clause-lends : goal.returns-clause-lends
-returns-clause-lends g c = let none = c.requires.none in let mid = c.aim.new.self in
+pub returns-clause-learns : goal.returns-clause-learns
+returns-clause-learns g c = let none = c.requires.none in let mid = c.aim.new.self in
     let in_window = ⊎_elim (λ (w : IsWithin mid c.args.tag). w) (λ e. absurd (e.1 none)) c.aim.ensures.aimed in
-    let lends = c.note.ensures.lends in_window in record {
-      now = lends.now;
-      still = λ within other l. lends.still (λ n. in_window) other
-          (subst (λ (x : Cache g.row.R.Denot). IsLent x other) (sym (c.aim.ensures.still within)) l);
-      none_else = λ other l. ⊎_elim (λ (o : IsLent mid other). inl (c.aim.ensures.loans other o))
-          (λ (e : other ≡ c.args.tag). inr e) (lends.none_else other l);
+    let learns = c.note.ensures.learns in_window in record {
+      now = learns.now;
+      still = λ within other l. learns.still (λ n. in_window) other
+          (subst (λ (x : Cache g.row.R.Denot). IsKnown x other) (sym (c.aim.ensures.still within)) l);
+      none_else = λ other l. ⊎_elim (λ (o : IsKnown mid other). inl (c.aim.ensures.knows other o))
+          (λ (e : other ≡ c.args.tag). inr e) (learns.none_else other l);
     }

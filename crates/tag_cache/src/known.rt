@@ -2,7 +2,7 @@
 ghost use Rattle.std.specs.Prelude.{◌≡◌};
 ghost use mathlib.Core.Option.{some};
 ghost use Rattle.tag_sets.specs.Slots as hands;
-ghost use Rattle.tag_cache.specs.Caches.{IsCacheOf, IsLent, slot_of, hand_of};
+ghost use Rattle.tag_cache.specs.Caches.{IsCacheOf, IsKnown, slot_of, hand_of};
 ghost use Rattle.tag_cache.specs.Changes.{KeepsSame, SameWindow};
 ghost use Rattle.tag_cache.specs.Holding.{HoldsSame, Writes};
 
@@ -12,9 +12,9 @@ use tag_sets::Tags;
 impl<R: Copy> Cache<R> {
     /// Returns the value in the slot of a tag that the user is known to hold.
     #[inline(always)]
-    pub(crate) fn read_lent(&mut self, tags: &Tags<R>, tag: u32) -> R
+    pub(crate) fn read_known(&mut self, tags: &Tags<R>, tag: u32) -> R
         requires cache { IsCacheOf tags.now self.old }
-        requires lent { IsLent self.old tag }
+        requires known { IsKnown self.old tag }
         ensures cache { IsCacheOf tags.now self.new }
         ensures value { slot_of self.old tag ≡ some result }
         ensures reads { hands.Reads tag result (hand_of self.old) (hand_of self.new) }
@@ -27,9 +27,9 @@ impl<R: Copy> Cache<R> {
 
     /// Writes the slot of a tag that the user is known to hold, and returns its former value.
     #[inline(always)]
-    pub(crate) fn write_lent(&mut self, tags: &Tags<R>, tag: u32, value: R) -> R
+    pub(crate) fn write_known(&mut self, tags: &Tags<R>, tag: u32, value: R) -> R
         requires cache { IsCacheOf tags.now self.old }
-        requires lent { IsLent self.old tag }
+        requires known { IsKnown self.old tag }
         ensures cache { IsCacheOf tags.now self.new }
         ensures former { slot_of self.old tag ≡ some result }
         ensures writes { Writes tag value self.old self.new }

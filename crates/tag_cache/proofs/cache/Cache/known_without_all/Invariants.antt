@@ -1,9 +1,9 @@
 -- The tags so far have left the mask.
 use Rattle.std.proofs.Common.{◌≢◌, ◌↔◌, ℕ, ◌<◌, get_or}
 use Rattle.tag_cache.specs.Windows.{IsIn}
-use Rattle.tag_cache.specs.Caches.{IsLent}
-use Rattle.tag_cache.proofs.cache.Cache.lent_without_all.Given as goal
+use Rattle.tag_cache.specs.Caches.{IsKnown}
+use Rattle.tag_cache.proofs.cache.Cache.known_without_all.Given as goal
 
 abbrev pub invariant-loop-tag : goal.invariant-loop-tag
 invariant-loop-tag g l = (other : ℕ) → IsIn l.self.first l.left other
-    ↔ (IsLent l.self other × ((k : ℕ) → k < l.tag-index → get_or l.list k 0 ≢ other))
+    ↔ (IsKnown l.self other × ((k : ℕ) → k < l.tag-index → get_or l.list k 0 ≢ other))

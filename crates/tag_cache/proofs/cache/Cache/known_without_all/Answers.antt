@@ -1,7 +1,7 @@
 -- Once all tags have left the mask, none of the list is in it.
 use Rattle.std.proofs.Common.{arith, ◌≢◌, ℕ, ◌<◌, length, get_or, sym, ◌∙◌, below_more}
 use Rattle.std.proofs.lemmas.Grind.{get_or_default_zero}
-use Rattle.tag_cache.proofs.cache.Cache.lent_without_all.Goals as goal
+use Rattle.tag_cache.proofs.cache.Cache.known_without_all.Goals as goal
 
 pub loop-tag-preserved : goal.loop-tag-preserved
 loop-tag-preserved g c = λ other. let left = c.without-left.ensures other in let so_far = c.loop-tag.invariant other in (

@@ -1,16 +1,15 @@
 -- The hand keeps its tags, with the values of all slots but this one.
 use Rattle.std.proofs.Common.{rules}
 use Rattle.tag_cache.proofs.Carrying.{writes, owns}
-use Rattle.tag_cache.proofs.Reusing.{lent_held}
-use Rattle.tag_cache.proofs.cache.Cache.write_lent.Goals as goal
+use Rattle.tag_cache.proofs.cache.Cache.write_unknown.Goals as goal
 
-pub write_ordinary_held-requires-clause-held : goal.write_ordinary_held-requires-clause-held
-write_ordinary_held-requires-clause-held g c = (lent_held c.args.self.now c.args.tag c.requires.lent).0
+pub write_held-requires-clause-held : goal.write_held-requires-clause-held
+write_held-requires-clause-held g c = c.requires.held.0
 
 pub invariant_of-self : goal.invariant_of-self
-invariant_of-self g c = let call = c.write_ordinary_held in
+invariant_of-self g c = let call = c.write_held in
     owns c.args.tags.now c.args.self.now call.new.hand c.requires.cache call.ensures.hand call.ensures.writes.kept
 
 pub returns-clause-writes : goal.returns-clause-writes
 returns-clause-writes g c = writes c.args.self.now _ (search rules) c.args.tag c.args.value
-    c.write_ordinary_held.ensures.writes
+    c.write_held.ensures.writes

@@ -6,7 +6,7 @@ use Rattle.tag_cache.specs.Caches.{IsLast}
 use Rattle.tag_cache.proofs.Carrying.{not_true}
 use Rattle.tag_cache.proofs.Passing.{grants_none, passes, passes_last, posts_waiter}
 use Rattle.tag_cache.proofs.Tallying.{tallies_on}
-use Rattle.tag_cache.proofs.cache.Cache.post_lent.Goals as goal
+use Rattle.tag_cache.proofs.cache.Cache.post_known.Goals as goal
 
 pub returns-then-is_last : goal.returns-then-is_last
 returns-then-is_last g c = let old = c.args.self.now in let mid = c.flush-answer.new.self in
