@@ -9,7 +9,7 @@ use tag_cache::Cache;
 use tag_core::Spent;
 use tag_model::Totals;
 use tag_search::Hint;
-use tag_sets::{Options, Tags};
+use tag_sets::{Options, Ring, Tags};
 
 /// The most tags that a thread keeps.
 const MOST: u32 = 8;
@@ -51,7 +51,7 @@ impl TagAllocator for Cached {
         for cache in caches {
             totals.got = totals.got.saturating_add(cache.handed_out());
             totals.back = totals.back.saturating_add(cache.taken_back());
-            let (hand, _) = cache.into_hand(&tags);
+            let (hand, _) = cache.into_hand::<Ring>(&tags);
             drop(hand);
         }
         tags.discard();
@@ -79,19 +79,19 @@ impl TagAllocator for Cached {
 
     #[inline]
     fn clear(&self, cache: &mut Cache<u64>, _hint: &mut Hint, tag: u32) {
-        let Ok(_) = cache.clear(&self.tags, tag) else {
+        let Ok(_) = cache.clear::<Ring>(&self.tags, tag) else {
             unreachable!()
         };
     }
 
     #[inline]
     fn test_and_clear(&self, cache: &mut Cache<u64>, _hint: &mut Hint, tag: u32) {
-        let _ = cache.clear(&self.tags, tag);
+        let _ = cache.clear::<Ring>(&self.tags, tag);
     }
 
     #[inline]
     fn post(&self, cache: &mut Cache<u64>, tag: u32) {
-        let Ok(()) = cache.post(&self.tags, tag) else {
+        let Ok(_) = cache.post::<Ring>(&self.tags, tag) else {
             unreachable!()
         };
     }

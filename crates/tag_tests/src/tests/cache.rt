@@ -114,7 +114,7 @@ impl TagAllocator for Mixed {
     fn clear(&self, caller: &mut Caller, tag: u32) -> Result<u32, TagFault> {
         match caller {
             Caller::Bare(hand) => self.tags.clear::<Ring>(hand, tag),
-            Caller::Cached(cache) => cache.clear(&self.tags, tag),
+            Caller::Cached(cache) => cache.clear::<Ring>(&self.tags, tag),
         }
     }
 
@@ -125,14 +125,14 @@ impl TagAllocator for Mixed {
     fn clear_batch(&self, caller: &mut Caller, cleared: &[u32]) -> Result<u32, TagFault> {
         match caller {
             Caller::Bare(hand) => self.tags.clear_batch::<Ring>(hand, cleared),
-            Caller::Cached(cache) => cache.clear_batch(&self.tags, cleared),
+            Caller::Cached(cache) => cache.clear_batch::<Ring>(&self.tags, cleared),
         }
     }
 
     fn clear_mask(&self, caller: &mut Caller, first: u32, mask: u64) -> Result<u32, TagFault> {
         match caller {
             Caller::Bare(hand) => self.tags.clear_mask::<Ring>(hand, first, mask),
-            Caller::Cached(cache) => cache.clear_mask(&self.tags, first, mask),
+            Caller::Cached(cache) => cache.clear_mask::<Ring>(&self.tags, first, mask),
         }
     }
 
@@ -153,7 +153,10 @@ impl TagAllocator for Mixed {
     fn post(&self, caller: &mut Caller, tag: u32) -> Result<(), TagFault> {
         match caller {
             Caller::Bare(hand) => self.tags.post(hand, tag),
-            Caller::Cached(cache) => cache.post(&self.tags, tag),
+            Caller::Cached(cache) => {
+                let _ = cache.post::<Ring>(&self.tags, tag)?;
+                Ok(())
+            }
         }
     }
 
@@ -167,7 +170,7 @@ impl TagAllocator for Mixed {
     fn flush(&self, caller: &mut Caller) -> u32 {
         match caller {
             Caller::Bare(_) => 0,
-            Caller::Cached(cache) => cache.flush(&self.tags),
+            Caller::Cached(cache) => cache.flush::<Ring>(&self.tags),
         }
     }
 
@@ -226,7 +229,10 @@ impl TagAllocator for Mixed {
     fn prepare_wait(&self, caller: &mut Caller) -> Result<u32, TagFault> {
         match caller {
             Caller::Bare(hand) => self.tags.prepare_wait(hand),
-            Caller::Cached(cache) => cache.prepare_wait(&self.tags),
+            Caller::Cached(cache) => {
+                let (group, _) = cache.prepare_wait::<Ring>(&self.tags)?;
+                Ok(group)
+            }
         }
     }
 

@@ -7,7 +7,7 @@ use crate::caller::Caller;
 use std::alloc::{AllocError, Global};
 use step_ledger::Numbered;
 use tag_cache::{Cache, Keeping};
-use tag_sets::{Hand, Tags};
+use tag_sets::{Hand, Ring, Tags};
 
 /// Which of the callers have caches, and on what terms.
 #[derive(Clone, Copy)]
@@ -71,7 +71,7 @@ fn hand_of(tags: &Tags<u64>, caller: Caller) -> Hand<u64>
     match caller {
         Caller::Bare(hand) => hand,
         Caller::Cached(cache) => {
-            let (hand, _) = cache.into_hand(tags);
+            let (hand, _) = cache.into_hand::<Ring>(tags);
             hand
         }
     }

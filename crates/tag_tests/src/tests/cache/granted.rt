@@ -19,7 +19,7 @@ fn clear_granted(tags: &Mixed, caller: &mut Caller, tag: u32) -> Option<Grants>
 {
     match caller {
         Caller::Bare(hand) => tags.tags.clear::<Report>(hand, tag).ok(),
-        Caller::Cached(cache) => cache.clear_granted(&tags.tags, tag).ok(),
+        Caller::Cached(cache) => cache.clear::<Report>(&tags.tags, tag).ok(),
     }
 }
 
@@ -30,7 +30,7 @@ fn flush_granted(tags: &Mixed, caller: &mut Caller) -> Option<Grants>
 {
     match caller {
         Caller::Bare(_) => None,
-        Caller::Cached(cache) => Some(cache.flush_granted(&tags.tags)),
+        Caller::Cached(cache) => Some(cache.flush::<Report>(&tags.tags)),
     }
 }
 
