@@ -1,5 +1,5 @@
 -- A hand that belongs to the tags makes a cache that does.
-use Rattle.std.proofs.Common.{arith, All, ◌≡◌, ℕ, ◌+◌, ◌≤◌, List, Some, ◌++◌, ◌∷◌, [], sym, subst}
+use Rattle.std.proofs.Common.{arith, All, ℕ, List, Some, sym, subst}
 use Rattle.std.proofs.lemmas.List.Elements.{All-pop, All-push}
 use Rattle.tag_sets.specs.declared.hand.Hand.{Hand}
 use Rattle.tag_sets.specs.Hands.{IsHandOf}

@@ -3,4 +3,4 @@ use Rattle.std.proofs.Common.{refl}
 use Rattle.tag_bench.proofs.shared_cache.CachedTagAllocator.take.Goals as goal
 
 pub returns-clause-held : goal.returns-clause-held
-returns-clause-held c = λ _. c.in-Ok.ensures.more.joined c.args.tag refl
+returns-clause-held c = λ _. c.in-Ok.ensures.does.more.joined c.args.tag refl
