@@ -1,7 +1,7 @@
 -- A refusal of the hand's is one of the user's, who holds no more than the hand.
 use Rattle.std.proofs.Common.{◌≡◌, Result, Ok, Err, [], ◌∷◌, inl, inr}
-use Rattle.std.specs.Result.{IsErrAnd}
-use Rattle.refusals.specs.Refusals.{Checks, FailsFirst, RefusesBy}
+use Rattle.std.specs.Result.{IsErrAnd, IfErr}
+use Rattle.refusals.specs.Refusals.{Checks, FailsFirst}
 
 module _ {F : Type 0} (counts ordinary : Type 0) (bad_count no_such_tag not_held : F) where
   -- the checks of several tags, the last of which is that they are held
@@ -18,10 +18,6 @@ module _ {F : Type 0} (counts ordinary : Type 0) (bad_count no_such_tag not_held
     fails_user fault (inr (counted, inr (of_kind, inr last))) = absurd last.1
 
     pub refused_user : {A : Type 0} (fault : F) (told : Result A F) → IsErrAnd told (λ f. f ≡ fault)
-        → FailsFirst (several_checks hand) fault → (same : Type 0) → same → RefusesBy (several_checks user) same told
-    refused_user fault (Ok x) is first same still = absurd is
-    refused_user fault (Err f) is first same still = record {
-      first = rw is (fails_user fault first);
-      passes = tt;
-      same = still;
-    }
+        → FailsFirst (several_checks hand) fault → IfErr told (FailsFirst (several_checks user))
+    refused_user fault (Ok x) is first = tt
+    refused_user fault (Err f) is first = rw is (fails_user fault first)

@@ -17,8 +17,8 @@ use Rattle.tag_sets.proofs.Numbering.{ordinary_above}
 use Rattle.tag_sets.specs.Faults.{of_queue}
 use Rattle.tag_sets.specs.Refusals.{list_checks}
 use Rattle.tag_queue.specs.Refusals as queue_refusals
-use Rattle.std.specs.Result.{IsErrAnd}
-use Rattle.refusals.specs.Refusals.{FailsFirst, PassesAll, RefusesBy}
+use Rattle.std.specs.Result.{IsErrAnd, IfErr}
+use Rattle.refusals.specs.Refusals.{FailsFirst, PassesAll}
 use Rattle.tag_sets.proofs.Told.{Alike, refused_alike, passes_alike}
 use Rattle.tag_sets.proofs.Lifting.{InSet, less, less_like}
 use Rattle.tag_sets.proofs.Getting.{ordinary_like}
@@ -106,11 +106,10 @@ module _ {R : Type 0} (tags : Tags R) (hand : Hand R) (own : IsHandOf tags hand)
   list_alike = ((counts_back, counts_there), refl, ((tags_back, tags_there), refl, ((held_back, held_there), refl, tt)))
 
   pub list_refused : {A : Type 0} (fault : QueueFault) (told : Result A TagFault) → IsErrAnd told (λ f. f ≡ of_queue fault)
-      → FailsFirst (queue_refusals.list_checks tags.ordinary hand.ordinary named) fault → (same : Type 0) → same
-      → RefusesBy (list_checks tags hand list) same told
-  list_refused fault told is first = refused_alike of_queue
-      (queue_refusals.list_checks tags.ordinary hand.ordinary named) (list_checks tags hand list) list_alike fault told is
-      first
+      → FailsFirst (queue_refusals.list_checks tags.ordinary hand.ordinary named) fault
+      → IfErr told (FailsFirst (list_checks tags hand list))
+  list_refused = refused_alike of_queue (queue_refusals.list_checks tags.ordinary hand.ordinary named)
+      (list_checks tags hand list) list_alike
 
   pub list_passes : PassesAll (queue_refusals.list_checks tags.ordinary hand.ordinary named)
       → PassesAll (list_checks tags hand list)

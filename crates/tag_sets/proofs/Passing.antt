@@ -23,8 +23,8 @@ use Rattle.tag_sets.specs.Hands.{agent_of, split_of, slot_of, layout_of, reserve
 use Rattle.tag_sets.specs.Clears.{Clears}
 use Rattle.tag_sets.specs.Slots.{Reads, Writes, Posts, Takes, Misses, RefusesTake}
 use Rattle.std.proofs.Common.{◌↔◌, arith, refl, Result}
-use Rattle.std.specs.Result.{IsErrAnd}
-use Rattle.refusals.specs.Refusals.{FailsFirst, RefusesBy}
+use Rattle.std.specs.Result.{IsErrAnd, IfErr}
+use Rattle.refusals.specs.Refusals.{FailsFirst}
 use Rattle.tag_queue.specs.Refusals as queue_refusals
 use Rattle.tag_sets.specs.declared.fault.TagFault.{TagFault}
 use Rattle.tag_sets.specs.declared.kind.Kind.TheVariants.{Ordinary, Reserved}
@@ -87,14 +87,15 @@ module _ {R : Type 0} where
           (λ low. omega arith, λ low. omega arith)
 
   -- a refusal by the agent in the tag's set is one of the hand's
-  pub refused_at : {A : Type 0} (tags : Tags R) (hand : Hand R) (tag number : ℕ) (kind : Kind) → IsHandOf tags hand
-      → IsAt hand tag kind number → (fault : QueueFault) (told : Result A TagFault)
+  pub refused_at : {A : Type 0} (tags : Tags R) (hand : Hand R) (tag : ℕ) (found : SetTag) (kind : Kind)
+      → IsHandOf tags hand → found.kind ≡ kind → found.kind ≡ kind_of (reserved_of tags) tag
+      → found.number ≡ number_in_set (reserved_of tags) tag → (fault : QueueFault) (told : Result A TagFault)
       → IsErrAnd told (λ f. f ≡ of_queue fault)
-      → FailsFirst (queue_refusals.tag_checks (queue_of tags kind) (agent_of hand kind) number) fault
-      → (same : Type 0) → same → RefusesBy (tag_checks tags hand tag) same told
-  refused_at tags hand tag number kind own at fault told is first = refused_alike of_queue
-      (queue_refusals.tag_checks (queue_of tags kind) (agent_of hand kind) number) (tag_checks tags hand tag)
-      (tag_alike tags hand tag number kind own at) fault told is first
+      → FailsFirst (queue_refusals.tag_checks (queue_of tags kind) (agent_of hand kind) found.number) fault
+      → IfErr told (FailsFirst (tag_checks tags hand tag))
+  refused_at tags hand tag found kind own is k n fault told = refused_alike of_queue
+      (queue_refusals.tag_checks (queue_of tags kind) (agent_of hand kind) found.number) (tag_checks tags hand tag)
+      (tag_alike tags hand tag found.number kind own (placed tags hand tag found kind own is k n)) fault told
 
   module _ (old new : Hand R) (kind : Kind) (number tag : ℕ) (at : IsAt old tag kind number)
       (other : agent_of new (other_kind kind) ≡ agent_of old (other_kind kind)) (split : split_of new ≡ split_of old)

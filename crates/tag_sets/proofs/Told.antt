@@ -1,6 +1,6 @@
 -- A caller of the sets is told a queue's answer: its value, or the fault of the same name.
 use Rattle.std.proofs.Common.{◌≡◌, ◌↔◌, ◌∙◌, Result, Ok, Err, [], ◌∷◌, inl, inr, sym, ap}
-use Rattle.std.specs.Prelude.{⊤}
+use Rattle.std.specs.Prelude.{⊤, IfErr}
 use Rattle.std.specs.Result.{MatchResult, IsErrAnd}
 use Rattle.refusals.specs.Refusals.{Checks, FailsFirst, PassesAll, RefusesBy}
 
@@ -29,15 +29,11 @@ module _ {F G : Type 0} (turn : F → G) where
   passes_alike [] (_ ∷ _) like passed = absurd like
   passes_alike (_ ∷ _) [] like passed = absurd like
 
-  -- a caller that is told the fault of the same name is refused by the checks that correspond
+  -- a caller that is told the fault of the same name is told that of the first of its checks that fails
   pub refused_alike : {A : Type 0} (a : Checks F) (b : Checks G) → Alike a b → (fault : F) (told : Result A G)
-      → IsErrAnd told (λ f. f ≡ turn fault) → FailsFirst a fault → (same : Type 0) → same → RefusesBy b same told
-  refused_alike a b like fault (Ok x) is first same still = absurd is
-  refused_alike a b like fault (Err f) is first same still = record {
-    first = rw is (fails_alike a b like fault first);
-    passes = tt;
-    same = still;
-  }
+      → IsErrAnd told (λ f. f ≡ turn fault) → FailsFirst a fault → IfErr told (FailsFirst b)
+  refused_alike a b like fault (Ok x) is first = tt
+  refused_alike a b like fault (Err f) is first = rw is (fails_alike a b like fault first)
 
   -- the caller is told the queue's answer
   abbrev pub IsTold : {A : Type 0} → Result A F → Result A G → Type 0

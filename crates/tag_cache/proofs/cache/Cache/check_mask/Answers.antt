@@ -1,5 +1,5 @@
 -- The hand's refusals are the user's, and a tag that is kept is one that the user does not hold.
-use Rattle.std.proofs.Common.{arith, ◌≡◌, ◌≤◌, All, inl, inr, refl}
+use Rattle.std.proofs.Common.{rules, arith, ◌≡◌, ◌≤◌, All, inl, inr, refl}
 use Rattle.std.specs.Prelude.{bit_and}
 use Rattle.tag_queue.specs.Masks.{tags_in}
 use Rattle.tag_sets.specs.declared.fault.TagFault.TheVariants.{BadCount, NoSuchTag, NotHeld}
@@ -12,11 +12,9 @@ use Rattle.tag_cache.proofs.cache.Cache.check_mask.Goals as goal
 
 pub returns-in_err-check_mask : goal.returns-in_err-check_mask
 returns-in_err-check_mask g c = let cache = c.args.self.now in let list = tags_in c.args.first c.args.mask in
-    record {
-      refusals = refused_user (1 ≤ c.args.mask) (AreOrdinary c.args.tags.now list) BadCount NoSuchTag NotHeld
-          (All (hands.Holds cache.hand) list) (All (Holds cache) list) (λ held k d l. (held k d l).0) _
-          c.from_residual.result c.from_residual.ensures.1 c.in_err-check_mask.ensures.refusals.first _ tt;
-    }
+    let first = refused_user (1 ≤ c.args.mask) (AreOrdinary c.args.tags.now list) BadCount NoSuchTag NotHeld
+    (All (hands.Holds cache.hand) list) (All (Holds cache) list) (λ held k d l. (held k d l).0) _
+    c.from_residual.result c.from_residual.ensures.1 c.in_err-check_mask.ensures.refusals.first in search rules
 
 pub returns-then-self-inside-ne0 : goal.returns-then-self-inside-ne0
 returns-then-self-inside-ne0 g c = let cache = c.args.self.now in

@@ -9,16 +9,11 @@ use Rattle.tag_cache.proofs.Refused.{refused_user}
 use Rattle.tag_cache.proofs.cache.Cache.clear_batch.Goals as goal
 
 pub returns-in_err-check_batch-clause-does : goal.returns-in_err-check_batch-clause-does
-returns-in_err-check_batch-clause-does g c = let list = c.args.list.now in let cache = c.args.self.now in record {
-  refusals = refused_user (CountsTags list) (AreOrdinary c.args.tags.now list) BadCount NoSuchTag NotHeld
-      (hand_batches.AreHeldOnce cache.hand list) (AreHeldOnce cache list) (hand_holds cache list) _
-      c.from_residual.result c.from_residual.ensures.1 c.in_err-check_batch.ensures.refusals.first _ (search rules);
-  less = search rules;
-  way = search rules;
-  tells = search rules;
-  knows = search rules;
-  tally = search rules;
-}
+returns-in_err-check_batch-clause-does g c = let list = c.args.list.now in let cache = c.args.self.now in
+    let first = refused_user (CountsTags list) (AreOrdinary c.args.tags.now list) BadCount NoSuchTag NotHeld
+    (hand_batches.AreHeldOnce cache.hand list) (AreHeldOnce cache list) (hand_holds cache list) _
+    c.from_residual.result c.from_residual.ensures.1 c.in_err-check_batch.ensures.refusals.first in
+    search rules
 
 pub returns-then-not-keeps_none_of-clause-does : goal.returns-then-not-keeps_none_of-clause-does
 returns-then-not-keeps_none_of-clause-does g c = let list = c.args.list.now in let cache = c.args.self.now in

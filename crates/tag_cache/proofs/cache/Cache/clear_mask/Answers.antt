@@ -12,16 +12,10 @@ use Rattle.tag_cache.proofs.cache.Cache.clear_mask.Goals as goal
 
 pub returns-in_err-check_mask-clause-does : goal.returns-in_err-check_mask-clause-does
 returns-in_err-check_mask-clause-does g c = let list = tags_in c.args.first c.args.mask in
-    let held = All (Holds c.args.self.now) list in record {
-      refusals = refused_user (1 ≤ c.args.mask) (AreOrdinary c.args.tags.now list) BadCount NoSuchTag NotHeld held held
-          (λ h. h) _ c.from_residual.result c.from_residual.ensures.1 c.in_err-check_mask.ensures.refusals.first _
-          (search rules);
-      less = search rules;
-      way = search rules;
-      tells = search rules;
-      knows = search rules;
-      tally = search rules;
-    }
+    let held = All (Holds c.args.self.now) list in
+    let first = refused_user (1 ≤ c.args.mask) (AreOrdinary c.args.tags.now list) BadCount NoSuchTag NotHeld held held
+    (λ h. h) _ c.from_residual.result c.from_residual.ensures.1 c.in_err-check_mask.ensures.refusals.first in
+    search rules
 
 pub returns-clause-does : goal.returns-clause-does
 returns-clause-does g c = let tags = c.args.tags.now in let old = c.args.self.now in

@@ -10,13 +10,8 @@ use Rattle.tag_cache.proofs.cache.Cache.get.Goals as goal
 pub returns-then-keeps_none : goal.returns-then-keeps_none
 returns-then-keeps_none g c = let win = c.win in let none = c.keeps_none.ensures.0 c.if-keeps_none.true in
     let after = gets_after c.args.tags.now c.args.self.now win.new.self win.ensures.kept none win.result
-    win.ensures.gets in record {
-      cache = search rules;
-      refusals = search rules;
-      gets = after.gets;
-      knows = search rules;
-      tally = after.tally;
-    }
+    win.ensures.gets in
+    search rules
 
 pub returns-clause-gets : goal.returns-clause-gets
 returns-clause-gets g c = gets_kept (GetsAndLooks (hand_gets.Gets c.args.tags.now (Some c.reuse.result)))

@@ -7,51 +7,32 @@ use Rattle.tag_sets.proofs.Passing.{placed, refused_at, clears_at}
 use Rattle.tag_sets.proofs.tags.Tags.clear.Goals as goal
 
 pub returns-in_ok-clear-in-Ordinary-clause-does : goal.returns-in_ok-clear-in-Ordinary-clause-does
-returns-in_ok-clear-in-Ordinary-clause-does g c = record {
-  clears = let hand = c.args.hand.now in
+returns-in_ok-clear-in-Ordinary-clause-does g c = let clears = let hand = c.args.hand.now in
     let new = record hand { ordinary = c.clear.new.agent } in
     let at = placed c.args.self.now hand c.args.tag c.of-kind.result Ordinary c.requires.hand c.in-Ordinary.is
     c.of-kind.ensures.kind c.of-kind.ensures.number in
-    clears_at hand new Ordinary _ c.args.tag at refl refl c.args.self.now c.in_ok-clear-in-Ordinary.ensures.puts;
-  refusals = search rules;
-  counts = search rules;
-  tells = search rules;
-  bound = search rules;
-}
+    clears_at hand new Ordinary _ c.args.tag at refl refl c.args.self.now c.in_ok-clear-in-Ordinary.ensures.puts in
+    search rules
 
 pub returns-in_ok-clear_uncounted-in-Reserved-clause-does : goal.returns-in_ok-clear_uncounted-in-Reserved-clause-does
-returns-in_ok-clear_uncounted-in-Reserved-clause-does g c = record {
-  clears = let hand = c.args.hand.now in
+returns-in_ok-clear_uncounted-in-Reserved-clause-does g c = let clears = let hand = c.args.hand.now in
     let new = record hand { reserved = c.clear_uncounted.new.agent } in
     let at = placed c.args.self.now hand c.args.tag c.of-kind.result Reserved c.requires.hand c.in-Reserved.is
     c.of-kind.ensures.kind c.of-kind.ensures.number in
     clears_at hand new Reserved _ c.args.tag at refl refl c.args.self.now
-    c.in_ok-clear_uncounted-in-Reserved.ensures.puts;
-  refusals = search rules;
-  counts = search rules;
-  tells = let waiter = waiter_of c.args.hand.now in
-      c.nobody.ensures.tells waiter waiter (none_granted (group_steps c.args.hand.now));
-  bound = search rules;
-}
+    c.in_ok-clear_uncounted-in-Reserved.ensures.puts in
+    let tells = let waiter = waiter_of c.args.hand.now in
+    c.nobody.ensures.tells waiter waiter (none_granted (group_steps c.args.hand.now)) in
+    search rules
 
 pub returns-in_err-clear-in-Ordinary-clause-does : goal.returns-in_err-clear-in-Ordinary-clause-does
-returns-in_err-clear-in-Ordinary-clause-does g c = let at = placed c.args.self.now c.args.hand.now c.args.tag
-    c.of-kind.result Ordinary c.requires.hand c.in-Ordinary.is c.of-kind.ensures.kind c.of-kind.ensures.number in record {
-      refusals = refused_at c.args.self.now c.args.hand.now c.args.tag _ Ordinary c.requires.hand at _ c.from_residual.result
-          c.from_residual.ensures.1 c.in_err-clear-in-Ordinary.ensures.refusals.first _ (search rules);
-      clears = search rules;
-      counts = search rules;
-      tells = search rules;
-      bound = search rules;
-    }
+returns-in_err-clear-in-Ordinary-clause-does g c = let first = refused_at c.args.self.now c.args.hand.now c.args.tag
+    c.of-kind.result Ordinary c.requires.hand c.in-Ordinary.is c.of-kind.ensures.kind c.of-kind.ensures.number _
+    c.from_residual.result c.from_residual.ensures.1
+    c.in_err-clear-in-Ordinary.ensures.refusals.first in search rules
 
 pub returns-in_err-clear_uncounted-in-Reserved-clause-does : goal.returns-in_err-clear_uncounted-in-Reserved-clause-does
-returns-in_err-clear_uncounted-in-Reserved-clause-does g c = let at = placed c.args.self.now c.args.hand.now c.args.tag
-    c.of-kind.result Reserved c.requires.hand c.in-Reserved.is c.of-kind.ensures.kind c.of-kind.ensures.number in record {
-      refusals = refused_at c.args.self.now c.args.hand.now c.args.tag _ Reserved c.requires.hand at _ c.from_residual-in_err-clear_uncounted-in-Reserved.result
-          c.from_residual-in_err-clear_uncounted-in-Reserved.ensures.1 c.in_err-clear_uncounted-in-Reserved.ensures.refusals.first _ (search rules);
-      clears = search rules;
-      counts = search rules;
-      tells = search rules;
-      bound = search rules;
-    }
+returns-in_err-clear_uncounted-in-Reserved-clause-does g c = let first = refused_at c.args.self.now c.args.hand.now c.args.tag
+    c.of-kind.result Reserved c.requires.hand c.in-Reserved.is c.of-kind.ensures.kind c.of-kind.ensures.number _
+    c.from_residual-in_err-clear_uncounted-in-Reserved.result c.from_residual-in_err-clear_uncounted-in-Reserved.ensures.1
+    c.in_err-clear_uncounted-in-Reserved.ensures.refusals.first in search rules

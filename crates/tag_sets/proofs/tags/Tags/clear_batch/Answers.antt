@@ -1,19 +1,14 @@
 -- The list's numbers correspond one to one to its tags, so what the ordinary set answers for them holds of the tags.
 use Rattle.std.proofs.Common.{rules, refl}
+use Rattle.std.proofs.lemmas.Result.{err_from_is_err_and}
 use Rattle.tag_sets.proofs.Batching.{list_refused, list_passes, gives_back}
 use Rattle.tag_sets.proofs.tags.Tags.clear_batch.Goals as goal
 
 pub returns-in_err-clear_batch-clause-does : goal.returns-in_err-clear_batch-clause-does
-returns-in_err-clear_batch-clause-does g c = record {
-  refusals = list_refused c.args.self.now c.args.hand.now c.requires.hand c.args.tags.now _
-      (c.in-Some.ensures.ordinary.0 refl) c.in-Some.ensures.numbers _ c.from_residual.result c.from_residual.ensures.1
-      c.in_err-clear_batch.ensures.refusals.first _ (search rules);
-  gives = search rules;
-  back = search rules;
-  counts = search rules;
-  tells = search rules;
-  bound = search rules;
-}
+returns-in_err-clear_batch-clause-does g c = let first = list_refused c.args.self.now c.args.hand.now c.requires.hand
+    c.args.tags.now _ (c.in-Some.ensures.ordinary.0 refl) c.in-Some.ensures.numbers _ c.from_residual.result
+    c.from_residual.ensures.1 c.in_err-clear_batch.ensures.refusals.first in
+    let is = err_from_is_err_and c.from_residual.result c.from_residual.ensures.1 in search rules
 
 pub returns-clause-does : goal.returns-clause-does
 returns-clause-does g c = let above = c.in-Some.ensures.ordinary.0 refl in record {

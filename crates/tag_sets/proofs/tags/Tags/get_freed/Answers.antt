@@ -8,14 +8,10 @@ use Rattle.tag_sets.proofs.Getting.{number_low, gets_of}
 use Rattle.tag_sets.proofs.tags.Tags.get_freed.Goals as goal
 
 pub returns-in_default-clause-does : goal.returns-in_default-clause-does
-returns-in_default-clause-does g c = record {
-  gets = let tags = c.args.self.now in let none : c.in_ok-answer.field-0.answer ≡ None = cc in
+returns-in_default-clause-does g c = let gets = let tags = c.args.self.now in let none : c.in_ok-answer.field-0.answer ≡ None = cc in
     gets_of tags c.args.hand.now c.get_freed.new.agent c.requires.hand c.in_ok-answer.field-0.answer None
-    (ap (whole (reserved_of tags)) (sym none)) c.in_ok-answer.ensures.gets;
-  refusals = search rules;
-  left = search rules;
-  bound = search rules;
-}
+    (ap (whole (reserved_of tags)) (sym none)) c.in_ok-answer.ensures.gets in
+    search rules
 
 pub overflow_add-answer : goal.overflow_add-answer
 overflow_add-answer g c = let tags = c.args.self.now in let hand = c.args.hand.now in
@@ -26,12 +22,8 @@ overflow_add-answer g c = let tags = c.args.self.now in let hand = c.args.hand.n
     let fits = tags.fits in omega arith
 
 pub returns-clause-does : goal.returns-clause-does
-returns-clause-does g c = record {
-  gets = let tags = c.args.self.now in
+returns-clause-does g c = let gets = let tags = c.args.self.now in
     gets_of tags c.args.hand.now c.get_freed.new.agent c.requires.hand c.in_ok-answer.field-0.answer
     (Some (reserved_of tags + c.in-Some.number))
-    (ap (whole (reserved_of tags)) (sym c.in-Some.is)) c.in_ok-answer.ensures.gets;
-  refusals = search rules;
-  left = search rules;
-  bound = search rules;
-}
+    (ap (whole (reserved_of tags)) (sym c.in-Some.is)) c.in_ok-answer.ensures.gets in
+    search rules

@@ -8,15 +8,11 @@ use Rattle.tag_sets.proofs.Getting.{shallow_low, shallow_of}
 use Rattle.tag_sets.proofs.tags.Tags.get_shallow_freed.Goals as goal
 
 pub returns-in_default-clause-does : goal.returns-in_default-clause-does
-returns-in_default-clause-does g c = record {
-  gets = let tags = c.args.self.now in let none : c.in_ok-answer.field-0.answer ≡ None = cc in
+returns-in_default-clause-does g c = let gets = let tags = c.args.self.now in let none : c.in_ok-answer.field-0.answer ≡ None = cc in
     shallow_of tags c.args.hand.now c.get_shallow_freed.new.agent c.requires.hand c.args.depth c.in_ok-answer.field-0.answer None
     (ap (whole (reserved_of tags)) (sym none))
-    c.in_ok-answer.ensures.gets;
-  refusals = search rules;
-  left = search rules;
-  bound = search rules;
-}
+    c.in_ok-answer.ensures.gets in
+    search rules
 
 pub overflow_add-tag : goal.overflow_add-tag
 overflow_add-tag g c = let tags = c.args.self.now in let hand = c.args.hand.now in
@@ -27,12 +23,8 @@ overflow_add-tag g c = let tags = c.args.self.now in let hand = c.args.hand.now 
     let fits = tags.fits in omega arith
 
 pub returns-clause-does : goal.returns-clause-does
-returns-clause-does g c = record {
-  gets = let tags = c.args.self.now in
+returns-clause-does g c = let gets = let tags = c.args.self.now in
     shallow_of tags c.args.hand.now c.get_shallow_freed.new.agent c.requires.hand c.args.depth c.in_ok-answer.field-0.answer
     (Some (reserved_of tags + c.in-Some.number))
-    (ap (whole (reserved_of tags)) (sym c.in-Some.is)) c.in_ok-answer.ensures.gets;
-  refusals = search rules;
-  left = search rules;
-  bound = search rules;
-}
+    (ap (whole (reserved_of tags)) (sym c.in-Some.is)) c.in_ok-answer.ensures.gets in
+    search rules

@@ -25,17 +25,13 @@ returns-in_ok-post-in-Reserved-clause-does g c = record {
 }
 
 pub returns-in_err-post-in-Ordinary-clause-does : goal.returns-in_err-post-in-Ordinary-clause-does
-returns-in_err-post-in-Ordinary-clause-does g c = let at = placed c.args.self.now c.args.hand.now c.args.tag
-    c.of-kind.result Ordinary c.requires.hand c.in-Ordinary.is c.of-kind.ensures.kind c.of-kind.ensures.number in record {
-      refusals = refused_at c.args.self.now c.args.hand.now c.args.tag _ Ordinary c.requires.hand at _ c.from_residual.result
-          c.from_residual.ensures.1 c.in_err-post-in-Ordinary.ensures.refusals.first _ (search rules);
-      posts = search rules;
-    }
+returns-in_err-post-in-Ordinary-clause-does g c = let first = refused_at c.args.self.now c.args.hand.now c.args.tag
+    c.of-kind.result Ordinary c.requires.hand c.in-Ordinary.is c.of-kind.ensures.kind c.of-kind.ensures.number _
+    c.from_residual.result c.from_residual.ensures.1
+    c.in_err-post-in-Ordinary.ensures.refusals.first in search rules
 
 pub returns-in_err-post-in-Reserved-clause-does : goal.returns-in_err-post-in-Reserved-clause-does
-returns-in_err-post-in-Reserved-clause-does g c = let at = placed c.args.self.now c.args.hand.now c.args.tag
-    c.of-kind.result Reserved c.requires.hand c.in-Reserved.is c.of-kind.ensures.kind c.of-kind.ensures.number in record {
-      refusals = refused_at c.args.self.now c.args.hand.now c.args.tag _ Reserved c.requires.hand at _ c.from_residual-in_err-post-in-Reserved.result
-          c.from_residual-in_err-post-in-Reserved.ensures.1 c.in_err-post-in-Reserved.ensures.refusals.first _ (search rules);
-      posts = search rules;
-    }
+returns-in_err-post-in-Reserved-clause-does g c = let first = refused_at c.args.self.now c.args.hand.now c.args.tag
+    c.of-kind.result Reserved c.requires.hand c.in-Reserved.is c.of-kind.ensures.kind c.of-kind.ensures.number _
+    c.from_residual-in_err-post-in-Reserved.result c.from_residual-in_err-post-in-Reserved.ensures.1
+    c.in_err-post-in-Reserved.ensures.refusals.first in search rules

@@ -7,15 +7,12 @@ use Rattle.tag_sets.proofs.Passing.{placed, takes_at, refuses_at}
 use Rattle.tag_sets.proofs.tags.Tags.take.Goals as goal
 
 pub returns-in_ok-take-in-Ordinary-clause-does : goal.returns-in_ok-take-in-Ordinary-clause-does
-returns-in_ok-take-in-Ordinary-clause-does g c = record {
-  takes = let hand = c.args.hand.now in
+returns-in_ok-take-in-Ordinary-clause-does g c = let takes = let hand = c.args.hand.now in
     let new = record hand { ordinary = c.take.new.agent } in
     let at = placed c.args.self.now hand c.args.tag c.of-kind.result Ordinary c.requires.hand c.in-Ordinary.is
     c.of-kind.ensures.kind c.of-kind.ensures.number in
-    takes_at hand new Ordinary _ c.args.tag at refl refl c.in_ok-take-in-Ordinary.ensures.takes;
-  no_such_tag = search rules;
-  refuses = search rules;
-}
+    takes_at hand new Ordinary _ c.args.tag at refl refl c.in_ok-take-in-Ordinary.ensures.takes in
+    search rules
 
 pub returns-in_err-take-in-Ordinary-clause-does : goal.returns-in_err-take-in-Ordinary-clause-does
 returns-in_err-take-in-Ordinary-clause-does g c = record {
@@ -31,15 +28,12 @@ returns-in_err-take-in-Ordinary-clause-does g c = record {
 }
 
 pub returns-in_ok-take-in-Reserved-clause-does : goal.returns-in_ok-take-in-Reserved-clause-does
-returns-in_ok-take-in-Reserved-clause-does g c = record {
-  takes = let hand = c.args.hand.now in
+returns-in_ok-take-in-Reserved-clause-does g c = let takes = let hand = c.args.hand.now in
     let new = record hand { reserved = c.take-in-Reserved.new.agent } in
     let at = placed c.args.self.now hand c.args.tag c.of-kind.result Reserved c.requires.hand c.in-Reserved.is
     c.of-kind.ensures.kind c.of-kind.ensures.number in
-    takes_at hand new Reserved _ c.args.tag at refl refl c.in_ok-take-in-Reserved.ensures.takes;
-  no_such_tag = search rules;
-  refuses = search rules;
-}
+    takes_at hand new Reserved _ c.args.tag at refl refl c.in_ok-take-in-Reserved.ensures.takes in
+    search rules
 
 pub returns-in_err-take-in-Reserved-clause-does : goal.returns-in_err-take-in-Reserved-clause-does
 returns-in_err-take-in-Reserved-clause-does g c = record {

@@ -5,41 +5,29 @@ use Rattle.tag_sets.proofs.Passing.{placed, refused_at, writes_at}
 use Rattle.tag_sets.proofs.tags.Tags.write.Goals as goal
 
 pub returns-in_ok-write-in-Ordinary-clause-does : goal.returns-in_ok-write-in-Ordinary-clause-does
-returns-in_ok-write-in-Ordinary-clause-does g c = record {
-  writes = let hand = c.args.hand.now in
+returns-in_ok-write-in-Ordinary-clause-does g c = let writes = let hand = c.args.hand.now in
     let new = record hand { ordinary = c.write.new.agent } in
     let at = placed c.args.self.now hand c.args.tag c.of-kind.result Ordinary c.requires.hand c.in-Ordinary.is
     c.of-kind.ensures.kind c.of-kind.ensures.number in
-    writes_at hand new Ordinary _ c.args.tag at refl refl c.args.value c.in_ok-write-in-Ordinary.ensures.writes;
-  refusals = search rules;
-  former = search rules;
-}
+    writes_at hand new Ordinary _ c.args.tag at refl refl c.args.value c.in_ok-write-in-Ordinary.ensures.writes in
+    search rules
 
 pub returns-in_ok-write-in-Reserved-clause-does : goal.returns-in_ok-write-in-Reserved-clause-does
-returns-in_ok-write-in-Reserved-clause-does g c = record {
-  writes = let hand = c.args.hand.now in
+returns-in_ok-write-in-Reserved-clause-does g c = let writes = let hand = c.args.hand.now in
     let new = record hand { reserved = c.write-in-Reserved.new.agent } in
     let at = placed c.args.self.now hand c.args.tag c.of-kind.result Reserved c.requires.hand c.in-Reserved.is
     c.of-kind.ensures.kind c.of-kind.ensures.number in
-    writes_at hand new Reserved _ c.args.tag at refl refl c.args.value c.in_ok-write-in-Reserved.ensures.writes;
-  refusals = search rules;
-  former = search rules;
-}
+    writes_at hand new Reserved _ c.args.tag at refl refl c.args.value c.in_ok-write-in-Reserved.ensures.writes in
+    search rules
 
 pub returns-in_err-write-in-Ordinary-clause-does : goal.returns-in_err-write-in-Ordinary-clause-does
-returns-in_err-write-in-Ordinary-clause-does g c = let at = placed c.args.self.now c.args.hand.now c.args.tag
-    c.of-kind.result Ordinary c.requires.hand c.in-Ordinary.is c.of-kind.ensures.kind c.of-kind.ensures.number in record {
-      refusals = refused_at c.args.self.now c.args.hand.now c.args.tag _ Ordinary c.requires.hand at _ c.from_residual.result
-          c.from_residual.ensures.1 c.in_err-write-in-Ordinary.ensures.refusals.first _ (search rules);
-      former = search rules;
-      writes = search rules;
-    }
+returns-in_err-write-in-Ordinary-clause-does g c = let first = refused_at c.args.self.now c.args.hand.now c.args.tag
+    c.of-kind.result Ordinary c.requires.hand c.in-Ordinary.is c.of-kind.ensures.kind c.of-kind.ensures.number _
+    c.from_residual.result c.from_residual.ensures.1
+    c.in_err-write-in-Ordinary.ensures.refusals.first in search rules
 
 pub returns-in_err-write-in-Reserved-clause-does : goal.returns-in_err-write-in-Reserved-clause-does
-returns-in_err-write-in-Reserved-clause-does g c = let at = placed c.args.self.now c.args.hand.now c.args.tag
-    c.of-kind.result Reserved c.requires.hand c.in-Reserved.is c.of-kind.ensures.kind c.of-kind.ensures.number in record {
-      refusals = refused_at c.args.self.now c.args.hand.now c.args.tag _ Reserved c.requires.hand at _ c.from_residual-in_err-write-in-Reserved.result
-          c.from_residual-in_err-write-in-Reserved.ensures.1 c.in_err-write-in-Reserved.ensures.refusals.first _ (search rules);
-      former = search rules;
-      writes = search rules;
-    }
+returns-in_err-write-in-Reserved-clause-does g c = let first = refused_at c.args.self.now c.args.hand.now c.args.tag
+    c.of-kind.result Reserved c.requires.hand c.in-Reserved.is c.of-kind.ensures.kind c.of-kind.ensures.number _
+    c.from_residual-in_err-write-in-Reserved.result c.from_residual-in_err-write-in-Reserved.ensures.1
+    c.in_err-write-in-Reserved.ensures.refusals.first in search rules
