@@ -12,16 +12,16 @@ keep_or_give_back-requires-clause-aimed g c =
     inl (lent_within c.args.self.now c.args.tag (c.lends.ensures.0 c.if-lends.true))
 
 pub returns-then-lends-clause-less : goal.returns-then-lends-clause-less
-returns-then-lends-clause-less g c = (cleared c.args.tags.now c.args.tag c.args.self.now c.keep_or_give_back.new.self _ c.requires
-    (c.lends.ensures.0 c.if-lends.true) c.keep_or_give_back.ensures.way).less
+returns-then-lends-clause-less g c = (cleared c.args.tags.now c.args.tag c.args.self.now
+    c.keep_or_give_back.new.self _ c.requires (c.lends.ensures.0 c.if-lends.true) c.keep_or_give_back.ensures.way).less
 
 pub returns-then-lends-clause-way : goal.returns-then-lends-clause-way
-returns-then-lends-clause-way g c = (cleared c.args.tags.now c.args.tag c.args.self.now c.keep_or_give_back.new.self _ c.requires
-    (c.lends.ensures.0 c.if-lends.true) c.keep_or_give_back.ensures.way).way
+returns-then-lends-clause-way g c = (cleared c.args.tags.now c.args.tag c.args.self.now
+    c.keep_or_give_back.new.self _ c.requires (c.lends.ensures.0 c.if-lends.true) c.keep_or_give_back.ensures.way).way
 
 pub returns-then-lends-clause-tally : goal.returns-then-lends-clause-tally
-returns-then-lends-clause-tally g c = (cleared c.args.tags.now c.args.tag c.args.self.now c.keep_or_give_back.new.self _ c.requires
-    (c.lends.ensures.0 c.if-lends.true) c.keep_or_give_back.ensures.way).tally
+returns-then-lends-clause-tally g c = (cleared c.args.tags.now c.args.tag c.args.self.now
+    c.keep_or_give_back.new.self _ c.requires (c.lends.ensures.0 c.if-lends.true) c.keep_or_give_back.ensures.way).tally
 
 pub returns-clause-less : goal.returns-clause-less
 returns-clause-less g c = less_on c.args.tags.now c.args.tag c.args.self.now c.clear_other.new.self
