@@ -43,7 +43,8 @@ returns-then-goes_on g c = let old = c.args.self.now in let mid = c.goes_on.new.
 
 pub give_back_kept_and_mask-requires-clause-left : goal.give_back_kept_and_mask-requires-clause-left
 give_back_kept_and_mask-requires-clause-left g c = left_still (tags_in c.args.first c.args.mask) c.args.self.now
-    c.goes_on.new.self (c.goes_on.ensures.ends c.if-goes_on.false).fields c.lent_outside-left.result c.lent_outside-left.ensures
+    c.goes_on.new.self (c.goes_on.ensures.ends c.if-goes_on.false).fields c.lent_outside-left.result
+    c.lent_outside-left.ensures
 
 pub give_back_kept_and_mask-requires-clause-held : goal.give_back_kept_and_mask-requires-clause-held
 give_back_kept_and_mask-requires-clause-held g c = let old = c.args.self.now in let mid = c.goes_on.new.self in
