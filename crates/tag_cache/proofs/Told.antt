@@ -1,5 +1,5 @@
 -- What becomes of tags that go back, if it is then told whom that granted a wakeup.
-use Rattle.std.proofs.Common.{arith, ◌≡◌, ℕ, ◌+◌, ◌≤◌, ◌<◌, List, inl, inr, refl, sym, ◌∙◌, subst, ⊎_elim}
+use Rattle.std.proofs.Common.{arith, ◌≡◌, ℕ, ◌+◌, ◌≤◌, ◌<◌, List, inl, inr, sym, ◌∙◌, subst, ⊎_elim}
 use Rattle.std.proofs.lemmas.Bool.{cases_lt}
 use Rattle.tag_sets.specs.declared.hand.Hand.{Hand}
 use Rattle.tag_sets.specs.declared.tags.Tags.{Tags}
@@ -13,27 +13,10 @@ use Rattle.tag_cache.specs.Holding.{HoldsLess, HoldsSame}
 use Rattle.tag_cache.specs.Rings.{MakesNoStep}
 use Rattle.tag_cache.specs.Same.{SameTags}
 use Rattle.tag_cache.specs.Waits.{Enters}
-use Rattle.tag_cache.proofs.Carrying.{keeps_twice, none_after, same_fields, terms_twice}
-use Rattle.tag_cache.proofs.Looking.{same_window}
-use Rattle.tag_cache.proofs.Steady.{rests_unchanged, same_tags}
+use Rattle.tag_cache.proofs.Carrying.{keeps_twice, none_after, terms_twice}
 use Rattle.tag_cache.proofs.Telling.{reserved_woken, one_still, list_still, kept_still, hand_enters_still}
 
 module _ {R : Type 0} where
-  -- a cache that is as it was
-  pub made_no_step : (hand : Hand R) → MakesNoStep hand hand
-  made_no_step hand = record {
-    steps = refl;
-    counts = refl;
-    stays = record {
-      same = record { kept = λ tag h. (h, refl); none_else = λ tag h. h };
-      set = record { changed = (refl, refl, (refl, refl, refl)); other = refl; split = refl };
-    };
-  }
-
-  pub as_before : (cache : Cache R) → SameTags cache cache
-  as_before cache = same_tags cache cache (same_fields cache cache refl refl refl refl refl)
-      (same_window cache cache refl refl) (rests_unchanged cache.hand cache.hand refl)
-
   -- the user holds less, and nothing changed since
   pub less_same : (named : ℕ → Type 0) (a b c : Cache R) → HoldsLess named a b → HoldsSame b c → HoldsLess named a c
   less_same named a b c l s = record {
@@ -50,7 +33,7 @@ pub record HasTold {R : Type 0} (woken : ℕ) (mid new : Cache R) : Type 0 where
 
 module _ {R : Type 0} (woken : ℕ) (mid new : Cache R) (r : HasTold woken mid new) where
   -- what is so of a cache that told of nobody, and of one that told of some
-  pub either : (P : Cache R → Type 0) → P mid → (1 ≤ woken → P mid → P new) → P new
+  either : (P : Cache R → Type 0) → P mid → (1 ≤ woken → P mid → P new) → P new
   either P before after = ⊎_elim
       (λ (none : woken < 1). subst P (sym (r.none (omega arith))) before)
       (λ (some : 1 ≤ woken). after some before) (cases_lt woken 1)

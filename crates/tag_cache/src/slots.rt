@@ -77,9 +77,9 @@ impl<R: Copy> Cache<R> {
     }
 
     /// Gives up a tag that the user holds with its slot, so that another thread can `take` it. If tags are kept only
-    /// while the user holds one, and this is the last that it is known to hold, all kept tags go back first; it answers as
-    /// `W` says whom they granted a wakeup. `NoSuchTag` means that the number is not below the total, `NotHeld` that the
-    /// user does not hold the tag, as where it is kept; nothing changes then.
+    /// while the user holds one, and this is the last that it is known to hold, all kept tags go back first; it answers
+    /// as `W` says whom they granted a wakeup. `NoSuchTag` means that the number is not below the total, `NotHeld` that
+    /// the user does not hold the tag, as where it is kept; nothing changes then.
     #[inline]
     pub fn post<W: Waking>(&mut self, tags: &Tags<R>, tag: u32) -> Result<W::Answer, TagFault>
         requires { IsCacheOf tags.now self.old }

@@ -12,8 +12,8 @@ use crate::cache::Cache;
 use tag_sets::{Grants, Tags, Waking};
 
 impl<R: Copy> Cache<R> {
-    /// Passes grants on as `W` does, and answers as it says: with `Ring`, it wakes a sleeper for each grant, in its group.
-    /// The grants of a call are passed to it once. This makes no step, and changes nothing if there are none.
+    /// Passes grants on as `W` does, and answers as it says: with `Ring`, it wakes a sleeper for each grant, in its
+    /// group. The grants of a call are passed to it once. This makes no step, and changes nothing if there are none.
     #[inline]
     pub fn tell<W: Waking>(&mut self, tags: &Tags<R>, grants: Grants) -> W::Answer
         requires { IsCacheOf tags.now self.old }

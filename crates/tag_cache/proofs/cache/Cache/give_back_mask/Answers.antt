@@ -30,7 +30,8 @@ invariant_of-self-clause-knows g c = let mid = c.goes_on.new.self in let e = c.c
 
 pub returns-then-goes_on : goal.returns-then-goes_on
 returns-then-goes_on g c = let old = c.args.self.now in let mid = c.goes_on.new.self in
-    let list = tags_in c.args.first c.args.mask in let left = c.known_outside-left in let on = c.goes_on.ensures.on c.if-goes_on.true in
+    let list = tags_in c.args.first c.args.mask in let left = c.known_outside-left in
+    let on = c.goes_on.ensures.on c.if-goes_on.true in
     let e = c.clear_mask_held.ensures in record {
       cache = e.hand;
       way = goes_alone c.args.tags.now list left.result old left.type_inv left.ensures _ mid _ on
@@ -41,8 +42,9 @@ returns-then-goes_on g c = let old = c.args.self.now in let mid = c.goes_on.new.
     }
 
 pub give_back_kept_and_mask-requires-clause-left : goal.give_back_kept_and_mask-requires-clause-left
-give_back_kept_and_mask-requires-clause-left g c = left_still (tags_in c.args.first c.args.mask) c.args.self.now c.goes_on.new.self
-    (c.goes_on.ensures.ends c.if-goes_on.false).fields c.known_outside-left.result c.known_outside-left.ensures
+give_back_kept_and_mask-requires-clause-left g c = left_still (tags_in c.args.first c.args.mask) c.args.self.now
+    c.goes_on.new.self (c.goes_on.ensures.ends c.if-goes_on.false).fields c.known_outside-left.result
+    c.known_outside-left.ensures
 
 pub give_back_kept_and_mask-requires-clause-held : goal.give_back_kept_and_mask-requires-clause-held
 give_back_kept_and_mask-requires-clause-held g c = let old = c.args.self.now in let mid = c.goes_on.new.self in
