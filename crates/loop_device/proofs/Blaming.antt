@@ -1,5 +1,5 @@
 -- What a play reports where it fails.
-use Rattle.std.proofs.Common.{◌≡◌, ℕ, zero, suc, ◌<◌, false, List, [], ◌∷◌, Result, Ok, Err, IfOk, IfErr, OnOk, length, map, get_or, inl, inr, refl, sym, subst, arith}
+use Rattle.std.proofs.Common.{◌≡◌, ℕ, zero, suc, ◌<◌, false, List, [], ◌∷◌, Result, Ok, Err, IfOk, IfErr, OnOk, length, map, get_or, inr, refl, sym, subst, arith}
 use Rattle.std.specs.List.{Contains}
 use Rattle.std.proofs.lemmas.List.Elements.{Contains-append_right}
 use Rattle.std.proofs.lemmas.List.{length-map}
@@ -12,6 +12,7 @@ use Rattle.loop_device.specs.declared.io.Io.{Io}
 use Rattle.loop_device.specs.declared.io.Done.{Done}
 use Rattle.loop_device.specs.declared.fault.PlayFault.{PlayFault}
 use Rattle.loop_device.specs.declared.fault.PlayFault.TheVariants.{Memory, Setup, Lost, Twice, Spurious}
+use Rattle.loop_device.specs.declared.fault.PlayFault.TheVariants as variants
 use Rattle.loop_device.specs.declared.report.Report.{Report}
 use Rattle.loop_device.specs.declared.setup.Setup.{Setup as Asked}
 use Rattle.loop_device.specs.declared.workers.Faults.{Faults}
@@ -29,7 +30,8 @@ passed_on ios done totals faults Memory none tells = tt
 passed_on ios done totals faults Setup none tells = tells
 passed_on ios done totals faults (Lost line) none tells = (none, tells)
 passed_on ios done totals faults (Twice line) none tells = (none, tells)
-passed_on ios done totals faults Spurious none tells = record { memory = none.memory; cause = inr (inl tells) }
+passed_on ios done totals faults Spurious none tells = record { memory = none.memory; cause = inr tells }
+passed_on ios done totals faults variants.Totals none tells = absurd tells
 
 -- a number that is among those of the lines is the number of one
 line_among : (ios : List Io) (k line : ℕ) → k < length ios → get_or (map (λ (io : Io). io.line) ios) k line ≡ line
@@ -51,6 +53,7 @@ names_line ios done totals faults Setup is = tt
 names_line ios done totals faults (Lost line) is = named ios line is.1.among
 names_line ios done totals faults (Twice line) is = named ios line is.1.among
 names_line ios done totals faults Spurious is = tt
+names_line ios done totals faults variants.Totals is = tt
 
 pub names_lines : (ios : List Io) (done : List Done) (totals : Totals) (faults : Faults) (r : Result Report PlayFault)
     → IfErr r (IsJudged ios done totals faults) → IfErr r (NamesLine ios)
@@ -94,6 +97,7 @@ module _ (setup : Asked) (ios : List Io) (done : List Done) (totals : Totals) (f
   seen lawful (Lost line) is = seen_by lawful (Lost line) is.0.memory is
   seen lawful (Twice line) is = seen_by lawful (Twice line) is.0.memory is
   seen lawful Spurious is = seen_by lawful Spurious is.memory is
+  seen lawful variants.Totals is = seen_by lawful variants.Totals is.0.memory is
 
   pub says_seen : IsHistory done → (r : Result Report PlayFault) → IfErr r (IsJudged ios done totals faults)
       → IfErr r (SaysSeen setup ios)

@@ -3,6 +3,7 @@ use Rattle.std.specs.Prelude.{◌≡◌, ◌≢◌, ◌⊎◌, true, false, List
 use Rattle.tag_model.specs.declared.totals.Totals.{Totals}
 use Rattle.loop_device.specs.declared.fault.PlayFault.{PlayFault}
 use Rattle.loop_device.specs.declared.fault.PlayFault.TheVariants.{Memory, Setup, Lost, Twice, Spurious}
+use Rattle.loop_device.specs.declared.fault.PlayFault.TheVariants as variants
 use Rattle.loop_device.specs.declared.io.Done.{Done}
 use Rattle.loop_device.specs.declared.io.Io.{Io}
 use Rattle.loop_device.specs.declared.report.Report.{Report}
@@ -26,18 +27,20 @@ pub record IsClean (faults : Faults) : Type 0 where
   pub memory : faults.memory ≡ false
   pub spurious : faults.spurious ≡ false
 
--- no thread ran out of memory, and one met a spurious completion, the items are not all of the log, or the totals do not fit it
-pub record IsSpurious (ios : List Io) (done : List Done) (totals : Totals) (faults : Faults) : Type 0 where
+-- no thread ran out of memory, and one met a spurious completion or the items are not all of the log
+pub record IsSpurious (ios : List Io) (done : List Done) (faults : Faults) : Type 0 where
   pub memory : faults.memory ≡ false
-  pub cause : (faults.spurious ≡ true) ⊎ (¬ (AreOfLog ios done)) ⊎ (CarriesEachOnce ios done × (totals ≢ totals_of ios))
+  pub cause : (faults.spurious ≡ true) ⊎ ¬ (AreOfLog ios done)
 
--- what the fault says of the play: of several faults the first in the order Memory, Spurious, Twice, Lost
+-- what the fault says of the play: of several faults the first in the order Memory, Spurious, Twice, Lost, Totals
 abbrev pub IsJudged : List Io → List Done → Totals → Faults → PlayFault → Type 0
 IsJudged ios done totals faults Memory = Unit {0}
 IsJudged ios done totals faults Setup = ⊥
 IsJudged ios done totals faults (Lost line) = IsClean faults × IsLost ios done line
 IsJudged ios done totals faults (Twice line) = IsClean faults × IsTwice ios done line
-IsJudged ios done totals faults Spurious = IsSpurious ios done totals faults
+IsJudged ios done totals faults Spurious = IsSpurious ios done faults
+IsJudged ios done totals faults variants.Totals =
+    IsClean faults × CarriesEachOnce ios done × (totals ≢ totals_of ios)
 
 -- a line that the fault names is an I/O line of the log
 abbrev pub NamesLine : List Io → PlayFault → Type 0
@@ -46,3 +49,4 @@ NamesLine ios Setup = Unit {0}
 NamesLine ios (Lost line) = IsLineOf ios line
 NamesLine ios (Twice line) = IsLineOf ios line
 NamesLine ios Spurious = Unit {0}
+NamesLine ios variants.Totals = Unit {0}

@@ -8,7 +8,7 @@ use Rattle.tag_sets.specs.Slots.{Reads, Takes, Misses}
 use Rattle.tag_sets.specs.Clears.{Clears}
 use Rattle.loop_device.specs.declared.io.Io.{Io}
 use Rattle.loop_device.specs.declared.fault.PlayFault.{PlayFault}
-use Rattle.loop_device.specs.declared.fault.PlayFault.TheVariants.{Memory, Setup, Lost, Twice, Spurious}
+use Rattle.loop_device.specs.declared.fault.PlayFault.TheVariants.{Memory, Setup, Lost, Twice, Spurious, Totals}
 
 -- some I/O line of the log has this number
 abbrev pub IsLineOf : List Io → ℕ → Type 0
@@ -34,6 +34,7 @@ IsCarryFault ios line Setup = ⊥
 IsCarryFault ios line (Lost other) = ⊥
 IsCarryFault ios line (Twice other) = ⊥
 IsCarryFault ios line Spurious = ¬ (IsLineOf ios line)
+IsCarryFault ios line Totals = ⊥
 
 -- the line in the slot was not carried out, and the tag was read and cleared all the same
 pub record EndsWithout (tags : Tags ℕ) (ios : List Io) (tag : ℕ) (fault : PlayFault) (old new : Hand ℕ) : Type 0 where

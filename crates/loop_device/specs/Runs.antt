@@ -12,6 +12,7 @@ use Rattle.tag_sets.specs.Opening.{HoldsNone}
 use Rattle.loop_device.specs.declared.device_queue.Worker.{Worker}
 use Rattle.loop_device.specs.declared.fault.PlayFault.{PlayFault}
 use Rattle.loop_device.specs.declared.fault.PlayFault.TheVariants.{Memory, Setup, Lost, Twice, Spurious}
+use Rattle.loop_device.specs.declared.fault.PlayFault.TheVariants as variants
 use Rattle.loop_device.specs.declared.io.Done.{Done}
 use Rattle.loop_device.specs.declared.io.Io.{Io}
 use Rattle.loop_device.specs.declared.setup.Setup.{Setup as Asked}
@@ -108,3 +109,4 @@ SaysSeen setup ios Setup = Unit {0}
 SaysSeen setup ios (Lost line) = IsSeen setup ios (Lost line)
 SaysSeen setup ios (Twice line) = IsSeen setup ios (Twice line)
 SaysSeen setup ios Spurious = IsSeen setup ios Spurious
+SaysSeen setup ios variants.Totals = IsSeen setup ios variants.Totals

@@ -1,11 +1,13 @@
 -- What a submitter does with its lines.
-use Rattle.std.specs.Prelude.{◌≡◌, ◌==◌, ◌%◌, ◌<◌, ◌⊎◌, ℕ, false, List, map, filter, Result, Ok, Err, None}
+use Rattle.std.specs.Prelude.{◌≡◌, ◌==◌, ◌%◌, ◌⊎◌, ℕ, false, List, map, filter, Result, Ok, Err}
 use Rattle.std.specs.List.{enumerate_from}
+use Rattle.refusals.specs.Refusals.{FailsFirst}
+use Rattle.tag_sets.specs.declared.fault.TagFault.{TagFault}
 use Rattle.tag_sets.specs.declared.hand.Hand.{Hand}
-use Rattle.tag_sets.specs.declared.kind.Kind.TheVariants.{Ordinary}
 use Rattle.tag_sets.specs.declared.tags.Tags.{Tags}
 use Rattle.tag_sets.specs.Gets.{BlockingGets}
-use Rattle.tag_sets.specs.Hands.{total_of, reserved_of, standing_of, HasRoom}
+use Rattle.tag_sets.specs.Hands.{total_of}
+use Rattle.tag_sets.specs.Refusals.{blocking_checks}
 use Rattle.tag_sets.specs.Slots.{Writes, Posts}
 use Rattle.loop_device.specs.declared.device_queue.Worker.{Worker}
 use Rattle.loop_device.specs.declared.fault.PlayFault.{PlayFault}
@@ -19,10 +21,6 @@ use Rattle.loop_device.specs.Working.{State, noted, TakesTurns}
 abbrev pub share_of : ℕ → ℕ → List Io → List ℕ
 share_of number submitters ios =
     map (λ entry. entry.1.line) (filter (λ entry. entry.0 % submitters == number) (enumerate_from 0 ios))
-
--- a blocking get of the hand is not refused
-abbrev pub CanBlock : Tags ℕ → Hand ℕ → Type 0
-CanBlock tags hand = (reserved_of tags < total_of tags) × (standing_of hand ≡ None) × HasRoom hand Ordinary 1
 
 -- the hand took a free ordinary tag, wrote the line into its slot, and posted it
 pub record PostsLine (tags : Tags ℕ) (line tag : ℕ) (old new : Hand ℕ) : Type 0 where
@@ -50,10 +48,11 @@ pub record EndsItself (tags : Tags ℕ) (room : ℕ) (ios : List Io) (line : ℕ
   pub ends : Ends tags ios tag done posted new
   pub same : after ≡ before
 
--- no tag could be taken for the line: there is no ordinary one, the hand was in a wait group, or its life was spent
+-- no tag could be taken for the line, since a blocking get is refused, and its fault is that of the first check that fails
 pub record TakesNone (tags : Tags ℕ) (line : ℕ) (done : Result ℕ PlayFault) (before after : Worker)
     (old new : Hand ℕ) : Type 0 where
-  pub refused : ¬ CanBlock tags old
+  pub fault : TagFault
+  pub refused : FailsFirst (blocking_checks tags old) fault
   pub same : after ≡ before
   pub same_hand : new ≡ old
   pub is_lost : done ≡ Err (Lost line)

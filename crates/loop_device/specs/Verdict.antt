@@ -4,7 +4,7 @@ use Rattle.std.specs.List.{All, Contains, count_by}
 use Rattle.loop_device.specs.declared.io.Io.{Io}
 use Rattle.loop_device.specs.declared.io.Done.{Done}
 use Rattle.loop_device.specs.declared.fault.PlayFault.{PlayFault}
-use Rattle.loop_device.specs.declared.fault.PlayFault.TheVariants.{Memory, Setup, Lost, Twice, Spurious}
+use Rattle.loop_device.specs.declared.fault.PlayFault.TheVariants.{Memory, Setup, Lost, Twice, Spurious, Totals}
 
 -- each item that was carried out is an I/O line of the log
 abbrev pub AreOfLog : List Io → List Done → Type 0
@@ -41,3 +41,4 @@ IsPlayFault ios done Setup = ⊥
 IsPlayFault ios done (Lost line) = IsLost ios done line
 IsPlayFault ios done (Twice line) = IsTwice ios done line
 IsPlayFault ios done Spurious = ¬ (AreOfLog ios done)
+IsPlayFault ios done Totals = ⊥

@@ -3,7 +3,7 @@ use Rattle.std.specs.Prelude.{◌≡◌, ◌||◌, ℕ, true, false, List, [], �
 use Rattle.tag_sets.specs.declared.hand.Hand.{Hand}
 use Rattle.loop_device.specs.declared.device_queue.Worker.{Worker}
 use Rattle.loop_device.specs.declared.fault.PlayFault.{PlayFault}
-use Rattle.loop_device.specs.declared.fault.PlayFault.TheVariants.{Memory, Setup, Lost, Twice, Spurious}
+use Rattle.loop_device.specs.declared.fault.PlayFault.TheVariants.{Memory, Setup, Lost, Twice, Spurious, Totals}
 use Rattle.loop_device.specs.declared.workers.Faults.{Faults}
 use Rattle.loop_device.specs.declared.workers.Worked.{Worked}
 
@@ -40,6 +40,7 @@ noted faults (Err Setup) = faults
 noted faults (Err (Lost line)) = faults
 noted faults (Err (Twice line)) = faults
 noted faults (Err Spurious) = record faults { spurious = true }
+noted faults (Err Totals) = faults
 
 -- one turn for each of these, one after another, and nothing else
 abbrev pub TakesTurns : {A : Type 0} → (A → State → State → Type 0) → List A → State → State → Type 0

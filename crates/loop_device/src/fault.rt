@@ -153,8 +153,8 @@ impl LogFault {
     }
 }
 
-/// Why a log was not played. Of several causes the first is reported, in the order Memory, Spurious, Twice, Lost;
-/// totals that do not fit the log (Spurious) come last.
+/// Why a log was not played. Of several causes the first is reported, in the order Memory, Spurious, Twice, Lost,
+/// Totals.
 #[derive(Clone, Copy, Debug, PartialEq, Eq, Error)]
 pub enum PlayFault {
     /// Memory ran out, or a thread could not be started.
@@ -169,8 +169,10 @@ pub enum PlayFault {
     /// This line was carried out more than once; it is the least such line.
     #[error("line {0} was carried out more than once")]
     Twice(u64),
-    /// A spurious completion: of a line that is not in the log, or of a tag that was handed on but is not posted. Also
-    /// totals that do not fit the log.
+    /// A spurious completion: of a line that is not in the log, or of a tag that was handed on but is not posted.
     #[error("a line was carried out that is not in the log")]
     Spurious,
+    /// The totals are not one tag got and given back for each line.
+    #[error("the totals do not fit the log")]
+    Totals,
 }

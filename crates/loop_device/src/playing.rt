@@ -27,9 +27,9 @@ use tag_model::Totals;
 use tag_sets::{Hand, Options, Tags};
 
 /// Carries out each I/O line of the log once, in threads that share tags, and joins them all. `Setup` is reported
-/// before anything runs, and of several other faults the first in the order Memory, Spurious, Twice, Lost. Memory also
-/// means that a thread could not be started; Spurious also means (checked last) that the totals are not one tag got
-/// and given back for each line.
+/// before anything runs, and of several other faults the first in the order Memory, Spurious, Twice, Lost, Totals.
+/// Memory also means that a thread could not be started; Totals means that they are not one tag got and given back for
+/// each line.
 pub fn play<G: Gate, R: Threads + Wait + Sync>(
     rt: &R,
     alloc: Global,
@@ -140,7 +140,7 @@ fn judge(
         posted: 0,
     };
     if totals != played {
-        return Err(PlayFault::Spurious);
+        return Err(PlayFault::Totals);
     }
     Ok(Report { totals, done })
 }

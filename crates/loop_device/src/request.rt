@@ -57,13 +57,9 @@ pub(crate) fn finish<G: Gate, W: Wait>(
     ensures ok { IfOk result (λ line. EndsRequest tags.now tag line hand.old hand.new) }
     ensures fault { IfErr result (λ fault. EndsWithout tags.now log.now.ios.items tag fault hand.old hand.new) }
 {
-    let Ok(line) = tags.read(hand, tag) else {
-        unreachable!()
-    };
+    let line = tags.read_held(hand, tag);
     let carried = carry_out_by_number(rt, line, log, store, gate);
-    let Ok(_woken) = tags.clear::<Ring>(hand, tag) else {
-        unreachable!()
-    };
+    let _woken = tags.clear_held::<Ring>(hand, tag);
     match carried {
         Ok(()) => Ok(line),
         Err(fault) => Err(fault),

@@ -1,9 +1,11 @@
 //! What the threads of a play do.
-ghost use Rattle.std.specs.Prelude.{◌≡◌, ◌<◌, true, IfOk, OnErr};
+ghost use Rattle.std.specs.Prelude.{◌≡◌, ◌<◌, true, IfOk};
 ghost use Rattle.crossbeam_queue.specs.Passes.{view, IsPassOf, ruled_capacity};
+ghost use Rattle.refusals.specs.Refusals.{RefusesBy};
 ghost use Rattle.tag_sets.specs.Hands.{IsHandOf, total_of};
+ghost use Rattle.tag_sets.specs.Refusals.{blocking_checks};
 ghost use Rattle.loop_device.specs.Completing.{ServesPopped};
-ghost use Rattle.loop_device.specs.Submitting.{CanBlock, PostsLine, SubmitsAs, SubmitsShare};
+ghost use Rattle.loop_device.specs.Submitting.{PostsLine, SubmitsAs, SubmitsShare};
 ghost use Rattle.loop_device.specs.Working.{clean, added, noted, begins, ends};
 
 use crate::device::Device;
@@ -180,13 +182,10 @@ fn post_line<W: Wait>(
     ensures hand { IsHandOf tags.now hand.new }
     ensures tag { IfOk result (λ tag. tag < total_of tags.now) }
     ensures posts { IfOk result (λ tag. PostsLine tags.now line tag hand.old hand.new) }
-    ensures refused { OnErr result (¬ CanBlock tags.now hand.old) }
-    ensures err { OnErr result (hand.new ≡ hand.old) }
+    ensures refusals { RefusesBy (blocking_checks tags.now hand.old) (hand.new ≡ hand.old) result }
 {
     let tag = tags.get_blocking(rt, hand)?;
-    let Ok(_) = tags.write(hand, tag, line) else {
-        unreachable!()
-    };
+    let _former = tags.write_held(hand, tag, line);
     let Ok(()) = tags.post(hand, tag) else {
         unreachable!()
     };

@@ -2,6 +2,7 @@
 use Rattle.std.proofs.Common.{◌≡◌, ◌≢◌, ℕ, Bool, false, List, length, set, All, Result, Ok, Err, IfOk, OnErr, sym, ap, ◌∙◌, subst, length-set, arith}
 use Rattle.tag_board.proofs.Uses.{alone_sets_of_all, dite, ℕ_discrete, TagFault, Hand, Kind, Tags, hands_of, IsHandOf, number_of, total_of, reserved_of, HoldsMore, Board, AloneSets, Does, state_of, alone_sets_of, waiters_of, searchers_of, AreOrdered, state_of_all, sets_left, waiter_of, newcomer, searchers_in, nobody, waiters_of_all, searchers_of_all, Searchers, Answers, Changes, HoldsAll, NobodyHolds, NobodyElseHolds, Wins, Part, State, Waiter, Moves, MovesIf}
 use Rattle.std.proofs.lemmas.List.Elements.{All-set}
+use Rattle.refusals.specs.Refusals.{Checks, RefusesBy}
 use Rattle.tag_board.specs.Boards.{IsAlone}
 use Rattle.tag_board.proofs.Only.{AreOnly, only_hand}
 use Rattle.tag_board.proofs.Holdings.{Names, not_holds}
@@ -9,11 +10,11 @@ use Rattle.tag_board.proofs.Seats.{moved, seen_here}
 use Rattle.tag_board.proofs.AloneCalls.{Decides, first_sets}
 pub use Rattle.tag_board.proofs.Naming.{names_answer, names_one}
 pub use Rattle.tag_board.proofs.Effects.{AsBefore, Effect, low_group, none_woken}
-pub use Rattle.tag_board.proofs.Gains.{batch_gains, batch_number, Gained, get_gains, none_around, reserved_gains, shallow_gains}
+pub use Rattle.tag_board.proofs.Gains.{batch_gains, batch_number, Gained, get_gains, reserved_gains, shallow_gains}
 pub use Rattle.tag_board.proofs.Calls.{busy_does, clear_does, dump_does, enter_does, leave_does, list_does, post_does, refused_does, show_does, stay_does, take_does}
-pub use Rattle.tag_board.proofs.Outcomes.{both_ok, both_on, err_same, err_since, none_since, not_some_since, ok_map, on_map, some_since}
-pub use Rattle.tag_board.proofs.Seats.{all_rest, changes, held_here, here_held, none_here, ordered, own_here, part_here, round_here, same_state, seat, sits, Sits, spent_here, stands_here, unmoved}
-pub use Rattle.tag_board.proofs.Verdicts.{answers, IsVerdict, leave_verdict, list_verdict, may_get, may_get_batch, may_get_reserved, may_get_shallow, tag_verdict, wait_verdict}
+pub use Rattle.tag_board.proofs.Outcomes.{both_ok, both_on, ok_map, on_map}
+pub use Rattle.tag_board.proofs.Seats.{all_rest, changes, held_here, here_held, ordered, out_here, own_here, part_here, round_here, same_state, seat, sits, Sits, room_here, same_held, standing_here, unmoved}
+pub use Rattle.tag_board.proofs.Verdicts.{answers, batch_means, get_means, leave_means, list_means, Means, reserved_means, shallow_means, tag_means, wait_means}
 
 -- what a contract sees of a board
 pub record Seen : Type 0 where
@@ -108,18 +109,19 @@ module _ (b : Board) {i : ℕ} {old : Hand ℕ} (at : Sits b.hands.items i old) 
         {alone : A → AloneSets → AloneSets → Type 0} (waits : A → Waiter → Waiter → Type 0)
         {works : A → Searchers → Searchers → Type 0} (decides : (a : A) → Decides (works a) (alone a)) where
       -- a call that may be refused, which then changes nothing
-      pub replies : (r : Result A TagFault) → IsVerdict refuses r
+      pub replies : {checks : Checks TagFault} → Means checks refuses → (r : Result A TagFault)
+          → RefusesBy checks (new ≡ old) r
           → IfOk r (λ a. Effect (change a) (waits a) (works a) old new
           × (Changes i (change a) (state_of b) now.state → done a now.state))
-          → OnErr r (new ≡ old) → Replies b i refuses done alone waits works r now
-      replies (Ok a) verdict d e = let to = effect_on (decides a) d.0 in record {
-        answers = answers refuses (λ a. done a now.state) (state_of b) now.state (Ok a) verdict (d.1 to.changes) tt;
+          → Replies b i refuses done alone waits works r now
+      replies m (Ok a) by d = let to = effect_on (decides a) d.0 in record {
+        answers = answers m (λ a. done a now.state) (state_of b) now.state (Ok a) by (d.1 to.changes) tt;
         alone = to.alone;
         waiters = to.waiters;
         searches = to.searches;
       }
-      replies (Err fault) verdict d e = let same = unmoved b.tags at e in record {
-        answers = answers refuses (λ a. done a now.state) (state_of b) now.state (Err fault) verdict tt
+      replies m (Err fault) by d = let same = unmoved b.tags at by.same in record {
+        answers = answers m (λ a. done a now.state) (state_of b) now.state (Err fault) by tt
             (ap (state_of_all b.tags) same);
         alone = λ one. ap alone_sets_of_all same;
         waiters = ap waiters_of_all same;

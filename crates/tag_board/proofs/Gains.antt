@@ -1,12 +1,12 @@
 -- What each get does to the hand that makes it.
-use Rattle.std.proofs.Common.{◌≡◌, ℕ, [], ◌+◌, true, false, List, Bool, Option, Some, None, Result, Ok, Err, IfOk, ◌↔◌, inl, ⊎_elim, refl, sym, ap, ◌∙◌, subst, arith}
-use Rattle.tag_board.proofs.Uses.{cases_Bool, Found, Layout, or_false, count_of, count_of_run, Visit, TagFault, BadCount, Hand, Kind, Ordinary, Reserved, Tags, IsHandOf, number_of, agent_of, reserved_of, layout_of, hint_of, HoldsMore, other_kind, searcher_of, holds, part_of, searchers_in, state_of_all, waiter_of, IsOf, Searcher, Searchers, FindsTag, FindsRun, plainly, shallowly, won, is_answer, is_in_run}
-use Rattle.std.specs.Prelude.{IsTrue, IsOkAnd}
+use Rattle.std.proofs.Common.{◌≡◌, ℕ, [], ◌+◌, true, false, List, Bool, Option, Some, None, Result, Ok, Err, IfOk, inl, ⊎_elim, refl, sym, ap, ◌∙◌, subst, arith}
+use Rattle.tag_board.proofs.Uses.{cases_Bool, Found, Layout, or_false, count_of, count_of_run, Visit, TagFault, Hand, Kind, Ordinary, Reserved, Tags, IsHandOf, number_of, agent_of, reserved_of, layout_of, hint_of, HoldsMore, other_kind, searcher_of, holds, part_of, searchers_in, state_of_all, waiter_of, IsOf, Searcher, Searchers, FindsTag, FindsRun, plainly, shallowly, won, is_answer, is_in_run}
 use Rattle.tag_search.specs.Hints.{reduced}
 use Rattle.tag_search.specs.Visits.{plain_visits, shallow_visits}
 use Rattle.tag_queue.specs.Agents as queue
 use Rattle.tag_queue.specs.Gets as queue_gets
 use Rattle.tag_sets.specs.Gets as gets
+use Rattle.tag_sets.specs.Calls.{DoesGetBatch}
 use Rattle.tag_board.proofs.Only.{split_there}
 use Rattle.tag_board.proofs.Holdings.{Names, holds_more}
 use Rattle.tag_board.proofs.Tallies as tallies
@@ -145,24 +145,9 @@ module _ (tags : Tags ℕ) (old new : Hand ℕ) (own : IsHandOf tags old) where
         })
         (cases_Bool (hint_of old Ordinary).round_robin)
 
-module _ (tags : Tags ℕ) (old new : Hand ℕ) (n : ℕ) where
-  -- a batch that is answered has a legal count, so under round robin it has no tags
-  pub none_around : (r : Result (Found (ℕ × ℕ)) TagFault) (found : Found (ℕ × ℕ)) → r ≡ Ok found
-      → (r ≡ Err BadCount) ↔ gets.MiscountsBatch tags n
-      → (¬ (gets.MiscountsBatch tags n) → IsTrue (hint_of old Ordinary).round_robin
-      → IsOkAnd r (λ other. other.answer ≡ None) × (new ≡ old))
-      → (hint_of old Ordinary).round_robin ≡ true → (found.answer ≡ None) × (new ≡ old)
-  none_around (Ok other) found is bad around round = let none = around (λ m. let e = bad.1 m in cc) round in
-      (let same : found ≡ other = cc in ap (λ f. f.answer) same ∙ none.0, none.1)
-  none_around (Err fault) found is bad around round = absurd cc
-
-  -- a batch keeps the number, whatever its answer
-  pub batch_number : IsHandOf tags old → (r : Result (Found (ℕ × ℕ)) TagFault)
-      → (r ≡ Err BadCount) ↔ gets.MiscountsBatch tags n
-      → (¬ (gets.MiscountsBatch tags n) → IsTrue (hint_of old Ordinary).round_robin
-      → IsOkAnd r (λ other. other.answer ≡ None) × (new ≡ old))
-      → ((hint_of old Ordinary).round_robin ≡ false → IfOk r (λ found. gets.GetsBatch tags n found.answer old new))
-      → IfOk r (λ found. number_of new ≡ number_of old)
-  batch_number own (Ok found) bad around straight = (batch_gains tags old new own [] n found.answer
-      (none_around (Ok found) found refl bad around) straight).effect.number
-  batch_number own (Err fault) bad around straight = tt
+-- a batch keeps the number, whatever its answer
+pub batch_number : (tags : Tags ℕ) (old new : Hand ℕ) (n : ℕ) → IsHandOf tags old
+    → (r : Result (Found (ℕ × ℕ)) TagFault) → DoesGetBatch n tags r old new → IfOk r (λ found. number_of new ≡ number_of old)
+batch_number tags old new n own (Ok found) d =
+    (batch_gains tags old new own [] n found.answer (d.round_robin d.refusals.passes.0) d.gets).effect.number
+batch_number tags old new n own (Err fault) d = tt

@@ -1,5 +1,5 @@
 -- What follows from clauses on results.
-use Rattle.std.proofs.Common.{◌≡◌, true, false, Option, Some, None, is_some, IsSome, Result, Ok, Err, OnOk, OnErr, IfOk, IfErr, IsOk, refl, ap}
+use Rattle.std.proofs.Common.{◌≡◌, false, Option, Some, None, is_some, Result, Ok, Err, OnOk, IfOk, refl}
 
 -- a fact about the value implies another
 pub ok_map : {A E : Type 0} {P Q : A → Type 0} (r : Result A E) → IfOk r P → ((a : A) → P a → Q a) → IfOk r Q
@@ -11,28 +11,10 @@ pub both_ok : {A E P : Type 0} {Q T : A → Type 0} (r : Result A E) → OnOk r 
 both_ok (Ok a) p q f = f a p q
 both_ok (Err e) p q f = tt
 
-pub err_same : {A E : Type 0} (X : Type 0) (f : E) (r : Result A E) → IfErr r (λ fault. (fault ≡ f) × X) → OnErr r X
-err_same X f (Ok a) h = tt
-err_same X f (Err e) h = h.1
-
--- a result that is not a value is the only fault that it may be
-pub err_since : {A E : Type 0} (X : Type 0) (f : E) (r : Result A E) → IfErr r (λ fault. (fault ≡ f) × X) → ¬ (IsOk r)
-    → r ≡ Err f
-err_since X f (Ok a) h bad = absurd (bad refl)
-err_since X f (Err e) h bad = ap Err h.0
-
 -- the test for a wait group, and the fact
 pub none_since : {A : Type 0} (o : Option A) → is_some o ≡ false → o ≡ None
 none_since None e = refl
 none_since (Some a) e = absurd cc
-
-pub some_since : {A : Type 0} (o : Option A) → is_some o ≡ true → ¬ (o ≡ None)
-some_since None e n = cc
-some_since (Some a) e n = cc
-
-pub not_some_since : {A : Type 0} (o : Option A) → is_some o ≡ false → ¬ (IsSome o)
-not_some_since None e n = cc
-not_some_since (Some a) e n = cc
 
 pub both_on : {A E : Type 0} (P Q : Type 0) (r : Result A E) → OnOk r P → OnOk r Q → OnOk r (P × Q)
 both_on P Q (Ok a) p q = (p, q)

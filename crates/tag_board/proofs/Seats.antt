@@ -1,8 +1,10 @@
 -- The state of a board after a call on one hand.
-use Rattle.std.proofs.Common.{◌≡◌, ◌≢◌, ℕ, ◌<◌, List, length, map, get_or, set, refl, sym, ap, ◌∙◌, subst, arith, true, false, is_some, All, get_or-set_other, get_or-set_same, length-set}
-use Rattle.tag_board.proofs.Uses.{dite, ℕ_discrete, both_ways, map-set, set-get_or, get_or-map, Hand, Kind, Ordinary, Reserved, Tags, Shape, number_of, Holds, standing_of, hint_of, HasRoom, IsHandOf, part_of, record_in, terms_of, state_of_all, AreOrdered, IsSpent, Changes, Moves, Part, State, idle}
+use Rattle.std.proofs.Common.{◌≡◌, ◌≢◌, ◌↔◌, ℕ, ◌<◌, None, IsSome, List, length, map, get_or, set, refl, sym, ap, ◌∙◌, subst, arith, true, false, is_some, All, get_or-set_other, get_or-set_same, length-set}
+use Rattle.tag_board.proofs.Uses.{dite, ℕ_discrete, map-set, set-get_or, get_or-map, Hand, Kind, Ordinary, Reserved, Tags, Shape, number_of, Holds, standing_of, hint_of, HasRoom, IsHandOf, part_of, record_in, terms_of, state_of_all, AreOrdered, Changes, Moves, Part, State, idle}
 use Rattle.tag_board.specs.Searches.{ChangesOne}
 use Rattle.tag_board.proofs.Holdings.{holds_true, true_holds}
+use Rattle.tag_board.proofs.Outcomes.{none_since}
+use Rattle.tag_board.proofs.Verdicts.{Fits}
 
 -- the caller's hand, among all hands
 pub record Sits {R : Type 0} (hands : List (Hand R)) (i : ℕ) (old : Hand R) : Type 0 where
@@ -66,12 +68,18 @@ module _ {R : Type 0} (tags : Tags R) {hands : List (Hand R)} {i : ℕ} {old : H
   pub here_held : (tag : ℕ) → Holds old tag → ((state_of_all tags hands).part i).held tag ≡ true
   here_held tag h = ap (λ (p : Part). p.held tag) part_here ∙ true_holds old tag h
 
-  pub none_here : (tag : ℕ) → ((state_of_all tags hands).part i).held tag ≡ false → ¬ (Holds old tag)
-  none_here tag e h = both_ways _ e (here_held tag h)
+  pub same_held : (tag : ℕ) → Holds old tag ↔ (((state_of_all tags hands).part i).held tag ≡ true)
+  same_held tag = (here_held tag, held_here tag)
 
   -- whether the hand is in a wait group
-  pub stands_here : is_some (standing_of old) ≡ ((state_of_all tags hands).part i).stands
+  stands_here : is_some (standing_of old) ≡ ((state_of_all tags hands).part i).stands
   stands_here = sym (ap (λ (p : Part). p.stands) part_here)
+
+  pub standing_here : IsSome (standing_of old) ↔ (((state_of_all tags hands).part i).stands ≡ true)
+  standing_here = (λ some. sym stands_here ∙ some, λ stands. stands_here ∙ stands)
+
+  pub out_here : (standing_of old ≡ None) ↔ (((state_of_all tags hands).part i).stands ≡ false)
+  out_here = (λ none. sym stands_here ∙ ap is_some none, λ out. none_since (standing_of old) (stands_here ∙ out))
 
   -- the hand's part changed so, and the rest of the state is unchanged
   pub changes : (new : Hand R) (change : Part → Part) → part_of new ≡ change (part_of old)
@@ -115,9 +123,9 @@ module _ {R : Type 0} (tags : Tags R) {hands : List (Hand R)} {i : ℕ} {old : H
   won_here : (kind : Kind) → ((state_of_all tags hands).part i).won kind ≡ (record_in old kind).won
   won_here kind = ap (λ (p : Part). p.won kind) (part_here tags at)
 
-  -- a spent hand has no room
-  pub spent_here : (kind : Kind) (n : ℕ) → IsSpent (state_of_all tags hands) i kind n → ¬ (HasRoom old kind n)
-  spent_here kind n spent room = let life = life_here kind in let won = won_here kind in absurd (omega arith)
+  -- whether the hand has room for n more tags
+  pub room_here : (kind : Kind) (n : ℕ) → HasRoom old kind n ↔ Fits (state_of_all tags hands) i kind n
+  room_here kind n = let life = life_here kind in let won = won_here kind in (λ room. omega arith, λ fits. omega arith)
 
   pub round_here : ((state_of_all tags hands).part i).round_robin ≡ (hint_of old Ordinary).round_robin
   round_here = ap (λ (p : Part). p.round_robin) (part_here tags at)

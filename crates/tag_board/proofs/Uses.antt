@@ -67,7 +67,7 @@ pub use Rattle.tag_board.specs.AloneSets.{AloneBatch, AloneClears, AloneClearsLi
 pub use Rattle.tag_board.specs.Boards.{alone_sets_of, searchers_of, state_of, waiters_of}
 pub use Rattle.tag_board.specs.Looks.{depth_of, Dumps, ListsBusy}
 pub use Rattle.tag_board.specs.Parts.{alone_sets_of_all, AreOrdered, has, holds, part_of, record_in, searcher_of, searchers_in, searchers_of_all, state_of_all, terms_of, waiter_of, waiters_of_all}
-pub use Rattle.tag_board.specs.Refusals.{AreHeldOnce, AreOrdinary, IsSpent, Miscounts, RefusesBatch, RefusesGet, RefusesLeave, RefusesList, RefusesShallow, RefusesTag, RefusesWait}
+pub use Rattle.tag_board.specs.Refusals.{AreHeldOnce, AreOrdinary, RefusesBatch, RefusesGet, RefusesLeave, RefusesList, RefusesShallow, RefusesTag, RefusesWait}
 pub use Rattle.tag_board.specs.Replays.{Answers, Changes, cleared, HoldsAll, is_answer, is_in_list, is_in_run, IsOf, joined, left, left as parted, NobodyElseHolds, NobodyHolds, standing, Takes, Wins, won, won_more}
 pub use Rattle.tag_board.specs.Searches.{CountsFound, FindsRun, FindsTag, GivesTags, ListsFound, nobody, PacksFound, plainly, PostsTag, PutsTag, ResizesSets, Searcher, Searchers, shallowly, TriesTag}
 pub use Rattle.tag_board.specs.States.{back_in, got_in, idle, Part, posted_in, standing_in, State}

@@ -1,9 +1,7 @@
 //! Opening a board.
-ghost use Rattle.std.specs.Prelude.{◌≡◌, ℕ, ◌^◌, ◌<◌, ◌≤◌, ◌↔◌, IfOk, IsSomeAnd};
-ghost use Rattle.tag_layout.specs.declared.layout.TheConstants.{MAX_DEPTH, MAX_SHIFT};
-ghost use Rattle.tag_model.specs.declared.world.TheConstants.{MOST_WON};
-ghost use Rattle.tag_queue.specs.Opening.{MiscountsAgents, CountsAgents};
-ghost use Rattle.tag_sets.specs.Opening.{HasRange, HasLayouts};
+ghost use Rattle.std.specs.Prelude.{ℕ, ◌<◌, IfOk};
+ghost use Rattle.refusals.specs.Refusals.{RefusesOrRunsOut};
+ghost use Rattle.tag_sets.specs.Refusals.{open_checks};
 ghost use Rattle.tag_board.specs.Boards.{state_of, alone_sets_of, waiters_of, searchers_of, IsAlone};
 ghost use Rattle.tag_board.specs.AloneSets.{AreUntouched};
 ghost use Rattle.tag_board.specs.Opening.{IsOpen};
@@ -29,17 +27,7 @@ impl Board {
         ensures waiters { IfOk result (λ board. (caller : ℕ) → caller < options.callers → Starts (waiters_of board caller)) }
         ensures searches { IfOk result (λ board. (caller : ℕ) → caller < options.callers
             → Begins total reserved options (searchers_of board caller)) }
-
-        // The causes are tested in this order, and memory comes last.
-        ensures total { (result ≡ Err SetFault.TotalTooLarge) ↔ (MAX_DEPTH < total) }
-        ensures reserved { (result ≡ Err SetFault.ReservedTooLarge) ↔ ((total ≤ MAX_DEPTH) × (total < reserved)) }
-        ensures shift { (result ≡ Err SetFault.ShiftTooLarge)
-            ↔ (HasRange total reserved × IsSomeAnd options.shift (λ s. MAX_SHIFT < s)) }
-        ensures callers { (result ≡ Err SetFault.CallerCount) ↔ (HasLayouts total reserved options × MiscountsAgents options) }
-        ensures life { (result ≡ Err SetFault.LifeTooLong)
-            ↔ (HasLayouts total reserved options × CountsAgents options × (MOST_WON < options.life)) }
-        ensures cap { (result ≡ Err SetFault.CapTooLarge) ↔ (HasLayouts total reserved options × CountsAgents options
-            × (options.life ≤ MOST_WON) × (2 ^ 56 < options.cap)) }
+        ensures refusals { RefusesOrRunsOut (open_checks total reserved options) SetFault.Memory result }
     {
         let (tags, hands) = Tags::open(alloc, total, reserved, options, 0u64)?;
         Ok(Board {

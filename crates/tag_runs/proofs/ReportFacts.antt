@@ -3,7 +3,7 @@ use Rattle.std.proofs.Common.{◌≡◌, ◌≢◌, ◌↔◌, ℕ, List, [], �
 use Rattle.loop_device.specs.declared.fault.LogCause.TheVariants as causes
 use Rattle.loop_device.specs.declared.fault.LogFault.{LogFault}
 use Rattle.loop_device.specs.declared.fault.PlayFault.{PlayFault}
-use Rattle.loop_device.specs.declared.fault.PlayFault.TheVariants.{Memory, Setup, Lost, Twice, Spurious}
+use Rattle.loop_device.specs.declared.fault.PlayFault.TheVariants.{Memory, Setup, Lost, Twice, Spurious, Totals}
 use Rattle.loop_device.specs.declared.io.Log.{Log}
 use Rattle.loop_device.specs.declared.report.Report.{Report}
 use Rattle.loop_device.specs.declared.setup.Setup.{Setup as SetupAsked}
@@ -27,6 +27,7 @@ other_outcome Setup outcome is other e = cc
 other_outcome (Lost line) outcome is other e = cc
 other_outcome (Twice line) outcome is other e = cc
 other_outcome Spurious outcome is other e = cc
+other_outcome Totals outcome is other e = cc
 
 -- the line of the log's first fault is its output
 pub owes_line : (o : PlayOptions) (input before text : List ℕ) (fault : LogFault) (refusal : Refusal)

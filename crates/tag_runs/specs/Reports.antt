@@ -4,6 +4,7 @@ use Rattle.loop_device.specs.declared.fault.LogCause.TheVariants as causes
 use Rattle.loop_device.specs.declared.fault.LogFault.{LogFault}
 use Rattle.loop_device.specs.declared.fault.PlayFault.{PlayFault}
 use Rattle.loop_device.specs.declared.fault.PlayFault.TheVariants.{Memory, Setup, Lost, Twice, Spurious}
+use Rattle.loop_device.specs.declared.fault.PlayFault.TheVariants as variants
 use Rattle.loop_device.specs.declared.io.Done.{Done as DoneLine}
 use Rattle.loop_device.specs.declared.io.Io.{Io}
 use Rattle.loop_device.specs.declared.io.IoKind.{IoKind}
@@ -75,6 +76,7 @@ play_fault_text Setup = line_of (codes "play refused ") 2
 play_fault_text (Lost line) = field (codes "play refused ") 3 ++ line_of (codes " line ") line
 play_fault_text (Twice line) = field (codes "play refused ") 4 ++ line_of (codes " line ") line
 play_fault_text Spurious = line_of (codes "play refused ") 5
+play_fault_text variants.Totals = line_of (codes "play refused ") 6
 
 -- the outcomes that a play may have: a report on all I/O lines, a refused setup exactly if it is not legal, or another
 -- fault except running out of memory, which names no line that is not one of them
@@ -96,6 +98,7 @@ place_of_play Setup = Whole
 place_of_play (Lost line) = Line line
 place_of_play (Twice line) = Line line
 place_of_play Spurious = Whole
+place_of_play variants.Totals = Whole
 
 -- a report is done, and any fault is a refusal for what is wrong
 abbrev pub EndsIn : Result Report PlayFault → Ending → Type 0

@@ -72,6 +72,10 @@ fn play_refusal(setup: &Setup, fault: PlayFault) -> Refusal
             Place::Whole,
             "what was carried out is no line of the log: a bug in tagplay",
         ),
+        PlayFault::Totals => (
+            Place::Whole,
+            "the totals are not one tag got and given back for each line: a bug in tagplay",
+        ),
     };
     Refusal { place, what }
 }

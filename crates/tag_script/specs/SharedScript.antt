@@ -1,13 +1,10 @@
 -- The output of a script whose callers share tags.
-use Rattle.std.specs.Prelude.{ℕ, ◌^◌, ◌<◌, ◌≤◌, List, IsSomeAnd}
-use Rattle.tag_layout.specs.declared.layout.TheConstants.{MAX_DEPTH, MAX_SHIFT}
+use Rattle.std.specs.Prelude.{ℕ, ◌^◌, ◌<◌, List}
+use Rattle.refusals.specs.Refusals.{FailsFirst, PassesAll}
 use Rattle.tag_lines.specs.declared.order.Order.{Order}
-use Rattle.tag_model.specs.declared.world.TheConstants.{MOST_WON}
 use Rattle.tag_sets.specs.declared.fault.SetFault.{SetFault}
-use Rattle.tag_sets.specs.declared.fault.SetFault.TheVariants as faults
+use Rattle.tag_sets.specs.Refusals.{open_checks}
 use Rattle.tag_queue.specs.declared.queue.Options.{Options}
-use Rattle.tag_queue.specs.Opening.{MiscountsAgents, CountsAgents}
-use Rattle.tag_sets.specs.Opening.{HasRange, HasLayouts}
 use Rattle.tag_board.specs.AloneSets.{AreUntouched}
 use Rattle.tag_board.specs.Opening.{IsOpen}
 use Rattle.tag_board.specs.Searches.{Begins}
@@ -27,23 +24,13 @@ tag_options o = record {
   cap = 2 ^ 56;
 }
 
--- both sets have layouts
-abbrev pub HasSets : ScriptOptions → Type 0
-HasSets o = HasLayouts o.tags o.reserved (tag_options o)
-
--- the first cause that refuses the setup
+-- the first check of an open that fails: never that of the cap, which is 2 ^ 56
 abbrev pub IsRefusedShared : ScriptOptions → SetFault → Type 0
-IsRefusedShared o faults.Memory = ⊥
-IsRefusedShared o faults.TotalTooLarge = MAX_DEPTH < o.tags
-IsRefusedShared o faults.ReservedTooLarge = (o.tags ≤ MAX_DEPTH) × (o.tags < o.reserved)
-IsRefusedShared o faults.ShiftTooLarge = HasRange o.tags o.reserved × IsSomeAnd o.shift (λ s. MAX_SHIFT < s)
-IsRefusedShared o faults.CallerCount = HasSets o × MiscountsAgents (tag_options o)
-IsRefusedShared o faults.LifeTooLong = HasSets o × CountsAgents (tag_options o) × (MOST_WON < o.life)
-IsRefusedShared o faults.CapTooLarge = ⊥
+IsRefusedShared o = FailsFirst (open_checks o.tags o.reserved (tag_options o))
 
--- no cause refuses the setup
+-- an open passes every check
 abbrev pub IsAllowed : ScriptOptions → Type 0
-IsAllowed o = (fault : SetFault) → ¬ (IsRefusedShared o fault)
+IsAllowed o = PassesAll (open_checks o.tags o.reserved (tag_options o))
 
 -- new tags with these options, on which nothing was done
 pub record IsNewScene (o : ScriptOptions) (s : Scene) : Type 0 where

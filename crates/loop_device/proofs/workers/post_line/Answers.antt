@@ -1,12 +1,13 @@
--- The hand holds the tag that it got, also after it wrote the slot, so the post can't be refused.
-use Rattle.std.specs.Prelude.{IsOk}
-use Rattle.std.proofs.Common.{Result, refl, subst}
-use Rattle.tag_sets.specs.declared.fault.TagFault.{TagFault}
+-- The hand holds the tag that it got, which is an ordinary one, also after it wrote the slot, so the post can't be refused.
+use Rattle.std.proofs.Common.{refl, ⊎_elim}
 use Rattle.loop_device.proofs.workers.post_line.Goals as goal
 
-pub unreachable-requires-in_default-post : goal.unreachable-requires-in_default-post
-unreachable-requires-in_default-post g c =
-    let won = c.in_ok-tag.ensures.gets.more.joined c.in_ok-tag.tag refl in
-    let held = c.in-Ok.ensures.writes.kept c.in_ok-tag.tag won in
-    let fine = c.post.ensures.succeeds held in
-    let wrong = subst (λ (r : Result (Unit {0}) TagFault). IsOk r) c.in_default-post.is fine in cc
+pub write_held-former-requires-clause-held : goal.write_held-former-requires-clause-held
+write_held-former-requires-clause-held g c = c.in_ok-tag.ensures.gets.more.joined c.in_ok-tag.tag refl
+
+pub unreachable-requires : goal.unreachable-requires
+unreachable-requires g c =
+    let tag = c.in_ok-tag.tag in let gets = c.in_ok-tag.ensures.gets in
+    let held = c.write_held-former.ensures.writes.kept tag (gets.more.joined tag refl) in
+    ⊎_elim (λ none. none.0 gets.ordinary.1)
+    (λ rest. ⊎_elim (λ free. free.0 held) (λ last. last.1) rest.1) c.in_default.ensures.does.refusals.first

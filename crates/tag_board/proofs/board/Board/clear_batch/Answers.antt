@@ -1,36 +1,32 @@
 -- The hand loses the listed tags and counts them.
 use Rattle.std.proofs.Common.{ℕ, length, arith}
 use Rattle.tag_board.proofs.Uses.{state_of, RefusesList, Changes, cleared, is_in_list, GrantsFor}
-use Rattle.tag_board.proofs.Commands.{kept, replies, seated, list_does, both_ok, both_on, list_verdict, held_here, here_held, own_here, sits}
+use Rattle.tag_board.proofs.Commands.{kept, replies, seated, list_does, both_ok, both_on, held_here, here_held, own_here, sits, list_means}
 use Rattle.tag_board.proofs.AloneCalls as alone
 use Rattle.tag_board.proofs.board.Board.clear_batch.Goals as goal
 
 pub invariant_of-self : goal.invariant_of-self
 invariant_of-self c =
     let b = c.args.self.now in let at = sits (omega arith) c.index_mut.ensures.value in let old = c.index_mut.result.now in
-    let new = c.clear_batch.new.hand in let e = c.clear_batch.ensures in let r = c.clear_batch.result in
-    seated b at new e.hand (kept old new r (both_ok r (both_on _ _ r e.gives e.back) e.counts
-    (λ woken p q. (list_does b.tags old new (own_here b.tags at b.own) 0 _ woken p.0 p.1 q).number)) e.err)
+    let new = c.clear_batch.new.hand in let e = c.clear_batch.ensures.does in let r = c.clear_batch.result in
+    seated b at new c.clear_batch.ensures.hand (kept old new r (both_ok r (both_on _ _ r e.gives e.back) e.counts
+    (λ woken p q. (list_does b.tags old new (own_here b.tags at b.own) 0 _ woken p.0 p.1 q).number)) e.refusals.same)
 
 pub returns : goal.returns
 returns c =
     let b = c.args.self.now in let at = sits c.requires c.index_mut.ensures.value in let old = c.index_mut.result.now in
-    let new = c.clear_batch.new.hand in let e = c.clear_batch.ensures in let r = c.clear_batch.result in
+    let new = c.clear_batch.new.hand in let e = c.clear_batch.ensures.does in let r = c.clear_batch.result in
     let i : ℕ = c.args.caller in let tags = c.args.tags.now in let s = state_of b in
-    let k = replies b at new e.hand {refuses = RefusesList s i tags} (λ woken. cleared (is_in_list tags) (length tags))
+    let k = replies b at new c.clear_batch.ensures.hand {refuses = RefusesList s i tags} (λ woken. cleared (is_in_list tags) (length tags))
     (λ (woken : ℕ). Changes i (cleared (is_in_list tags) (length tags)) s)
-    (GrantsFor s.terms.cap (length tags)) (λ woken. alone.gives tags) r
-    (list_verdict s i tags r e.bad_count e.no_such_tag (
-      (λ x. let h = e.not_held.0 x in
-          (h.0, h.1, λ m. h.2 (λ k d l. held_here b.tags at _ (m.0 k d l), m.1))),
-      (λ y. e.not_held.1 (y.0, y.1, λ h. y.2 (λ k d l. here_held b.tags at _ (h.0 k d l), h.1))),
-    ) (
-      (λ x. let h = e.succeeds.0 x in (h.0, h.1, (λ k d l. here_held b.tags at _ (h.2.0 k d l), h.2.1))),
-      (λ y. e.succeeds.1 (y.0, y.1, (λ k d l. held_here b.tags at _ (y.2.0 k d l), y.2.1))),
-    ))
+    (GrantsFor s.terms.cap (length tags)) (λ woken. alone.gives tags)
+    (list_means s i tags (
+      (λ h. (λ k d l. here_held b.tags at _ (h.0 k d l), h.1)),
+      (λ h. (λ k d l. held_here b.tags at _ (h.0 k d l), h.1)),
+    )) r e.refusals
     (both_ok r (both_on _ _ r e.gives e.back) e.counts
     (λ woken p q. (
       list_does b.tags old new (own_here b.tags at b.own) (length b.hands.items) tags woken p.0 p.1 q,
       (λ to. to),
-    ))) e.err in
+    ))) in
     record { answers = k.answers; alone = k.alone; waiters = k.waiters; searches = k.searches }

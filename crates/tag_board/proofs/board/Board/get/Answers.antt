@@ -1,34 +1,34 @@
 -- The hand did not hold the tag before, and no other caller holds it now, so no caller held it.
-use Rattle.std.proofs.Common.{ℕ, Option, Ok, refl, ap, arith}
+use Rattle.std.proofs.Common.{ℕ, Option, Ok, ap, arith}
 use Rattle.tag_board.proofs.Uses.{count_of, Ordinary, plain, state_of, RefusesGet, Wins, is_answer}
-use Rattle.tag_board.proofs.Commands.{got, holds_gained, kept, none_moved, seated, seen_of, get_gains, ok_map, err_same, may_get, own_here, sits, spent_here}
+use Rattle.tag_board.proofs.Commands.{got, holds_gained, kept, none_moved, seated, seen_of, get_gains, ok_map, own_here, sits, get_means, room_here}
 use Rattle.tag_board.proofs.AloneCalls as alone
 use Rattle.tag_board.proofs.board.Board.get.Goals as goal
 
 pub invariant_of-self : goal.invariant_of-self
 invariant_of-self c =
     let b = c.args.self.now in let at = sits (omega arith) c.index_mut.ensures.value in let old = c.index_mut.result.now in
-    let new = c.get_freed.new.hand in let e = c.get_freed.ensures in let r = c.get_freed.result in
-    seated b at new e.hand (kept old new r (ok_map r e.gets
+    let new = c.get_freed.new.hand in let e = c.get_freed.ensures.does in let r = c.get_freed.result in
+    seated b at new c.get_freed.ensures.hand (kept old new r (ok_map r e.gets
     (λ found g. (get_gains b.tags old new (own_here b.tags at b.own) b.hands.items found.answer g).effect.number))
-    (err_same _ _ r e.err))
+    e.refusals.same)
 
 pub tell_free-requires-clause-held : goal.tell_free-requires-clause-held
 tell_free-requires-clause-held c =
     let b = c.args.self.now in let at = sits c.requires c.index_mut.ensures.value in let old = c.index_mut.result.now in
     let new = c.get_freed.new.hand in let a : Option ℕ = c.in_ok-answer.field-0.answer in
-    let g = get_gains b.tags old new (own_here b.tags at b.own) b.hands.items a c.in_ok-answer.ensures.gets in
+    let g = get_gains b.tags old new (own_here b.tags at b.own) b.hands.items a c.in_ok-answer.ensures.does.gets in
     holds_gained b at new (is_answer a) _ g.names g.more
 
 pub returns : goal.returns
 returns c =
     let b = c.args.self.now in let at = sits c.requires c.index_mut.ensures.value in let old = c.index_mut.result.now in
-    let new = c.get_freed.new.hand in let a : Option ℕ = c.in_ok-answer.field-0.answer in let e = c.in_ok-answer.ensures in
+    let new = c.get_freed.new.hand in let a : Option ℕ = c.in_ok-answer.field-0.answer in let e = c.in_ok-answer.ensures.does in
     let i : ℕ = c.args.caller in let s = state_of b in let own = own_here b.tags at b.own in
     let k = got b at new {refuses = RefusesGet s i Ordinary}
     (λ (o : Option ℕ). Wins i Ordinary (is_answer o) (count_of o) s) (alone.finds Ordinary plain)
     c.get_freed.ensures.hand a
     (seen_of c.tell_free.new.self) (ap seen_of c.tell_free.ensures.same)
     (get_gains b.tags old new own b.hands.items a e.gets) c.tell_free.ensures.alone
-    (may_get s i (λ spent. spent_here b.tags at own Ordinary 1 spent (e.room.0 refl))) (λ w. w) in
+    ((get_means s i (room_here b.tags at own Ordinary 1)).passes e.refusals.passes) (λ w. w) in
     record { answers = k.answers; alone = k.alone; waiters = none_moved i (Ok a) k.waiters; searches = k.searches }

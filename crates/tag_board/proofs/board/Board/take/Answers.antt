@@ -11,8 +11,8 @@ use Rattle.tag_board.proofs.board.Board.take.Goals as goal
 pub invariant_of-self : goal.invariant_of-self
 invariant_of-self c =
     let b = c.args.self.now in let at = sits (omega arith) c.index_mut.ensures.value in let old = c.index_mut.result.now in
-    let new = c.take.new.hand in let e = c.take.ensures in
-    seated b at new e.hand
+    let new = c.take.new.hand in let e = c.take.ensures.does in
+    seated b at new c.take.ensures.hand
     (take_number b.tags old new _ (own_here b.tags at b.own) c.take.result e.takes e.refuses)
 
 pub tell_free-requires-clause-held : goal.tell_free-requires-clause-held
@@ -20,13 +20,13 @@ tell_free-requires-clause-held c =
     let b = c.args.self.now in let at = sits c.requires c.index_mut.ensures.value in let old = c.index_mut.result.now in
     let answer : Option ℕ = Some c.args.tag in
     holds_gained b at c.take.new.hand (is_answer answer) (IsAnswer answer) (names_answer answer)
-    c.in_ok-take.ensures.takes.more
+    c.in_ok-take.ensures.does.takes.more
 
 pub returns : goal.returns
 returns c =
     let b = c.args.self.now in let at = sits c.requires c.index_mut.ensures.value in let old = c.index_mut.result.now in
     let new = c.take.new.hand in let i : ℕ = c.args.caller in let tag : ℕ = c.args.tag in
-    let takes = c.in_ok-take.ensures.takes in let answer : Option ℕ = Some tag in
+    let takes = c.in_ok-take.ensures.does.takes in let answer : Option ℕ = Some tag in
     let k = effect_on b at new c.take.ensures.hand (alone.tries tag (Ok tt)) (take_does b.tags old new (own_here b.tags at b.own) tag takes) in
     let free = free_before b at new (is_answer answer) (IsAnswer answer) (names_answer answer) takes.more k.changes
     c.tell_free.ensures.alone in
@@ -46,7 +46,7 @@ pub returns-in_err-take : goal.returns-in_err-take
 returns-in_err-take c =
     let b = c.args.self.now in let at = sits c.requires c.index_mut.ensures.value in let old = c.index_mut.result.now in
     let new = c.take.new.hand in let i : ℕ = c.args.caller in let tag : ℕ = c.args.tag in
-    let e = c.in_err-take.ensures in let fault = c.in_err-take.field-0.0 in let r = c.from_residual.result in
+    let e = c.in_err-take.ensures.does in let fault = c.in_err-take.field-0.0 in let r = c.from_residual.result in
     let told : IfErr r (λ f. f ≡ fault) = search rules in
     let is = err_is r fault c.from_residual.ensures.0 told in
     let now : Seen = seen b.tags (set b.hands.items i new) in
