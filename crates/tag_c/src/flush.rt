@@ -11,7 +11,8 @@ use crate::codes::grants_code;
 use crate::granted::{Granted, fill};
 use crate::handle::Handle;
 use crate::member::Member;
-use wake_book::{Grants, NO_GRANTS};
+use tag_sets::Report;
+use wake_book::NO_GRANTS;
 
 /// Calls that give kept tags back, of which a hand without a cache has none.
 trait FlushCalls: AnyHand {

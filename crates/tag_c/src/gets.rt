@@ -2,7 +2,7 @@
 ghost use Rattle.std.specs.Prelude.{◌≡◌};
 ghost use Rattle.tag_c.specs.declared.status.Status.TheVariants.{BadHandle};
 ghost use Rattle.tag_c.specs.Calls.{CallsBy, Through, DoesGet, DoesGetReserved, DoesGetShallow, DoesGetBatch};
-ghost use Rattle.tag_c.specs.Codes.{IsRefusal, code_of, code_of_get};
+ghost use Rattle.tag_c.specs.Codes.{IsRefusal, code_of, code_of_get, code_of_found, code_of_found_batch};
 
 use crate::any_hand::{AnyHand, on_hand};
 use crate::cached::CachedMember;

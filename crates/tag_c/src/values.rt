@@ -6,9 +6,10 @@ ghost use Rattle.tag_c.specs.Codes.{IsRefusal, code_of_done};
 
 use crate::any_hand::{AnyHand, on_hand};
 use crate::cached::CachedMember;
-use crate::codes::{done_code, value_code, done_alone};
+use crate::codes::{done_alone, done_code, value_code};
 use crate::handle::Handle;
 use crate::member::Member;
+use tag_sets::Count;
 
 /// Calls that use the slots of held tags, and pass tags to other hands.
 trait SlotCalls: AnyHand {

@@ -7,6 +7,7 @@ use crate::cached::CachedMember;
 use crate::codes::{count_code, finish_code, group_alone};
 use crate::handle::Handle;
 use crate::member::Member;
+use tag_sets::Count;
 
 /// Calls around a wait.
 trait WaitCalls: AnyHand {
