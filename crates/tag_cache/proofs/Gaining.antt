@@ -17,17 +17,17 @@ use Rattle.tag_sets.specs.Hands as hands
 use Rattle.tag_sets.specs.Hands.{layout_of}
 use Rattle.tag_sets.specs.Freed.{GetsAndLooks}
 use Rattle.tag_sets.specs.Gets as hand_gets
-use Rattle.tag_sets.specs.Gets.{IsAnswer, IsInRun, IsOrdinaryTag, whole, whole_run}
+use Rattle.tag_sets.specs.Gets.{IsAnswer, IsInRun, IsOrdinaryTag, whole_run}
 use Rattle.tag_sets.specs.Holding as hand_holding
 use Rattle.tag_cache.specs.declared.cache.Cache.{Cache}
 use Rattle.tag_cache.specs.Batches.{answered_run}
 use Rattle.tag_cache.specs.Caches.{IsKept, KeepsNone}
 use Rattle.tag_cache.specs.Changes.{KeepsSame}
 use Rattle.tag_cache.specs.Holding.{HoldsMore}
-use Rattle.tag_cache.specs.Tallies.{Tallies, answered}
+use Rattle.tag_cache.specs.Tallies.{answered}
 use Rattle.tag_cache.proofs.Carrying.{more, still_on}
 use Rattle.tag_cache.proofs.Steady.{looked_rests, rests_unchanged}
-use Rattle.tag_cache.proofs.Tallying.{Moves, MovesAgent, as_many, moves_in, gets_moves, reserved_moves, moves_tallies}
+use Rattle.tag_cache.proofs.Tallying.{Moves, MovesAgent, as_many, moves_in, gets_moves, reserved_moves}
 
 -- the hand gained the named tags, which are that many, and gave nothing back
 pub record Gains {R : Type 0} (named : ℕ → Type 0) (count : ℕ) (old new : Hand R) : Type 0 where
@@ -213,6 +213,3 @@ module _ {R : Type 0} where
       {named : A → ℕ → Type 0} {count : A → ℕ} (g : Gain r named count old.hand new.hand) where
     pub more_of : IfOk r (λ v. HoldsMore (named v) old new)
     more_of = IfOk-weaker r _ _ (λ v x. more old new keeps (named v) x.more) g.gains
-
-    pub tally_of : IfOk r (λ v. Tallies (count v) 0 old new)
-    tally_of = IfOk-weaker r _ _ (λ v x. moves_tallies (count v) 0 old new keeps x.moves) g.gains

@@ -1,11 +1,11 @@
 -- What a get gives the user where nothing is kept.
-use Rattle.std.proofs.Common.{arith, ◌≡◌, ℕ, Option, Result, IfOk, inr, sym, subst}
+use Rattle.std.proofs.Common.{ℕ, Option, Result, IfOk, inr}
 use Rattle.std.proofs.lemmas.Result.{IfOk-weaker}
 use Rattle.tag_search.specs.declared.found.Found.{Found}
 use Rattle.tag_sets.specs.declared.fault.TagFault.{TagFault}
 use Rattle.tag_sets.specs.declared.hand.Hand.{Hand}
 use Rattle.tag_sets.specs.declared.tags.Tags.{Tags}
-use Rattle.tag_sets.specs.Freed.{GetsAndLooks, left_free}
+use Rattle.tag_sets.specs.Freed.{GetsAndLooks}
 use Rattle.tag_sets.specs.Gets as hand_gets
 use Rattle.tag_sets.specs.Gets.{IsAnswer, IsOrdinaryTag}
 use Rattle.tag_cache.specs.declared.cache.Cache.{Cache}
@@ -16,10 +16,6 @@ use Rattle.tag_cache.specs.Tallies.{Tallies, answered}
 use Rattle.tag_cache.proofs.Carrying.{more}
 use Rattle.tag_cache.proofs.Gaining.{Gains, plain_gains, get_gains}
 use Rattle.tag_cache.proofs.Tallying.{gets_moves, moves_tallies}
-
--- a hand that is as it was left nothing free
-pub none_left : {R : Type 0} (a b : Hand R) → b ≡ a → 0 ≡ left_free a b
-none_left a b e = subst (λ (x : Hand _). 0 ≡ left_free a x) (sym e) (omega arith)
 
 -- nothing is kept, so the hand makes the get
 module _ {R : Type 0} (tags : Tags R) (old new : Cache R) (keeps : KeepsSame old new) (none : KeepsNone old) where

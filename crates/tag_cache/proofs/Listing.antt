@@ -1,5 +1,5 @@
 -- What becomes of a list of tags that is cleared, and what that is for the user and for the tallies.
-use Rattle.std.proofs.Common.{arith, ◌≡◌, ◌↔◌, ℕ, ◌^◌, ◌<◌, ◌≤◌, List, length, All, inl, inr, sym, ◌∙◌, subst, ⊎_elim}
+use Rattle.std.proofs.Common.{arith, ◌↔◌, ℕ, ◌^◌, ◌<◌, ◌≤◌, List, length, All, inl, inr, sym, ◌∙◌, subst, ⊎_elim}
 use Rattle.std.specs.Prelude.{Contains}
 use Rattle.tag_sets.specs.declared.tags.Tags.{Tags}
 use Rattle.tag_sets.specs.Batches as hand_batches

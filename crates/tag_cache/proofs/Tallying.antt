@@ -24,7 +24,7 @@ use Rattle.tag_sets.specs.Gets.{whole}
 use Rattle.tag_sets.specs.Tallies.{won_in_both, back_in_both}
 use Rattle.tag_sets.specs.Waits.{AgentStays, Stays}
 use Rattle.tag_cache.specs.declared.cache.Cache.{Cache}
-use Rattle.tag_cache.specs.Changes.{KeepsSame, SameHand, Reuses}
+use Rattle.tag_cache.specs.Changes.{KeepsSame, SameHand}
 use Rattle.tag_cache.specs.Tallies.{Tallies, answered}
 
 -- that many more tags were won and that many more given back
@@ -129,12 +129,6 @@ module _ {R : Type 0} where
       → Moves 1 0 old new
   blocking_moves tags tag old new g = moves_in Ordinary 1 0 _ old new
       (λ a b x. blocking_agent (layout_of tags Ordinary) g.number a b x) g.set
-
-  -- a kept tag that is handed out again counts as one handed out, and not as one taken back any more
-  pub reuse_tallies : (old new : Cache R) (tag : ℕ) → Reuses tag old new → Tallies 1 0 old new
-  reuse_tallies old new tag r = let w = ap (λ (h : Hand R). won_in_both h) r.takes.hand in
-      let k = ap (λ (h : Hand R). back_in_both h) r.takes.hand in let reused = r.reused in
-      let fewer = r.takes.fewer in record { handed = omega arith; taken = omega arith }
 
   -- what the hand won was handed out, if the same tags are kept
   pub moves_tallies : (won back : ℕ) (old new : Cache R) → KeepsSame old new → Moves won back old.hand new.hand

@@ -15,10 +15,9 @@ returns-then-keeps_none g c = let win = c.win in let none = c.keeps_none.ensures
       refusals = search rules;
       gets = after.gets;
       loans = search rules;
-      tally = search rules;
+      tally = after.tally;
     }
 
 pub returns-clause-gets : goal.returns-clause-gets
 returns-clause-gets g c = gets_kept (GetsAndLooks (hand_gets.Gets c.args.tags.now (Some c.reuse.result)))
     c.args.tags.now c.args.self.now c.reuse.new.self c.reuse.result c.requires c.reuse.ensures
-

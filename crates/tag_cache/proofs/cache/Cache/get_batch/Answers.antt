@@ -1,7 +1,7 @@
 -- The tags that the hand gains are the user's.
 use Rattle.std.proofs.Common.{rules}
 use Rattle.tag_cache.proofs.Carrying.{owns}
-use Rattle.tag_cache.proofs.Gaining.{batch_call, gained_still, more_of, tally_of}
+use Rattle.tag_cache.proofs.Gaining.{batch_call, gained_still, more_of}
 use Rattle.tag_cache.proofs.cache.Cache.get_batch.Goals as goal
 
 pub invariant_of-self : goal.invariant_of-self
@@ -21,5 +21,5 @@ returns g c = let cache = c.args.self.now in let call = c.get_batch in
       more = more_of cache _ (search rules) gain;
       kept = search rules;
       window = search rules;
-      tally = tally_of cache _ (search rules) gain;
+      tally = search rules;
     }

@@ -10,13 +10,12 @@ returns-then-keeps_none g c = let wait = c.wait_for in let none = c.keeps_none.e
     wait.ensures.gets wait.ensures.waits in record {
       cache = search rules;
       refusals = search rules;
-      more = search rules;
+      more = waited.more;
       ordinary = search rules;
       waits = waited.waits;
       loans = search rules;
-      tally = search rules;
+      tally = waited.tally;
     }
 
 pub returns-clause-more : goal.returns-clause-more
 returns-clause-more g c = taken c.args.self.now c.reuse.new.self c.reuse.result c.reuse.ensures.takes
-

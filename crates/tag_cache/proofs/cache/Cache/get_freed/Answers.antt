@@ -15,14 +15,14 @@ returns-then-keeps_none-clause-does g c = let won = c.win_freed in
       gets = after.gets;
       left = search rules;
       loans = search rules;
-      tally = search rules;
+      tally = after.tally;
     }
 
 pub returns-clause-does : goal.returns-clause-does
 returns-clause-does g c = let cache = c.args.self.now in let reuse = c.reuse in record {
   refusals = search rules;
-  gets = gets_kept (hand_gets.Gets c.args.tags.now (Some reuse.result)) c.args.tags.now cache reuse.new.self reuse.result
-      c.requires reuse.ensures;
+  gets = gets_kept (hand_gets.Gets c.args.tags.now (Some reuse.result)) c.args.tags.now cache reuse.new.self
+      reuse.result c.requires reuse.ensures;
   left = search rules;
   loans = search rules;
   tally = search rules;

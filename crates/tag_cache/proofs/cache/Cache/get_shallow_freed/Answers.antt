@@ -1,7 +1,7 @@
 -- The tag that the hand gains is the user's.
 use Rattle.std.proofs.Common.{rules}
 use Rattle.tag_cache.proofs.Carrying.{owns}
-use Rattle.tag_cache.proofs.Gaining.{shallow_freed_call, gained_still, more_of, tally_of}
+use Rattle.tag_cache.proofs.Gaining.{shallow_freed_call, gained_still, more_of}
 use Rattle.tag_cache.proofs.cache.Cache.get_shallow_freed.Goals as goal
 
 pub invariant_of-self : goal.invariant_of-self
@@ -19,5 +19,5 @@ returns-clause-does g c = let cache = c.args.self.now in let call = c.get_shallo
       more = more_of cache _ (search rules) gain;
       kept = search rules;
       window = search rules;
-      tally = tally_of cache _ (search rules) gain;
+      tally = search rules;
     }

@@ -1,8 +1,10 @@
 -- The hand no longer holds the tag, which was neither kept nor lent.
 use Rattle.std.proofs.Common.{rules}
+use Rattle.std.proofs.lemmas.Result.{on_ok_weaker}
+use Rattle.tag_sets.specs.Slots.{Posts}
 use Rattle.tag_cache.specs.Caches.{IsKept}
 use Rattle.tag_cache.proofs.Carrying.{not_true, owns_but, post_still}
-use Rattle.tag_cache.proofs.Passing.{last_on, posted_tallies, unlent_passes}
+use Rattle.tag_cache.proofs.Passing.{last_on, posted_tallies, posts_waiter, unlent_passes}
 use Rattle.tag_cache.proofs.Reusing.{last_unlent}
 use Rattle.tag_cache.proofs.Below.{unkept_refuses}
 use Rattle.tag_cache.proofs.cache.Cache.post_other.Goals as goal
@@ -20,6 +22,10 @@ returns-clause-passes g c = unlent_passes c.args.tag c.args.self.now _ (search r
 pub returns-clause-flushes : goal.returns-clause-flushes
 returns-clause-flushes g c = λ last. last_on c.args.tags.now c.args.tag c.args.self.now _
     (last_unlent c.args.self.now c.args.tag c.requires.unlent last) c.post.result c.post.ensures.does.posts
+
+pub returns-clause-waiter : goal.returns-clause-waiter
+returns-clause-waiter g c = on_ok_weaker c.post.result
+    (λ (p : Posts c.args.tag c.args.self.now.hand c.post.new.hand). posts_waiter _ _ _ p) c.post.ensures.does.posts
 
 pub returns-clause-tally : goal.returns-clause-tally
 returns-clause-tally g c = posted_tallies c.args.tag c.args.self.now _ (search rules) c.post.result c.post.ensures.does.posts

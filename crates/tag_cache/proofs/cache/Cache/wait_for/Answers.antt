@@ -9,4 +9,3 @@ invariant_of-self g c = let cache = c.args.self.now in let call = c.get_blocking
     (still_on cache.hand call.new.hand call.result
     (λ tag. BlockingGets c.args.tags.now tag cache.hand call.new.hand) call.ensures.gets call.ensures.refusals.same
     (λ tag gets other h. (gets.more.kept other h).0))
-

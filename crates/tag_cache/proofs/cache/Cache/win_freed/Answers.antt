@@ -12,4 +12,3 @@ pub lend-requires : goal.lend-requires
 lend-requires g c = let gets = c.in_ok-answer.ensures.does.gets in
     won c.args.tags.now c.args.self.now c.get_freed.new.hand c.in-Some.tag _ c.in-Some.is c.get_freed.ensures.hand
     c.requires.none gets.more gets.ordinary
-
