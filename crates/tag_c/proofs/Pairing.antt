@@ -54,13 +54,13 @@ gains tags tag known (Caching old) (Caching between) is does =
 gains tags tag known (Bare old) (Caching between) is does = absurd does.0
 gains tags tag known (Caching old) (Bare between) is does = absurd does.0
 
-module _ {tags : Tags ℕ} {value left : ℕ} {old between new : Holder} where
+module _ (tags : Tags ℕ) (value : ℕ) (old between : Holder) where
   -- the holder holds the tag that it has just won, so the write succeeds
-  writes_won : (tag : ℕ) (found : Result (Found ℕ) TagFault) (write : Result ℕ TagFault)
+  writes_won : {left : ℕ} (new : Holder) (tag : ℕ) (found : Result (Found ℕ) TagFault) (write : Result ℕ TagFault)
       → answer_of found ≡ Ok (Some tag) → DoesGet left tags found old between → Writes tag value write between new tags
       → DoesGetWrite value left tags found old new
-  writes_won tag (Err fault) write won gets writes = absurd (let no = won in cc)
-  writes_won tag (Ok known) write won gets writes = let is : known.answer ≡ Some tag = cc in
+  writes_won new tag (Err fault) write won gets writes = absurd (let no = won in cc)
+  writes_won new tag (Ok known) write won gets writes = let is : known.answer ≡ Some tag = cc in
       let done = answered (tag_checks tags between tag) write
       (gains tags tag known old between (rw is refl) gets) writes.0 in record {
         between = between;
@@ -75,28 +75,28 @@ module _ {tags : Tags ℕ} {value left : ℕ} {old between new : Holder} where
       }
 
   -- no tag is won, so the get is all
-  pub get_alone : (found : Result (Found ℕ) TagFault) → answer_of found ≡ Ok None → DoesGet left tags found old between
-      → DoesGetWrite value left tags found old between
+  pub get_alone : {left : ℕ} (found : Result (Found ℕ) TagFault) → answer_of found ≡ Ok None
+      → DoesGet left tags found old between → DoesGetWrite value left tags found old between
   get_alone (Err fault) none gets = absurd (let no = none in cc)
   get_alone (Ok known) none gets = let is : known.answer ≡ None = cc in
       record { between = between; gets = gets; writes = rw is tt; nothing = rw is refl; err = tt }
 
   -- and so it is if it is refused
-  pub get_refused : {fault : TagFault} (found : Result (Found ℕ) TagFault) → answer_of found ≡ Err fault
+  pub get_refused : {left : ℕ} {fault : TagFault} (found : Result (Found ℕ) TagFault) → answer_of found ≡ Err fault
       → DoesGet left tags found old between → DoesGetWrite value left tags found old between
   get_refused (Ok known) refused gets = absurd (let no = refused in cc)
   get_refused (Err fault) refused gets =
       record { between = between; gets = gets; writes = tt; nothing = tt; err = refl }
 
   -- a holder that has read a slot still holds its tag, so the clear succeeds
-  reads_and_clears : (tag : ℕ) (clear : Result ℕ TagFault) → PassesAll (tag_checks tags old tag) → Holds between tag
-      → DoesRead tag value tags (Ok value) old between → Clears tag clear between new tags
+  reads_and_clears : (new : Holder) (tag : ℕ) (clear : Result ℕ TagFault) → PassesAll (tag_checks tags old tag)
+      → Holds between tag → DoesRead tag value tags (Ok value) old between → Clears tag clear between new tags
       → DoesReadClear tag value tags clear old new × ¬ (IsRefusal (code_of_count clear))
-  reads_and_clears tag (Ok woken) passes held reads clears = (
-    record { refusals = record { first = tt; passes = passes; same = tt }; does = (between, (reads, clears.1)) },
+  reads_and_clears new tag (Ok woken) passes held reads clears = (
+    record { refusals = record { first = tt; passes = passes; same = tt }; does = (between, reads, clears.1) },
     λ refusal. refusal,
   )
-  reads_and_clears tag (Err fault) passes held reads clears =
+  reads_and_clears new tag (Err fault) passes held reads clears =
       absurd (unfailed (tag_checks tags between tag) fault (passes.0, (held, tt)) clears.0.first)
 
 -- what a read and a clear in one do once the read has found the value: the number is no refusal
@@ -113,7 +113,7 @@ module _ {state first second : PoolState} {code : ℤ} (at : first ≡ state) (s
       → Through (DoesGetWrite value left) code_of_found (as_stored code) state.tags old new
   get_written {left} {value} {tag} found write is won gets writes =
       through (DoesGetWrite value left) code_of_found {answer = found} (is ∙ ap code_of_get (sym won)) small at
-      (writes_won tag found write won gets (subst (λ (s : PoolState). Writes tag value write between new s.tags)
+      (writes_won first.tags value old between new tag found write won gets (subst (λ (s : PoolState). Writes tag value write between new s.tags)
       (again ∙ sym at) writes))
 
   pub cleared_read : (tag value : ℕ) (clear : Result ℕ TagFault) → code ≡ code_of_count clear
@@ -121,7 +121,7 @@ module _ {state first second : PoolState} {code : ℤ} (at : first ≡ state) (s
       → DoesRead tag value first.tags (Ok value) old between → Clears tag clear between new second.tags
       → ClearsRead tag value (as_stored code) state.tags old new
   cleared_read tag value clear is passes held reads clears =
-      let both = reads_and_clears tag clear passes held reads
+      let both = reads_and_clears first.tags value old between new tag clear passes held reads
       (subst (λ (s : PoolState). Clears tag clear between new s.tags) (again ∙ sym at) clears) in record {
         calls = through (DoesReadClear tag value) code_of_count is small at both.0;
         done = λ refusal. both.1 (subst IsRefusal (stored code small ∙ is) refusal);

@@ -16,7 +16,7 @@ get_code-requires c = let found = c.get_freed-found.result in
 pub returns-in-Ok-Some : goal.returns-in-Ok-Some
 returns-in-Ok-Some c = let does = c.write.ensures.does in (
   refl,
-  get_written c.deref.ensures c.get_code.type_inv c.deref-2.ensures (Bare c.args.self.now.hand) (Bare c.get_freed-found.new.hand)
+  get_written c.deref.ensures c.get_code.type_inv c.deref-in-Ok-Some.ensures (Bare c.args.self.now.hand) (Bare c.get_freed-found.new.hand)
       (Bare c.write.new.hand) c.get_freed-found.result c.write.result c.get_code.ensures
       (sym c.in-Ok-Some.ensures.answer ∙ ap Ok c.in-Ok-Some.field-0-is)
       (c.get_freed-found.ensures.does, c.tell_left.ensures.left) (does.refusals, does),
@@ -28,7 +28,7 @@ returns-in-Ok-None c = let none = sym c.in-Ok-None.ensures.answer ∙ ap Ok c.in
       refl,
       through (DoesGetWrite c.args.value c.tell_left.new.left) code_of_found {answer = found}
           (c.code.ensures ∙ ap code_of_get (sym none)) c.code.type_inv c.deref.ensures
-          (get_alone {old = Bare c.args.self.now.hand} {between = Bare c.get_freed-found.new.hand} found none
+          (get_alone c.deref.result.now.tags c.args.value (Bare c.args.self.now.hand) (Bare c.get_freed-found.new.hand) found none
           (c.get_freed-found.ensures.does, c.tell_left.ensures.left)),
     )
 
@@ -37,6 +37,6 @@ returns-in-Err c = let refused = sym c.in-Err.ensures.answer in let found = c.ge
   refl,
   through (DoesGetWrite c.args.value c.tell_left.new.left) code_of_found {answer = found}
       (c.fault_code.ensures ∙ ap code_of_get (sym refused)) c.fault_code.type_inv c.deref.ensures
-      (get_refused {old = Bare c.args.self.now.hand} {between = Bare c.get_freed-found.new.hand} found refused
+      (get_refused c.deref.result.now.tags c.args.value (Bare c.args.self.now.hand) (Bare c.get_freed-found.new.hand) found refused
       (c.get_freed-found.ensures.does, c.tell_left.ensures.left)),
 )
