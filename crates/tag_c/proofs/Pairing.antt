@@ -1,5 +1,5 @@
 -- Of a read with a clear and a get with a write, the second call succeeds wherever the first did, over any holder.
-use Rattle.std.proofs.Common.{◌≡◌, ℕ, ◌<◌, [], ◌∷◌, inl, inr, ℤ, Option, Some, None, Result, Ok, Err, IfSome, IfNone, ap, refl, sym, subst, ◌∙◌}
+use Rattle.std.proofs.Common.{◌≡◌, ℕ, ◌<◌, [], ◌∷◌, inl, inr, ℤ, Some, None, Result, Ok, Err, ap, refl, sym, subst, ◌∙◌}
 use lib.Signed.{mag}
 use Rattle.refusals.specs.Refusals.{Checks, FailsFirst, PassesAll, RefusesBy}
 use Rattle.tag_search.specs.declared.found.Found.{Found}
@@ -12,7 +12,7 @@ use Rattle.tag_sets.specs.Hands.{total_of}
 use Rattle.tag_cache.specs.Calls as caches
 use Rattle.tag_c.specs.declared.pool_state.PoolState.{PoolState}
 use Rattle.tag_c.specs.Holders.{Holder, Bare, Caching, Holds, Either, IsUnchanged}
-use Rattle.tag_c.specs.Calls.{Through, DoesClear, DoesGet, DoesRead, DoesWrite}
+use Rattle.tag_c.specs.Calls.{Through, DoesClear, DoesGet, DoesRead}
 use Rattle.tag_c.specs.Codes.{IsRefusal, code_of_get, code_of_found, code_of_count}
 use Rattle.tag_c.specs.Left.{answer_of}
 use Rattle.tag_c.specs.Pairs.{DoesGetWrite, DoesReadClear}

@@ -7,7 +7,6 @@ use Rattle.tag_sets.specs.declared.fault.TagFault.{TagFault}
 use Rattle.tag_queue.specs.Gets as queue
 use Rattle.tag_sets.specs.declared.hand.Hand.{Hand}
 use Rattle.tag_sets.specs.declared.kind.Kind.TheVariants.{Ordinary}
-use Rattle.tag_sets.specs.declared.tags.Tags.{Tags}
 use Rattle.tag_sets.specs.Hands.{reserved_of, total_of, layout_of, hint_of, IsHandOf}
 use Rattle.tag_sets.specs.Gets.{whole_run, CountsBatch, GetsBatch, IsAnswer, IsOrdinaryTag}
 use Rattle.tag_sets.specs.Refusals.{batch_checks}
