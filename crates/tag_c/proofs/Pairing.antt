@@ -1,5 +1,5 @@
 -- Of a read with a clear and a get with a write, the second call succeeds wherever the first did, over any holder.
-use Rattle.std.proofs.Common.{◌≡◌, ℕ, ◌<◌, [], ◌∷◌, inl, inr, ℤ, Some, None, Result, Ok, Err, ap, refl, sym, subst, ◌∙◌}
+use Rattle.std.proofs.Common.{◌≡◌, ℕ, ◌<◌, [], ◌∷◌, inl, inr, ℤ, Option, Some, None, Result, Ok, Err, IfOk, ap, refl, sym, subst, ◌∙◌}
 use lib.Signed.{mag}
 use Rattle.refusals.specs.Refusals.{Checks, FailsFirst, PassesAll, RefusesBy}
 use Rattle.tag_search.specs.declared.found.Found.{Found}
@@ -15,7 +15,7 @@ use Rattle.tag_c.specs.Holders.{Holder, Bare, Caching, Holds, Either, IsUnchange
 use Rattle.tag_c.specs.Calls.{Through, DoesClear, DoesGet, DoesRead}
 use Rattle.tag_c.specs.Codes.{IsRefusal, code_of_get, code_of_found, code_of_count}
 use Rattle.tag_c.specs.Left.{answer_of}
-use Rattle.tag_c.specs.Pairs.{DoesGetWrite, DoesReadClear}
+use Rattle.tag_c.specs.Pairs.{tag_checks, DoesGetWrite, DoesReadClear}
 use Rattle.tag_c.proofs.Calling.{as_stored, stored, through}
 
 -- where all checks pass none fails
@@ -29,10 +29,6 @@ answered : (checks : Checks TagFault) {same : Type 0} (answer : Result ℕ TagFa
     → RefusesBy checks same answer → (found : ℕ) × (answer ≡ Ok found)
 answered checks (Ok found) passes refusals = (found, refl)
 answered checks (Err fault) passes refusals = absurd (unfailed checks fault passes refusals.first)
-
--- what a call on a tag that the holder has to hold checks
-abbrev tag_checks : Tags ℕ → Holder → ℕ → Checks TagFault
-tag_checks tags holder tag = (tag < total_of tags, NoSuchTag) ∷ (Holds holder tag, NotHeld) ∷ []
 
 -- the holder writes the slot, or is refused
 abbrev Writes : ℕ → ℕ → Result ℕ TagFault → Holder → Holder → Tags ℕ → Type 0
@@ -65,27 +61,24 @@ module _ (tags : Tags ℕ) (value : ℕ) (old between : Holder) where
       (gains tags tag known old between (rw is refl) gets) writes.0 in record {
         between = between;
         gets = gets;
-        writes = rw is (done.0, (
-          subst (λ (r : Result ℕ TagFault). Either (hands.DoesWrite tag value tags r)
-              (caches.DoesWrite tag value tags r) between new) done.1 writes.1,
-          refl,
-        ));
+        writes = rw is (
+          done.0,
+          (
+            subst (λ (r : Result ℕ TagFault). Either (hands.DoesWrite tag value tags r)
+                (caches.DoesWrite tag value tags r) between new) done.1 writes.1,
+            refl,
+          ),
+        );
         nothing = rw is tt;
         err = tt;
       }
 
   -- no tag is won, so the get is all
-  pub get_alone : {left : ℕ} (found : Result (Found ℕ) TagFault) → answer_of found ≡ Ok None
+  wins_none : {left : ℕ} (found : Result (Found ℕ) TagFault) → IfOk (answer_of found) (λ won. won ≡ None)
       → DoesGet left tags found old between → DoesGetWrite value left tags found old between
-  get_alone (Err fault) none gets = absurd (let no = none in cc)
-  get_alone (Ok known) none gets = let is : known.answer ≡ None = cc in
-      record { between = between; gets = gets; writes = rw is tt; nothing = rw is refl; err = tt }
-
-  -- and so it is if it is refused
-  pub get_refused : {left : ℕ} {fault : TagFault} (found : Result (Found ℕ) TagFault) → answer_of found ≡ Err fault
-      → DoesGet left tags found old between → DoesGetWrite value left tags found old between
-  get_refused (Ok known) refused gets = absurd (let no = refused in cc)
-  get_refused (Err fault) refused gets =
+  wins_none (Ok known) none gets =
+      record { between = between; gets = gets; writes = rw none tt; nothing = rw none refl; err = tt }
+  wins_none (Err fault) none gets =
       record { between = between; gets = gets; writes = tt; nothing = tt; err = refl }
 
   -- a holder that has read a slot still holds its tag, so the clear succeeds
@@ -99,30 +92,38 @@ module _ (tags : Tags ℕ) (value : ℕ) (old between : Holder) where
   reads_and_clears new tag (Err fault) passes held reads clears =
       absurd (unfailed (tag_checks tags between tag) fault (passes.0, (held, tt)) clears.0.first)
 
--- what a read and a clear in one do once the read has found the value: the number is no refusal
-pub record ClearsRead (tag value : ℕ) (code : ℤ) (tags : Tags ℕ) (old new : Holder) : Type 0 where
-  pub calls : Through (DoesReadClear tag value) code_of_count code tags old new
-  pub done : ¬ (IsRefusal code)
-
--- the two calls in one return the code of the last answer that they came to; the second reads the pool anew
-module _ {state first second : PoolState} {code : ℤ} (at : first ≡ state) (small : mag code < 2147483648)
-    (again : second ≡ state) (old between new : Holder) where
-  pub get_written : {left value tag : ℕ} (found : Result (Found ℕ) TagFault) (write : Result ℕ TagFault)
-      → code ≡ code_of_get (Ok (Some tag)) → answer_of found ≡ Ok (Some tag) → DoesGet left first.tags found old between
-      → Writes tag value write between new second.tags
-      → Through (DoesGetWrite value left) code_of_found (as_stored code) state.tags old new
-  get_written {left} {value} {tag} found write is won gets writes =
+-- the two calls in one return the code of the last answer that they came to
+module _ {state first : PoolState} {code : ℤ} (at : first ≡ state) (small : mag code < 2147483648)
+    (old between : Holder) where
+  pub get_alone : {left value : ℕ} {won : Result (Option ℕ) TagFault} (found : Result (Found ℕ) TagFault)
+      → code ≡ code_of_get won → answer_of found ≡ won → IfOk won (λ answer. answer ≡ None)
+      → DoesGet left first.tags found old between
+      → Through (DoesGetWrite value left) code_of_found (as_stored code) state.tags old between
+  get_alone {left} {value} found is won none gets =
       through (DoesGetWrite value left) code_of_found {answer = found} (is ∙ ap code_of_get (sym won)) small at
-      (writes_won first.tags value old between new tag found write won gets (subst (λ (s : PoolState). Writes tag value write between new s.tags)
-      (again ∙ sym at) writes))
+      (wins_none first.tags value old between found
+      (subst (λ (a : Result (Option ℕ) TagFault). IfOk a (λ answer. answer ≡ None)) (sym won) none) gets)
 
-  pub cleared_read : (tag value : ℕ) (clear : Result ℕ TagFault) → code ≡ code_of_count clear
-      → PassesAll (tag_checks first.tags old tag) → Holds between tag
-      → DoesRead tag value first.tags (Ok value) old between → Clears tag clear between new second.tags
-      → ClearsRead tag value (as_stored code) state.tags old new
-  cleared_read tag value clear is passes held reads clears =
-      let both = reads_and_clears first.tags value old between new tag clear passes held reads
-      (subst (λ (s : PoolState). Clears tag clear between new s.tags) (again ∙ sym at) clears) in record {
-        calls = through (DoesReadClear tag value) code_of_count is small at both.0;
-        done = λ refusal. both.1 (subst IsRefusal (stored code small ∙ is) refusal);
-      }
+  -- the second call reads the pool anew
+  module _ {second : PoolState} (again : second ≡ state) (new : Holder) where
+    pub get_written : {left value tag : ℕ} (found : Result (Found ℕ) TagFault) (write : Result ℕ TagFault)
+        → code ≡ code_of_get (Ok (Some tag)) → answer_of found ≡ Ok (Some tag)
+        → DoesGet left first.tags found old between → Writes tag value write between new second.tags
+        → Through (DoesGetWrite value left) code_of_found (as_stored code) state.tags old new
+    get_written {left} {value} {tag} found write is won gets writes =
+        through (DoesGetWrite value left) code_of_found {answer = found} (is ∙ ap code_of_get (sym won)) small at
+        (writes_won first.tags value old between new tag found write won gets
+        (subst (λ (s : PoolState). Writes tag value write between new s.tags) (again ∙ sym at) writes))
+
+    -- the number of the clear is no refusal
+    pub cleared_read : (tag value : ℕ) (clear : Result ℕ TagFault) → code ≡ code_of_count clear
+        → PassesAll (tag_checks first.tags old tag) → Holds between tag
+        → DoesRead tag value first.tags (Ok value) old between → Clears tag clear between new second.tags
+        → Through (DoesReadClear tag value) code_of_count (as_stored code) state.tags old new
+        × ¬ (IsRefusal (as_stored code))
+    cleared_read tag value clear is passes held reads clears =
+        let both = reads_and_clears first.tags value old between new tag clear passes held reads
+        (subst (λ (s : PoolState). Clears tag clear between new s.tags) (again ∙ sym at) clears) in (
+          through (DoesReadClear tag value) code_of_count is small at both.0,
+          λ refusal. both.1 (subst IsRefusal (stored code small ∙ is) refusal),
+        )

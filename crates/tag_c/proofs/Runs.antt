@@ -30,7 +30,8 @@ module _ (shared : PoolState) (old new : Hand ℕ) (own : IsHandOf shared.tags o
       omega arith
 
   -- and so is that of any batch get, since under round robin it answers none
-  run_fits : {same : Type 0} (found : Result (Found (ℕ × ℕ)) TagFault) → OnOk found (PassesAll (batch_checks shared.tags old n))
+  run_fits : {same : Type 0} (found : Result (Found (ℕ × ℕ)) TagFault)
+      → OnOk found (PassesAll (batch_checks shared.tags old n))
       → (CountsBatch shared.tags n → IsTrue (hint_of old Ordinary).round_robin
       → IsOkAnd found (λ known. known.answer ≡ None) × same)
       → ((hint_of old Ordinary).round_robin ≡ false

@@ -15,12 +15,14 @@ use tag_sets::Count;
 trait SlotCalls: AnyHand {
     /// Reads the slot of a held tag into `value`.
     fn read(&mut self, tag: u32, value: &mut u64) -> i32
-        ensures calls { Self.changes (Through (DoesRead tag value.new) code_of_done result) self.old self.new }
+        ensures calls { Self.changes (Through (DoesRead tag value.new) code_of_done result)
+            self.old self.new }
         ensures kept { IsRefusal result → value.new ≡ value.old };
 
     /// Writes the slot of a held tag, and what it held before into `former`.
     fn write(&mut self, tag: u32, value: u64, former: &mut u64) -> i32
-        ensures calls { Self.changes (Through (DoesWrite tag value former.new) code_of_done result) self.old self.new }
+        ensures calls { Self.changes (Through (DoesWrite tag value former.new) code_of_done result)
+            self.old self.new }
         ensures kept { IsRefusal result → former.new ≡ former.old };
 
     /// Posts a held tag, so that any hand of the pool can take it.
@@ -79,7 +81,8 @@ impl SlotCalls for CachedMember {
 
 #[unsafe(no_mangle)]
 pub extern "C" fn tags_read(hand: &mut Handle, tag: u32, value: &mut u64) -> i32
-    ensures calls { CallsBy (Through (DoesRead tag value.new) code_of_done result) result hand.old.object.value hand.new.object.value }
+    ensures calls { CallsBy (Through (DoesRead tag value.new) code_of_done result) result
+        hand.old.object.value hand.new.object.value }
     ensures kept { IsRefusal result → value.new ≡ value.old }
 {
     on_hand!(hand.read(tag, value))
@@ -96,14 +99,16 @@ pub extern "C" fn tags_write(hand: &mut Handle, tag: u32, value: u64, former: &m
 
 #[unsafe(no_mangle)]
 pub extern "C" fn tags_post(hand: &mut Handle, tag: u32) -> i32
-    ensures { CallsBy (Through (DoesPost tag) code_of_done result) result hand.old.object.value hand.new.object.value }
+    ensures { CallsBy (Through (DoesPost tag) code_of_done result) result
+        hand.old.object.value hand.new.object.value }
 {
     on_hand!(hand.post(tag))
 }
 
 #[unsafe(no_mangle)]
 pub extern "C" fn tags_take(hand: &mut Handle, tag: u32) -> i32
-    ensures { CallsBy (Through (DoesTake tag) code_of_done result) result hand.old.object.value hand.new.object.value }
+    ensures { CallsBy (Through (DoesTake tag) code_of_done result) result
+        hand.old.object.value hand.new.object.value }
 {
     on_hand!(hand.take(tag))
 }

@@ -1,31 +1,16 @@
 -- A get of a hand is never refused as a bad handle.
-use Rattle.std.proofs.Common.{◌≡◌, ◌<◌, ℕ, ℤ, Option, Some, None, Result, Ok, Err, sym, ◌∙◌}
+use Rattle.std.proofs.Common.{◌≡◌, ◌<◌, ℕ, ℤ, arith, Option, Result, sym, ◌∙◌}
 use lib.Signed.{mag}
 use Rattle.tag_sets.specs.declared.fault.TagFault.{TagFault}
-use Rattle.tag_sets.specs.declared.fault.TagFault.TheVariants.{NoSuchTag, NoReserved, NotHeld, NotPosted, BadCount, TooShallow, Spent, Waiting, NotWaiting}
 use Rattle.tag_c.specs.declared.status.Status.TheVariants.{BadHandle}
-use Rattle.tag_c.specs.Codes.{code_of, code_of_fault, code_of_get}
+use Rattle.tag_c.specs.Codes.{code_of, code_of_get}
 use Rattle.tag_c.specs.Left.{answer_of}
 use Rattle.tag_c.proofs.Calling.{as_stored, stored}
 use Rattle.tag_c.proofs.pairs.tags_get_write.Goals as goal
 
--- a refusal by `tag_sets` has not the number of a bad handle
-no_bad_fault : (fault : TagFault) → ¬ (code_of_fault fault ≡ code_of BadHandle)
-no_bad_fault NoSuchTag is = absurd cc
-no_bad_fault NoReserved is = absurd cc
-no_bad_fault NotHeld is = absurd cc
-no_bad_fault NotPosted is = absurd cc
-no_bad_fault BadCount is = absurd cc
-no_bad_fault TooShallow is = absurd cc
-no_bad_fault Spent is = absurd cc
-no_bad_fault Waiting is = absurd cc
-no_bad_fault NotWaiting is = absurd cc
-
--- and neither has the answer of a get
+-- no get has the number of a bad handle
 no_bad_get : (answer : Result (Option ℕ) TagFault) → ¬ (code_of_get answer ≡ code_of BadHandle)
-no_bad_get (Ok (Some tag)) is = absurd cc
-no_bad_get (Ok None) is = absurd cc
-no_bad_get (Err fault) is = no_bad_fault fault is
+no_bad_get answer is = grind arith
 
 -- so whoever has made a get was no bad handle
 no_bad_handle : {P : Type 0} {code : ℤ} (answer : Result (Option ℕ) TagFault) → code ≡ code_of_get answer

@@ -84,8 +84,11 @@ returns-in_default-clause-why c = λ _. let code = c.code-in_default in
         omega (arith, c.if-keeping-gt-WHILE_HOLDING.false),
         omega (arith, c.if-most-gt-MAX_CACHE.false),
       ),
-      inr (subst (λ (o : Options). PassesAll (open_checks c.args.requested.now.total c.args.requested.now.reserved o))
-          c.read_options.ensures c.in-Ok.ensures.ok.can, refl),
+      inr (
+        subst (λ (o : Options). PassesAll (open_checks c.args.requested.now.total c.args.requested.now.reserved o))
+            c.read_options.ensures c.in-Ok.ensures.ok.can,
+        refl,
+      ),
     ))))
 
 pub returns-in_default-clause-not_empty : goal.returns-in_default-clause-not_empty
