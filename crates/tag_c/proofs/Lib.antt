@@ -1,12 +1,8 @@
-pub mod Answering
 pub mod Calling
 pub mod Collected
-pub mod Does
 pub mod Flags
 pub mod Joining
-pub mod Masking
 pub mod Owners
-pub mod Parts
 pub mod Pairing
 pub mod Refusing
 pub mod Resizing

@@ -1,6 +1,6 @@
 -- What two calls in one do, in terms of the two.
 use Rattle.std.specs.Prelude.{ℕ, ◌≡◌, ◌<◌, [], ◌∷◌, Result, Ok, IfOk, IfSome, IfNone, OnOk, OnErr}
-use Rattle.refusals.specs.Refusals.{RefusesBy}
+use Rattle.refusals.specs.Refusals.{Checks, RefusesBy}
 use Rattle.tag_search.specs.declared.found.Found.{Found}
 use Rattle.tag_sets.specs.declared.fault.TagFault.{TagFault}
 use Rattle.tag_sets.specs.declared.fault.TagFault.TheVariants.{NoSuchTag, NotHeld}
@@ -9,18 +9,23 @@ use Rattle.tag_sets.specs.Hands.{total_of}
 use Rattle.tag_c.specs.Holders.{Holder, Holds, IsUnchanged}
 use Rattle.tag_c.specs.Calls.{DoesGet, DoesClear, DoesRead, DoesWrite}
 
+-- a call on a tag that has to be held
+abbrev pub tag_checks : Tags ℕ → Holder → ℕ → Checks TagFault
+tag_checks tags holder tag = (tag < total_of tags, NoSuchTag) ∷ (Holds holder tag, NotHeld) ∷ []
+
 -- gets an ordinary tag, and then writes the value to its slot; if no tag is won, the get is all
 pub record DoesGetWrite (value left : ℕ) (tags : Tags ℕ) (answer : Result (Found ℕ) TagFault) (old new : Holder) : Type 0
   where
     pub between : Holder
     pub gets : DoesGet left tags answer old between
-    pub writes : IfOk answer (λ found. IfSome found.answer (λ tag. (former : ℕ) × DoesWrite tag value former tags (Ok former) between new))
+    pub writes : IfOk answer (λ found. IfSome found.answer (λ tag.
+        (former : ℕ) × DoesWrite tag value former tags (Ok former) between new))
     pub nothing : IfOk answer (λ found. IfNone found.answer (new ≡ between))
     pub err : OnErr answer (new ≡ between)
 
 -- reads the value of a tag's slot, and then clears the tag; it is refused exactly where either of them is
 pub record DoesReadClear (tag value : ℕ) (tags : Tags ℕ) (answer : Result ℕ TagFault) (old new : Holder) : Type 0
   where
-    pub refusals : RefusesBy ((tag < total_of tags, NoSuchTag) ∷ (Holds old tag, NotHeld) ∷ []) (IsUnchanged old new) answer
+    pub refusals : RefusesBy (tag_checks tags old tag) (IsUnchanged old new) answer
     pub does : OnOk answer ((between : Holder) × DoesRead tag value tags (Ok value) old between
         × DoesClear tag tags answer between new)

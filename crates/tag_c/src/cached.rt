@@ -9,6 +9,7 @@ use crate::pool_state::PoolState;
 use std::alloc::Global;
 use std::sync::Arc;
 use tag_cache::{Cache, Keeping};
+use tag_sets::Count;
 
 /// How many tags each hand of a pool may keep, and when.
 #[derive(Clone, Copy, Debug, PartialEq, Eq)]

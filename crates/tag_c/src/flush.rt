@@ -11,7 +11,8 @@ use crate::codes::grants_code;
 use crate::granted::{Granted, fill};
 use crate::handle::Handle;
 use crate::member::Member;
-use wake_book::{Grants, NO_GRANTS};
+use tag_sets::Report;
+use wake_book::NO_GRANTS;
 
 /// Calls that give kept tags back, of which a hand without a cache has none.
 trait FlushCalls: AnyHand {
@@ -21,7 +22,8 @@ trait FlushCalls: AnyHand {
 
     /// Gives all kept tags back, fills in whom that granted a wakeup, and returns how many waiters they are.
     fn flush_granted(&mut self, granted: &mut Granted) -> i32
-        ensures calls { Self.changes (Through (FillingTold granted.new DoesFlush) code_of_told result) self.old self.new }
+        ensures calls { Self.changes (Through (FillingTold granted.new DoesFlush) code_of_told result)
+            self.old self.new }
         ensures kept { IsRefusal result → granted.new ≡ granted.old };
 
     /// Returns 1 if the hand has a cache, and 0 if not.
@@ -65,7 +67,8 @@ impl FlushCalls for CachedMember {
 
 #[unsafe(no_mangle)]
 pub extern "C" fn tags_flush(hand: &mut Handle) -> i32
-    ensures { CallsBy (Through DoesFlush code_of_told result) result hand.old.object.value hand.new.object.value }
+    ensures { CallsBy (Through DoesFlush code_of_told result) result
+        hand.old.object.value hand.new.object.value }
 {
     on_hand!(hand.flush())
 }

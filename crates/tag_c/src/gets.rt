@@ -2,7 +2,7 @@
 ghost use Rattle.std.specs.Prelude.{◌≡◌};
 ghost use Rattle.tag_c.specs.declared.status.Status.TheVariants.{BadHandle};
 ghost use Rattle.tag_c.specs.Calls.{CallsBy, Through, DoesGet, DoesGetReserved, DoesGetShallow, DoesGetBatch};
-ghost use Rattle.tag_c.specs.Codes.{IsRefusal, code_of, code_of_get};
+ghost use Rattle.tag_c.specs.Codes.{IsRefusal, code_of, code_of_get, code_of_found, code_of_found_batch};
 
 use crate::any_hand::{AnyHand, on_hand};
 use crate::cached::CachedMember;
@@ -22,12 +22,14 @@ trait GetCalls: AnyHand {
 
     /// Takes a free ordinary tag within the words' shares of `depth` and returns it.
     fn get_shallow(&mut self, depth: u32, left: &mut u64) -> i32
-        ensures { Self.changes (Through (DoesGetShallow depth left.new) code_of_found result) self.old self.new };
+        ensures { Self.changes (Through (DoesGetShallow depth left.new) code_of_found result)
+            self.old self.new };
 
     /// Takes up to `n` ordinary tags of one word, and returns the first tag of their run. Bit 0 of `won` becomes 1 if
     /// that tag was won, bit 1 if the next one was, and so on. If no tag was won, `won` keeps its value.
     fn get_batch(&mut self, n: u32, won: &mut u64, left: &mut u64) -> i32
-        ensures calls { Self.changes (Through (DoesGetBatch n won.new left.new) code_of_found_batch result) self.old self.new }
+        ensures calls { Self.changes (Through (DoesGetBatch n won.new left.new) code_of_found_batch result)
+            self.old self.new }
         ensures kept { IsRefusal result → won.new ≡ won.old };
 }
 
@@ -90,7 +92,8 @@ impl GetCalls for CachedMember {
 
 #[unsafe(no_mangle)]
 pub extern "C" fn tags_get(hand: &mut Handle, left: &mut u64) -> i32
-    ensures calls { CallsBy (Through (DoesGet left.new) code_of_found result) result hand.old.object.value hand.new.object.value }
+    ensures calls { CallsBy (Through (DoesGet left.new) code_of_found result) result
+        hand.old.object.value hand.new.object.value }
     ensures bad_handle { result ≡ code_of BadHandle → left.new ≡ 0 }
 {
     *left = 0;
@@ -99,7 +102,8 @@ pub extern "C" fn tags_get(hand: &mut Handle, left: &mut u64) -> i32
 
 #[unsafe(no_mangle)]
 pub extern "C" fn tags_get_reserved(hand: &mut Handle) -> i32
-    ensures { CallsBy (Through DoesGetReserved code_of_get result) result hand.old.object.value hand.new.object.value }
+    ensures { CallsBy (Through DoesGetReserved code_of_get result) result
+        hand.old.object.value hand.new.object.value }
 {
     on_hand!(hand.get_reserved())
 }

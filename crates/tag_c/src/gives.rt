@@ -17,7 +17,8 @@ trait ClearCalls: AnyHand {
 
     /// Gives held ordinary tags back, and returns how many waiters were granted a wakeup.
     fn clear_batch(&mut self, tags: &[u32]) -> i32
-        ensures { Self.changes (Through (DoesClearBatch tags.now) code_of_grants result) self.old self.new };
+        ensures { Self.changes (Through (DoesClearBatch tags.now) code_of_grants result)
+            self.old self.new };
 }
 
 impl ClearCalls for Member {
@@ -46,14 +47,16 @@ impl ClearCalls for CachedMember {
 
 #[unsafe(no_mangle)]
 pub extern "C" fn tags_clear(hand: &mut Handle, tag: u32) -> i32
-    ensures { CallsBy (Through (DoesClear tag) code_of_count result) result hand.old.object.value hand.new.object.value }
+    ensures { CallsBy (Through (DoesClear tag) code_of_count result) result
+        hand.old.object.value hand.new.object.value }
 {
     on_hand!(hand.clear(tag))
 }
 
 #[unsafe(no_mangle)]
 pub extern "C" fn tags_clear_batch(hand: &mut Handle, tags: &[u32]) -> i32
-    ensures { CallsBy (Through (DoesClearBatch tags.now) code_of_grants result) result hand.old.object.value hand.new.object.value }
+    ensures { CallsBy (Through (DoesClearBatch tags.now) code_of_grants result) result
+        hand.old.object.value hand.new.object.value }
 {
     on_hand!(hand.clear_batch(tags))
 }

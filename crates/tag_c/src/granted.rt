@@ -43,12 +43,14 @@ pub(crate) fn fill(answer: Result<Grants, TagFault>, granted: &mut Granted) -> i
 trait GrantedCalls: AnyHand {
     /// Gives a held tag back, fills in whom that granted a wakeup, and returns how many waiters they are.
     fn clear_granted(&mut self, tag: u32, granted: &mut Granted) -> i32
-        ensures calls { Self.changes (Through (Filling granted.new (DoesClearGranted tag)) code_of_grants result) self.old self.new }
+        ensures calls { Self.changes (Through (Filling granted.new (DoesClearGranted tag)) code_of_grants result)
+            self.old self.new }
         ensures kept { IsRefusal result → granted.new ≡ granted.old };
 
     /// Gives held ordinary tags back, fills in whom that granted a wakeup, and returns how many waiters they are.
     fn clear_batch_granted(&mut self, tags: &[u32], granted: &mut Granted) -> i32
-        ensures calls { Self.changes (Through (Filling granted.new (DoesClearBatch tags.now)) code_of_grants result) self.old self.new }
+        ensures calls { Self.changes
+            (Through (Filling granted.new (DoesClearBatch tags.now)) code_of_grants result) self.old self.new }
         ensures kept { IsRefusal result → granted.new ≡ granted.old };
 }
 

@@ -171,7 +171,8 @@ pub extern "C" fn tags_holds(hand: &mut Handle, tag: u32) -> i32
 
 #[unsafe(no_mangle)]
 pub extern "C" fn tags_busy(hand: &mut Handle, into: &mut [u64]) -> i32
-    ensures calls { CallsBy (SaysBusy into.old into.new result) result hand.old.object.value hand.new.object.value }
+    ensures calls { CallsBy (SaysBusy into.old into.new result) result
+        hand.old.object.value hand.new.object.value }
     ensures kept { IsRefusal result → into.new ≡ into.old }
 {
     on_hand!(hand.busy(into))
@@ -179,7 +180,8 @@ pub extern "C" fn tags_busy(hand: &mut Handle, into: &mut [u64]) -> i32
 
 #[unsafe(no_mangle)]
 pub extern "C" fn tags_show(hand: &mut Handle, kind: u32, sizes: &mut Sizes) -> i32
-    ensures calls { CallsBy (SaysShown kind sizes.new result) result hand.old.object.value hand.new.object.value }
+    ensures calls { CallsBy (SaysShown kind sizes.new result) result
+        hand.old.object.value hand.new.object.value }
     ensures kept { IsRefusal result → sizes.new ≡ sizes.old }
 {
     on_hand!(hand.show(kind, sizes))
@@ -187,7 +189,8 @@ pub extern "C" fn tags_show(hand: &mut Handle, kind: u32, sizes: &mut Sizes) -> 
 
 #[unsafe(no_mangle)]
 pub extern "C" fn tags_wakes(hand: &mut Handle, counts: &mut Counts) -> i32
-    ensures calls { CallsBy (SaysWakes counts.new result) result hand.old.object.value hand.new.object.value }
+    ensures calls { CallsBy (SaysWakes counts.new result) result
+        hand.old.object.value hand.new.object.value }
     ensures kept { IsRefusal result → counts.new ≡ counts.old }
 {
     on_hand!(hand.wakes(counts))

@@ -16,12 +16,14 @@ use tag_sets::{Count, Report};
 trait MaskCalls: AnyHand {
     /// Gives the held ordinary tags of a mask back, and returns how many waiters were granted a wakeup.
     fn clear_mask(&mut self, first: u32, mask: u64) -> i32
-        ensures { Self.changes (Through (DoesClearMask first mask) code_of_count result) self.old self.new };
+        ensures { Self.changes (Through (DoesClearMask first mask) code_of_count result)
+            self.old self.new };
 
     /// Gives the held ordinary tags of a mask back, fills in whom that granted a wakeup, and returns how many waiters
     /// they are.
     fn clear_mask_granted(&mut self, first: u32, mask: u64, granted: &mut Granted) -> i32
-        ensures calls { Self.changes (Through (Filling granted.new (DoesClearMaskGranted first mask)) code_of_grants result) self.old self.new }
+        ensures calls { Self.changes
+            (Through (Filling granted.new (DoesClearMaskGranted first mask)) code_of_grants result) self.old self.new }
         ensures kept { IsRefusal result → granted.new ≡ granted.old };
 }
 
@@ -67,7 +69,8 @@ impl MaskCalls for CachedMember {
 
 #[unsafe(no_mangle)]
 pub extern "C" fn tags_clear_mask(hand: &mut Handle, first: u32, mask: u64) -> i32
-    ensures { CallsBy (Through (DoesClearMask first mask) code_of_count result) result hand.old.object.value
+    ensures { CallsBy (Through (DoesClearMask first mask) code_of_count result) result
+        hand.old.object.value
         hand.new.object.value }
 {
     on_hand!(hand.clear_mask(first, mask))

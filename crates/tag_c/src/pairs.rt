@@ -18,12 +18,14 @@ use tag_sets::Count;
 trait PairCalls: AnyHand {
     /// Takes a free ordinary tag, writes its slot, and returns the tag.
     fn get_write(&mut self, value: u64, left: &mut u64) -> i32
-        ensures { Self.changes (Through (DoesGetWrite value left.new) code_of_found result) self.old self.new };
+        ensures { Self.changes (Through (DoesGetWrite value left.new) code_of_found result)
+            self.old self.new };
 
     /// Reads the slot of a held tag into `value`, gives the tag back, and returns how many waiters were granted a
     /// wakeup.
     fn read_clear(&mut self, tag: u32, value: &mut u64) -> i32
-        ensures calls { Self.changes (Through (DoesReadClear tag value.new) code_of_count result) self.old self.new }
+        ensures calls { Self.changes (Through (DoesReadClear tag value.new) code_of_count result)
+            self.old self.new }
         ensures kept { IsRefusal result → value.new ≡ value.old };
 }
 

@@ -2,7 +2,8 @@
 ghost use Rattle.std.specs.Prelude.{◌≡◌, [], All, IfOk, IfErr, IfSome, IfNone, OnErr};
 ghost use Rattle.std.specs.Arc.{arc_value};
 ghost use Rattle.tag_sets.specs.Hands.{IsHandOf};
-ghost use Rattle.tag_sets.specs.Opening.{RefusesOpen};
+ghost use Rattle.refusals.specs.Refusals.{RefusesOrRunsOut};
+ghost use Rattle.tag_sets.specs.Refusals.{open_checks};
 ghost use Rattle.tag_c.specs.Pools.{Opens, LacksHand, Gathers, HasHands};
 
 use crate::cached::{CacheTerms, CachedMember};
@@ -38,7 +39,7 @@ impl Pool {
     ) -> Result<Pool, SetFault>
         ensures ok { IfOk result (λ pool. Opens total reserved options (arc_value pool.shared).tags pool.spare.items) }
         ensures cache { IfOk result (λ pool. (arc_value pool.shared).cache ≡ cache) }
-        ensures cause { IfErr result (RefusesOpen total reserved options) }
+        ensures refusals { RefusesOrRunsOut (open_checks total reserved options) SetFault.Memory result }
     {
         let (tags, hands) = Tags::open(alloc, total, reserved, options, 0)?;
         let Ok(cells) = Vec::with_capacity(alloc, hands.len()) else {

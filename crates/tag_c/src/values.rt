@@ -6,20 +6,23 @@ ghost use Rattle.tag_c.specs.Codes.{IsRefusal, code_of_done};
 
 use crate::any_hand::{AnyHand, on_hand};
 use crate::cached::CachedMember;
-use crate::codes::{done_code, value_code, done_alone};
+use crate::codes::{done_alone, done_code, value_code};
 use crate::handle::Handle;
 use crate::member::Member;
+use tag_sets::Count;
 
 /// Calls that use the slots of held tags, and pass tags to other hands.
 trait SlotCalls: AnyHand {
     /// Reads the slot of a held tag into `value`.
     fn read(&mut self, tag: u32, value: &mut u64) -> i32
-        ensures calls { Self.changes (Through (DoesRead tag value.new) code_of_done result) self.old self.new }
+        ensures calls { Self.changes (Through (DoesRead tag value.new) code_of_done result)
+            self.old self.new }
         ensures kept { IsRefusal result → value.new ≡ value.old };
 
     /// Writes the slot of a held tag, and what it held before into `former`.
     fn write(&mut self, tag: u32, value: u64, former: &mut u64) -> i32
-        ensures calls { Self.changes (Through (DoesWrite tag value former.new) code_of_done result) self.old self.new }
+        ensures calls { Self.changes (Through (DoesWrite tag value former.new) code_of_done result)
+            self.old self.new }
         ensures kept { IsRefusal result → former.new ≡ former.old };
 
     /// Posts a held tag, so that any hand of the pool can take it.
@@ -78,7 +81,8 @@ impl SlotCalls for CachedMember {
 
 #[unsafe(no_mangle)]
 pub extern "C" fn tags_read(hand: &mut Handle, tag: u32, value: &mut u64) -> i32
-    ensures calls { CallsBy (Through (DoesRead tag value.new) code_of_done result) result hand.old.object.value hand.new.object.value }
+    ensures calls { CallsBy (Through (DoesRead tag value.new) code_of_done result) result
+        hand.old.object.value hand.new.object.value }
     ensures kept { IsRefusal result → value.new ≡ value.old }
 {
     on_hand!(hand.read(tag, value))
@@ -95,14 +99,16 @@ pub extern "C" fn tags_write(hand: &mut Handle, tag: u32, value: u64, former: &m
 
 #[unsafe(no_mangle)]
 pub extern "C" fn tags_post(hand: &mut Handle, tag: u32) -> i32
-    ensures { CallsBy (Through (DoesPost tag) code_of_done result) result hand.old.object.value hand.new.object.value }
+    ensures { CallsBy (Through (DoesPost tag) code_of_done result) result
+        hand.old.object.value hand.new.object.value }
 {
     on_hand!(hand.post(tag))
 }
 
 #[unsafe(no_mangle)]
 pub extern "C" fn tags_take(hand: &mut Handle, tag: u32) -> i32
-    ensures { CallsBy (Through (DoesTake tag) code_of_done result) result hand.old.object.value hand.new.object.value }
+    ensures { CallsBy (Through (DoesTake tag) code_of_done result) result
+        hand.old.object.value hand.new.object.value }
 {
     on_hand!(hand.take(tag))
 }

@@ -7,6 +7,7 @@ use crate::cached::CachedMember;
 use crate::codes::{count_code, finish_code, group_alone};
 use crate::handle::Handle;
 use crate::member::Member;
+use tag_sets::Count;
 
 /// Calls around a wait.
 trait WaitCalls: AnyHand {
@@ -45,14 +46,16 @@ impl WaitCalls for CachedMember {
 
 #[unsafe(no_mangle)]
 pub extern "C" fn tags_prepare(hand: &mut Handle) -> i32
-    ensures { CallsBy (Through DoesPrepare code_of_count result) result hand.old.object.value hand.new.object.value }
+    ensures { CallsBy (Through DoesPrepare code_of_count result) result
+        hand.old.object.value hand.new.object.value }
 {
     on_hand!(hand.prepare())
 }
 
 #[unsafe(no_mangle)]
 pub extern "C" fn tags_finish(hand: &mut Handle) -> i32
-    ensures { CallsBy (Through DoesFinish code_of_finish result) result hand.old.object.value hand.new.object.value }
+    ensures { CallsBy (Through DoesFinish code_of_finish result) result
+        hand.old.object.value hand.new.object.value }
 {
     on_hand!(hand.finish())
 }

@@ -1,9 +1,10 @@
 -- The pool that fills the handle was opened with the converted options; each early return has a reason of its own.
-use Rattle.std.proofs.Common.{arith, ◌≡◌, Option, Some, None, inl, inr, refl, sym, subst, ◌∙◌}
+use Rattle.std.proofs.Common.{arith, ◌≡◌, ◌⊎◌, Option, Some, None, inl, inr, refl, sym, subst, ◌∙◌}
 use Rattle.std.specs.Arc.{arc_value}
 use Rattle.tag_sets.specs.declared.fault.SetFault.TheVariants.{Memory}
 use Rattle.tag_queue.specs.declared.queue.Options.{Options}
-use Rattle.tag_sets.specs.Opening as sets
+use Rattle.refusals.specs.Refusals.{FailsFirst, PassesAll}
+use Rattle.tag_sets.specs.Refusals.{open_checks}
 use Rattle.tag_c.specs.declared.handle.Handle.{Handle}
 use Rattle.tag_c.specs.declared.object.Object.{Object}
 use Rattle.tag_c.specs.declared.status.Status.TheVariants.{NotEmpty, BadFlag, NotOpened, CacheTooLarge}
@@ -65,8 +66,9 @@ returns-in-Err-clause-why c = λ _. let code = c.code-in-Err in let requested = 
         omega (arith, c.if-keeping-gt-WHILE_HOLDING.false),
         omega (arith, c.if-most-gt-MAX_CACHE.false),
       ),
-      subst (λ (o : Options). sets.RefusesOpen requested.total requested.reserved o fault) c.read_options.ensures
-          c.in-Err.ensures.cause,
+      subst (λ (o : Options). let checks = open_checks requested.total requested.reserved o in
+          FailsFirst checks fault ⊎ (PassesAll checks × (fault ≡ Memory))) c.read_options.ensures
+          c.in-Err.ensures.refusals.first,
     ))))
 
 pub returns-in_default-clause-why : goal.returns-in_default-clause-why
@@ -82,8 +84,11 @@ returns-in_default-clause-why c = λ _. let code = c.code-in_default in
         omega (arith, c.if-keeping-gt-WHILE_HOLDING.false),
         omega (arith, c.if-most-gt-MAX_CACHE.false),
       ),
-      subst (λ (o : Options). sets.CanOpen c.args.requested.now.total c.args.requested.now.reserved o)
-          c.read_options.ensures c.in-Ok.ensures.ok.can,
+      inr (
+        subst (λ (o : Options). PassesAll (open_checks c.args.requested.now.total c.args.requested.now.reserved o))
+            c.read_options.ensures c.in-Ok.ensures.ok.can,
+        refl,
+      ),
     ))))
 
 pub returns-in_default-clause-not_empty : goal.returns-in_default-clause-not_empty

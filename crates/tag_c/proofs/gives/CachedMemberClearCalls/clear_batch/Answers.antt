@@ -1,23 +1,7 @@
--- The answer comes with the clauses of `DoesClearBatch`, and its number fits into 32 bits.
-use Rattle.std.proofs.Common.{refl}
-use Rattle.tag_c.specs.Calls.{DoesClearBatch}
-use Rattle.tag_c.specs.Codes.{code_of_grants}
+-- The hand does what the call of `tag_cache` does, and its number fits into 32 bits.
+use Rattle.std.proofs.Common.{rules}
 use Rattle.tag_c.proofs.Calling.{through}
-use Rattle.tag_c.proofs.Parts.{around}
 use Rattle.tag_c.proofs.gives.CachedMemberClearCalls.clear_batch.Goals as goal
 
 pub returns : goal.returns
-returns c = let e = c.clear_batch_granted.ensures in (
-  refl,
-  through (DoesClearBatch c.args.tags.now) code_of_grants c.grants_code.ensures c.grants_code.type_inv
-      c.deref.ensures record {
-        bad_count = e.bad_count;
-        no_such_tag = e.no_such_tag;
-        not_held = e.not_held;
-        succeeds = e.succeeds;
-        gives = around c.clear_batch_granted.result
-            (λ grants less way tally. record { less = less; way = way; tally = tally }) e.less e.way e.tally;
-        grants = e.grants;
-        err = e.err;
-      },
-)
+returns c = search (rules, through)

@@ -1,21 +1,13 @@
--- Once the read has found a value the caller still holds the tag, so the clear succeeds.
+-- Once the read has found a value the user still holds the tag, so the clear succeeds.
 use Rattle.std.proofs.Common.{refl}
 use Rattle.tag_c.specs.Holders.{Caching}
-use Rattle.tag_c.proofs.Does.{cache_clears}
-use Rattle.tag_c.proofs.Pairing.{refused_read, cleared_read}
+use Rattle.tag_c.proofs.Pairing.{cleared_read}
 use Rattle.tag_c.proofs.pairs.CachedMemberPairCalls.read_clear.Goals as goal
 
-pub returns-in-Err-clause-calls : goal.returns-in-Err-clause-calls
-returns-in-Err-clause-calls c = let e = c.in-Err.ensures in (
-  refl,
-  refused_read c.deref.ensures c.fault_code.type_inv c.fault_code.ensures e.no_such_tag e.not_held e.succeeds e.err,
-)
-
 pub returns : goal.returns
-returns c = let e = c.in-Ok.ensures in let k = c.clear_counted.ensures in
-    let both = cleared_read c.deref.ensures c.count_code.type_inv c.args.tag c.in-Ok.found
-    (Caching c.args.self.now.cache) (Caching c.read.new.self) (Caching c.clear_counted.new.self)
-    c.count_code.ensures c.deref-2.ensures e.no_such_tag e.not_held e.value
-    record { same = e.same; kept = e.kept }
-    (cache_clears k.no_such_tag k.not_held k.succeeds k.err k.less k.way k.tally) in
-    record { calls = (refl, both.calls); kept = λ refusal. absurd (both.done refusal) }
+returns c = let reads = c.in-Ok.ensures.does in let clears = c.clear.ensures.does in
+    let passes = reads.refusals.passes in
+    let both = cleared_read c.deref.ensures c.count_code.type_inv (Caching c.args.self.now.cache) (Caching c.read.new.self)
+    c.deref-2.ensures (Caching c.clear.new.self) c.args.tag c.in-Ok.found c.clear.result c.count_code.ensures passes
+    (reads.same.kept c.args.tag passes.1.0).0 (reads, refl) (clears.refusals, clears) in
+    record { calls = (refl, both.0); kept = λ refusal. absurd (both.1 refusal) }

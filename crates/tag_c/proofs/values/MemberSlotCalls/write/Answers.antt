@@ -1,21 +1,7 @@
--- The answer comes with the clauses of `DoesWrite`, and its number fits into 32 bits.
-use Rattle.std.proofs.Common.{refl}
-use Rattle.tag_c.specs.Calls.{DoesWrite}
-use Rattle.tag_c.specs.Codes.{code_of_done}
+-- The hand does what the call of `tag_sets` does, and its number fits into 32 bits.
+use Rattle.std.proofs.Common.{rules}
 use Rattle.tag_c.proofs.Calling.{through}
-use Rattle.tag_c.proofs.Parts.{two}
 use Rattle.tag_c.proofs.values.MemberSlotCalls.write.Goals as goal
 
 pub returns-clause-calls : goal.returns-clause-calls
-returns-clause-calls c = let e = c.write.ensures in (
-  refl,
-  through (DoesWrite c.args.tag c.args.value c.value_code.new.value) code_of_done c.value_code.ensures.code
-      c.value_code.type_inv c.deref.ensures record {
-        no_such_tag = e.no_such_tag;
-        not_held = e.not_held;
-        succeeds = e.succeeds;
-        found = two _ _ _ c.write.result (λ found slot value. (slot, value)) e.former c.value_code.ensures.value;
-        writes = e.writes;
-        err = e.err;
-      },
-)
+returns-clause-calls c = search (rules, through)
