@@ -76,7 +76,7 @@ play_fault_text Setup = line_of (codes "play refused ") 2
 play_fault_text (Lost line) = field (codes "play refused ") 3 ++ line_of (codes " line ") line
 play_fault_text (Twice line) = field (codes "play refused ") 4 ++ line_of (codes " line ") line
 play_fault_text Spurious = line_of (codes "play refused ") 5
-play_fault_text variants.Totals = line_of (codes "play refused ") 6
+play_fault_text variants.Totals = line_of (codes "play refused ") 5
 
 -- the outcomes that a play may have: a report on all I/O lines, a refused setup exactly if it is not legal, or another
 -- fault except running out of memory, which names no line that is not one of them

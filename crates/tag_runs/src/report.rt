@@ -65,8 +65,7 @@ pub(crate) fn push_play_fault(text: &mut Vec<u8>, fault: PlayFault) -> Result<()
             push_field(text, b"play refused ", 4)?;
             push_line(text, b" line ", line)
         }
-        PlayFault::Spurious => push_line(text, b"play refused ", 5),
-        PlayFault::Totals => push_line(text, b"play refused ", 6),
+        PlayFault::Spurious | PlayFault::Totals => push_line(text, b"play refused ", 5),
     }
 }
 
