@@ -37,9 +37,7 @@ impl<R: Copy> Tags<R> {
             return Err(TagFault::NoSuchTag);
         };
         let numbers = &numbers[..tags.len()];
-        Ok(self
-            .ordinary
-            .clear_batch::<W>(&mut hand.ordinary, numbers)?)
+        Ok(self.ordinary.clear_batch::<W>(&mut hand.ordinary, numbers)?)
     }
 
     /// Clears 1 to 64 ordinary tags that the hand holds, like `clear_batch` but for the tests.

@@ -18,7 +18,7 @@ returns-clause-does g c = record {
   stays = search rules;
   next = search rules;
   same = same_tags c.args.self.now _ (search rules) (search rules)
-        (try_rests c.args.self.now.hand c.try_finish_wait.new.hand c.try_finish_wait.result
-        c.try_finish_wait.ensures.does.leaves c.try_finish_wait.ensures.does.stays
-        c.try_finish_wait.ensures.does.refusals.same);
+      (try_rests c.args.self.now.hand c.try_finish_wait.new.hand c.try_finish_wait.result
+      c.try_finish_wait.ensures.does.leaves c.try_finish_wait.ensures.does.stays
+      c.try_finish_wait.ensures.does.refusals.same);
 }

@@ -7,20 +7,20 @@ use Rattle.tag_sets.proofs.tags.Tags.post.Goals as goal
 pub returns-in_ok-post-in-Ordinary-clause-does : goal.returns-in_ok-post-in-Ordinary-clause-does
 returns-in_ok-post-in-Ordinary-clause-does g c = record {
   posts = let hand = c.args.hand.now in
-    let new = record hand { ordinary = c.post.new.agent } in
-    let at = placed c.args.self.now hand c.args.tag c.of-kind.result Ordinary c.requires.hand c.in-Ordinary.is
-    c.of-kind.ensures.kind c.of-kind.ensures.number in
-    posts_at hand new Ordinary _ c.args.tag at refl refl c.in_ok-post-in-Ordinary.ensures.posts;
+      let new = record hand { ordinary = c.post.new.agent } in
+      let at = placed c.args.self.now hand c.args.tag c.of-kind.result Ordinary c.requires.hand c.in-Ordinary.is
+      c.of-kind.ensures.kind c.of-kind.ensures.number in
+      posts_at hand new Ordinary _ c.args.tag at refl refl c.in_ok-post-in-Ordinary.ensures.posts;
   refusals = search rules;
 }
 
 pub returns-in_ok-post-in-Reserved-clause-does : goal.returns-in_ok-post-in-Reserved-clause-does
 returns-in_ok-post-in-Reserved-clause-does g c = record {
   posts = let hand = c.args.hand.now in
-    let new = record hand { reserved = c.post-in-Reserved.new.agent } in
-    let at = placed c.args.self.now hand c.args.tag c.of-kind.result Reserved c.requires.hand c.in-Reserved.is
-    c.of-kind.ensures.kind c.of-kind.ensures.number in
-    posts_at hand new Reserved _ c.args.tag at refl refl c.in_ok-post-in-Reserved.ensures.posts;
+      let new = record hand { reserved = c.post-in-Reserved.new.agent } in
+      let at = placed c.args.self.now hand c.args.tag c.of-kind.result Reserved c.requires.hand c.in-Reserved.is
+      c.of-kind.ensures.kind c.of-kind.ensures.number in
+      posts_at hand new Reserved _ c.args.tag at refl refl c.in_ok-post-in-Reserved.ensures.posts;
   refusals = search rules;
 }
 

@@ -6,6 +6,6 @@ use Rattle.tag_sets.proofs.tags.Tags.prepare_wait.Goals as goal
 pub returns-clause-does : goal.returns-clause-does
 returns-clause-does g c = record {
   enters = enters_of c.args.hand.now c.prepare_wait.new.agent c.in_ok-prepare_wait.field-0
-    c.in_ok-prepare_wait.ensures.enters;
+      c.in_ok-prepare_wait.ensures.enters;
   refusals = search rules;
 }
