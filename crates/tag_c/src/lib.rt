@@ -4,11 +4,11 @@
 mod any_hand;
 mod box_parts;
 mod cached;
+mod clears;
 mod codes;
 mod erased;
 mod flush;
 mod gets;
-mod gives;
 mod granted;
 mod hand_cells;
 mod handle;
