@@ -1,4 +1,6 @@
 -- The first tag of a run is below the total, so its number fits.
+use Rattle.std.proofs.Common.{rules}
+use Rattle.tag_c.proofs.Calling.{through}
 use Rattle.tag_c.proofs.Runs.{batch_fits}
 use Rattle.tag_c.proofs.gets.MemberGetCalls.get_batch.Goals as goal
 
@@ -6,3 +8,6 @@ pub batch_code-requires : goal.batch_code-requires
 batch_code-requires c = let does = c.get_batch_freed.ensures.does in
     batch_fits c.args.self.now.hand c.get_batch_freed.new.hand c.get_batch_freed.result
     c.tell_left-answer.ensures.answer c.deref.ensures c.args.self.now.own does.refusals.passes does.round_robin does.gets
+
+pub returns-clause-calls : goal.returns-clause-calls
+returns-clause-calls c = search (rules, through)
