@@ -10,7 +10,7 @@ ghost use Rattle.tag_model.specs.World.{opened};
 use crate::ending::Ending;
 use crate::fault::OpenFault;
 use crate::options::CheckOptions;
-use crate::refusals::{event_words, setup_refusal, wrong_word};
+use crate::refused::{event_words, setup_refusal, wrong_word};
 use crate::text::{end_line, push_faulty, push_field, push_setup, push_totals};
 use std::alloc::{AllocError, Global};
 use tag_layout::{Layout, LayoutFault};

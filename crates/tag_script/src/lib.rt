@@ -14,7 +14,7 @@ mod options;
 mod outcomes;
 mod plain;
 mod plain_caller;
-mod refusals;
+mod refused;
 mod running;
 mod script;
 mod shared;

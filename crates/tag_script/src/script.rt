@@ -8,7 +8,7 @@ use crate::ending::Ending;
 use crate::fault::OpenFault;
 use crate::options::ScriptOptions;
 use crate::plain::run_alone;
-use crate::refusals::setup_refusal;
+use crate::refused::setup_refusal;
 use crate::shared::run_shared;
 use crate::text::{faulty_text, setup_text};
 use std::alloc::{AllocError, Global};

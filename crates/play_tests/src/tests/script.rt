@@ -1,6 +1,6 @@
 //! Scripts and lists of events with outputs worked out on paper.
 mod dumps;
 mod lists;
-mod refusals;
+mod refused;
 mod scripts;
 mod shared;
