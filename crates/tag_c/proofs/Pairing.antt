@@ -4,11 +4,9 @@ use lib.Signed.{mag}
 use Rattle.refusals.specs.Refusals.{Checks, FailsFirst, PassesAll, RefusesBy}
 use Rattle.tag_search.specs.declared.found.Found.{Found}
 use Rattle.tag_sets.specs.declared.fault.TagFault.{TagFault}
-use Rattle.tag_sets.specs.declared.fault.TagFault.TheVariants.{NoSuchTag, NotHeld}
 use Rattle.tag_sets.specs.declared.tags.Tags.{Tags}
 use Rattle.tag_sets.specs.Calls as hands
 use Rattle.tag_sets.specs.Gets.{IsAnswer}
-use Rattle.tag_sets.specs.Hands.{total_of}
 use Rattle.tag_cache.specs.Calls as caches
 use Rattle.tag_c.specs.declared.pool_state.PoolState.{PoolState}
 use Rattle.tag_c.specs.Holders.{Holder, Bare, Caching, Holds, Either, IsUnchanged}
