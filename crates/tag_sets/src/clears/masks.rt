@@ -37,9 +37,8 @@ impl<R: Copy> Tags<R> {
         Ok(self.clear_mask_held::<W>(hand, first, mask))
     }
 
-    /// Clears the ordinary tags of a mask, each of which the hand holds, like `clear_mask` but for the tests. It is in
-    /// line, so that a clear places its mask once.
-    #[inline(always)]
+    /// Clears the ordinary tags of a mask, each of which the hand holds, like `clear_mask` but for the tests.
+    #[inline]
     pub fn clear_mask_held<W: Waking>(&self, hand: &mut Hand<R>, first: u32, mask: u64) -> W::Answer
         requires hand { IsHandOf self.now hand.old }
         requires some { 1 ≤ mask }
@@ -62,7 +61,7 @@ impl<R: Copy> Tags<R> {
 
     /// Returns `Ok` if `clear_mask` would clear this mask, and otherwise its refusal. This makes no step. The refusals,
     /// in order: `BadCount`, `NoSuchTag`, `NotHeld`.
-    #[inline(always)]
+    #[inline]
     pub fn check_mask(&self, hand: &Hand<R>, first: u32, mask: u64) -> Result<(), TagFault>
         requires hand { IsHandOf self.now hand.now }
         ensures refusals { RefusesBy (mask_checks self.now hand.now first mask) ⊤ result }
