@@ -5,7 +5,7 @@
  * Proved: logic=proved functions=175 axioms=3 target=x86_64-unknown-linux-gnu sum=dac8208d650f15bf native=nat,char,string logic-built=trusted libraries-built=trusted statements=trusted incremental=trusted
  * With: logic dac8208d650f15bf
  * Of the crates: sums refusals tag_layout tag_model step_ledger tag_core tag_search wake_book tag_queue tag_sets tag_cache tag_c
- * Sources: 558c1bdf2d0d45450d6a4e1c54049520a074199ac53b34c593aad1d46d0c8c66
+ * Sources: 5d03f5396567b0fddd25a21c2f78df218d20e6691af263b4110142eb2e7d16de
  * Lines below: 9dd639c4e63135db5e4c9ca19c595f53a8e973c477f730bb4da6cd9267a98dd4
  *
  * "Sources" is the SHA-256 sum of what decides these lines and what the proof says of them: src/ and specs/ of the crates and their

@@ -29,7 +29,7 @@ IsKept (Caching cache) tag = caches.IsKept cache tag
 
 -- the value in the slot of a tag, if the hand holds it
 abbrev pub slot_of : Holder → ℕ → maybe.Option ℕ
-slot_of caller tag = hands.slot_of (hand_of caller) tag
+slot_of holder tag = hands.slot_of (hand_of holder) tag
 
 -- the first relation between two hands alone, the second between two caches, and none between one and the other
 abbrev pub Either : (Hand ℕ → Hand ℕ → Type 0) → (Cache ℕ → Cache ℕ → Type 0) → Holder → Holder → Type 0

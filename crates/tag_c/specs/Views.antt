@@ -22,11 +22,11 @@ use Rattle.tag_c.specs.declared.status.Status.TheVariants.{Refused, BadKind, Too
 use Rattle.tag_c.specs.Holders.{Holder, hand_of, Holds, IsKept, Either, IsUnchanged}
 use Rattle.tag_c.specs.Codes.{code_of}
 
--- the caller holds the same tags, and the same tags are kept
+-- the holder has the same tags, and the same tags are kept
 abbrev pub KeepsTags : Holder → Holder → Type 0
 KeepsTags = Either (λ _ _. ⊤) SameTags
 
--- 1 if the caller holds the tag, 0 if not, refused if there is no such tag; nothing changes
+-- 1 if the holder holds the tag, 0 if not, refused if there is no such tag; nothing changes
 pub record SaysHeld (tag : ℕ) (code : ℤ) (tags : Tags ℕ) (old new : Holder) : Type 0 where
   pub no_such_tag : total_of tags ≤ tag → code ≡ code_of (Refused NoSuchTag)
   pub held : tag < total_of tags → ((code ≡ pos 1) × Holds old tag)
@@ -34,7 +34,7 @@ pub record SaysHeld (tag : ℕ) (code : ℤ) (tags : Tags ℕ) (old new : Holder
   pub same : IsUnchanged old new
 
 -- a list with too few bits is refused and kept; otherwise the bit of each busy tag becomes 1, every other bit 0, and
--- the number is how many are busy; the tags that the caller holds are among them, and so are those that are kept
+-- the number is how many are busy; the tags that the holder holds are among them, and so are those that are kept
 pub record SaysBusy (before after : List ℕ) (code : ℤ) (tags : Tags ℕ) (old new : Holder) : Type 0 where
   pub too_small : 64 * length before < total_of tags → (code ≡ code_of TooSmall) × (after ≡ before)
       × IsUnchanged old new

@@ -9,7 +9,7 @@ use crate::member::Member;
 
 /// A hand, with a cache or without. A call of it has one contract for both.
 pub(crate) trait AnyHand {
-    // It stays a hand of the same pool, and its caller changes by this relation.
+    // It stays a hand of the same pool, and as a holder of tags it changes by this relation.
     ghost changes: { (Tags ℕ → Holder → Holder → Type 0) → Self → Self → Type 0 };
 }
 

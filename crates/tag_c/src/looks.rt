@@ -45,7 +45,7 @@ pub struct Counts {
 
 /// Calls that report.
 trait LookCalls: AnyHand {
-    /// Returns 1 if the caller holds the tag, and 0 if not.
+    /// Returns 1 if the tag is held, and not kept, and 0 if not.
     fn holds(&mut self, tag: u32) -> i32
         ensures { Self.changes (SaysHeld tag result) self.old self.new };
 

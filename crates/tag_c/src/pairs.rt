@@ -35,7 +35,7 @@ impl PairCalls for Member {
         let found = self.shared.tags.get_freed(&mut self.hand);
         match tell_left(found, left) {
             Ok(Some(tag)) => {
-                // The caller has just won the tag, so the write is not refused.
+                // The hand has just won the tag, so the write is not refused.
                 let _ = self.shared.tags.write(&mut self.hand, tag, value);
                 get_code(Ok(Some(tag)))
             }
@@ -61,7 +61,7 @@ impl PairCalls for CachedMember {
         let found = self.cache.get_freed(&self.shared.tags);
         match tell_left(found, left) {
             Ok(Some(tag)) => {
-                // The caller has just won the tag, so the write is not refused.
+                // The hand has just won the tag, so the write is not refused.
                 let _ = self.cache.write(&self.shared.tags, tag, value);
                 get_code(Ok(Some(tag)))
             }
