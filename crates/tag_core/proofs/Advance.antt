@@ -16,6 +16,7 @@ use Rattle.tag_core.specs.declared.shape.Shape.{Shape}
 use Rattle.tag_core.specs.declared.step.Step.{Step}
 use Rattle.tag_core.specs.declared.record.Record.{Record}
 use Rattle.tag_core.specs.Histories.{History, FindsIn, FindsPost, cells_after, cells_of, event_of, world_of, last_post}
+use Rattle.tag_core.specs.Lists.{IsBy}
 use Rattle.tag_core.specs.Records.{record_after, held_after, swept_after, tag_bit}
 use Rattle.tag_core.specs.Rule.{HasCells, SlotIs, IsKnown, Shown}
 use Rattle.tag_core.proofs.Picks.{placed}
@@ -31,6 +32,7 @@ module _ (R : Type 0) (k : Shape) where
   -- what is owed of one step of the caller of r
   pub record Owed (s : TableState) (sh : Shown k s) (r : Record R) (st : Step R) (words' : List ℕ) : Type 0 where
     pub finds : FindsIn st (cells_of sh.history)
+    pub own : IsBy r.number st
     pub value : FindsPost st sh.history
     pub needs : MayHappen k.layout k.callers (world_of k sh.history) (event_of k.layout r.number st)
     pub cells : HasCells k words' (cells_after st (cells_of sh.history))
@@ -97,7 +99,7 @@ module _ (R : Type 0) (k : Shape) where
       opening = sh.opening;
       history = h';
       lawful = record {
-        finds = (mine_ok.0.number, owed.finds, owed.value, sh.lawful.finds);
+        finds = (mine_ok.0.number, owed.own, owed.finds, owed.value, sh.lawful.finds);
         happens =
             (owed.needs, sh.lawful.happens);
       };

@@ -1,6 +1,7 @@
 -- Each kind of step is allowed by the rule.
-use Rattle.std.proofs.Common.{◌≡◌, ◌≢◌, ℕ, ◌+◌, ◌-◌, ◌%◌, ◌^◌, ◌<◌, ◌≤◌, ◌⊎◌, List, ◌∷◌, length, get_or, set, ◌==◌, Bool, cond, eqb, count_ones, bit_or, arith, refl, sym, ap, ◌∙◌, subst, inl, inr, Some, None, eq-eqb, ne_eqb}
+use Rattle.std.proofs.Common.{◌≡◌, ◌≢◌, ℕ, ◌+◌, ◌-◌, ◌%◌, ◌^◌, ◌<◌, ◌≤◌, ◌⊎◌, List, ◌∷◌, length, get_or, set, ◌==◌, Bool, cond, eqb, count_ones, bit_and, bit_or, arith, refl, sym, ap, ◌∙◌, subst, inl, inr, Some, None, eq-eqb, ne_eqb}
 use mathlib.Core.Option.{some, none, some-injective}
+use mathlib.Core.Option as maybe
 use mathlib.Core.Logic.{dite}
 use native.Mathlib.Decide.{ℕ_discrete}
 use lib.ListN.{get_elem?}
@@ -21,16 +22,21 @@ use Rattle.tag_model.specs.declared.world.TheConstants.{MOST_WON}
 use Rattle.tag_model.specs.World.{place_after}
 use Rattle.tag_core.specs.declared.shape.Shape.{Shape}
 use Rattle.tag_core.specs.declared.step.Step.{Step}
-use Rattle.tag_core.specs.declared.step.Step.TheVariants.{Word, Post, Take}
+use Rattle.tag_core.specs.declared.step.Step.TheVariants.{Word, Post, Take, Bell}
+use Rattle.tag_core.specs.declared.bell_step.BellStep.{BellStep}
+use Rattle.tag_core.specs.declared.bell_step.BellStep.TheVariants.{Enlist, Sight, Tell, GetUp}
+use Rattle.tag_core.specs.declared.bell.TheConstants.{LISTS}
 use Rattle.tag_core.specs.declared.word_step.WordStep.{WordStep}
 use Rattle.tag_core.specs.declared.word_step.WordStep.TheVariants.{Look, LookAside, Claimed, Give, Put, Swap, Spill}
 use Rattle.tag_core.specs.declared.record.Record.{Record}
-use Rattle.tag_core.specs.Spacing.{word_at, aside_at, state_at}
+use Rattle.tag_core.specs.Lists.{bit_of}
+use Rattle.tag_core.specs.Spacing.{list_at, word_at, aside_at, state_at}
+use Rattle.tag_core.specs.Steps.{without}
 use Rattle.tag_core.specs.Bits.{posted_bit}
-use Rattle.tag_core.specs.Histories.{event_of, event_of_word, world_of, last_post}
+use Rattle.tag_core.specs.Histories.{event_of, world_of, last_post, posted_by}
 use Rattle.tag_core.specs.Records.{record_after, tag_bit, value_of, Carries}
 use Rattle.tag_core.specs.Rule.{SlotIs, IsKnown, Shown}
-use Rattle.tag_core.specs.Plays.{Stepped, FindsHeld, looked, looked_aside, claimed, gave, put_aside, swapped, spilled, took}
+use Rattle.tag_core.specs.Plays.{Stepped, FindsHeld, looked, looked_aside, claimed, gave, put_aside, swapped, spilled, took, enlisted, sighted, got_up}
 use Rattle.tag_core.specs.Plays as plays
 use Rattle.tag_core.proofs.Picks.{among, placed}
 use Rattle.tag_core.proofs.TagBits.{small_word, among_here}
@@ -38,15 +44,24 @@ use Rattle.tag_core.proofs.Turns.{held_from, posted_from, posted_small}
 use Rattle.tag_core.proofs.Owing.{claim_owed, give_owed, look_owed, look_aside_owed, miss_owed, held_shown}
 use Rattle.tag_core.proofs.OwingTags.{put_owed, post_owed, take_owed, swap_owed, swept_taken, spill_owed}
 use Rattle.tag_core.proofs.Masks.{add_bit, take_bits}
-use Rattle.tag_core.proofs.Stand.{bit_tag, word_at_one, aside_at_one, tag_mask_within}
+use Rattle.tag_core.proofs.Listing.{enlist_owed, sight_owed, tell_owed, get_up_owed}
+use Rattle.tag_core.proofs.Stand.{list_at_one, bit_tag, word_at_one, aside_at_one, tag_mask_within}
 use Rattle.tag_core.proofs.Singles.{same_state}
 use Rattle.tag_core.proofs.Advance.{Owed}
 use Rattle.tag_core.proofs.Moving.{moved, kept, told, posted_unheld, held_one}
 
--- a step on a word posts no tag
-none_posted : (l : Layout) (c : ℕ) (st : WordStep) (t : ℕ) (q : Place)
-    → place_after l (event_of_word l c st) t q ≡ posted → q ≡ posted
-none_posted l c st t q e = grind arith
+-- the step posts no tag
+abbrev PostsNone : {R : Type 0} → Layout → ℕ → Step R → Type 0
+PostsNone {R} l c st = (t : ℕ) → ((q : Place) → place_after l (event_of l c st) t q ≡ posted → q ≡ posted)
+    × ((before : maybe.Option R) → posted_by t st before ≡ before)
+
+-- a step on a word posts none
+word_posts_none : {R : Type 0} (l : Layout) (c : ℕ) (st : WordStep) → PostsNone {R = R} l c (Word st)
+word_posts_none l c st t = ((λ q e. grind arith), λ before. refl)
+
+-- nor does one on a list
+bell_posts_none : {R : Type 0} (l : Layout) (c : ℕ) (st : BellStep) → PostsNone {R = R} l c (Bell st)
+bell_posts_none l c st t = ((λ q e. grind arith), λ before. refl)
 
 -- nor does a take
 not_posted : (b : Bool) (c : ℕ) (q : Place) → cond b (held c) q ≡ posted → q ≡ posted
@@ -114,18 +129,18 @@ module _ (R : Type 0) (k : Shape) (narrow : k.layout.shift ≤ 6) (id : ℕ) (me
       )
 
   -- a step on the word that `at` gives for i is allowed where this is owed, and tells what follows from it
-  allowed : (at : ℕ → ℕ) → ((i j : ℕ) → at i ≡ at j → i ≡ j) → (i : ℕ) (f : ℕ → ℕ) (st : ℕ → Record R → ℕ → WordStep)
-      (tells : ℕ → Record R → ℕ → Me R (View R) → Type 0)
+  allowed_of : (at : ℕ → ℕ) → ((i j : ℕ) → at i ≡ at j → i ≡ j) → (i : ℕ) (f : ℕ → ℕ) (st : ℕ → Record R → ℕ → Step R)
+      (tells : ℕ → Record R → ℕ → Me R (View R) → Type 0) → ((n : ℕ) → PostsNone k.layout r.number (st i r n))
       → ((s : State R (View R)) (sh : Shown k s) → IsKnown k sh.history r
-      → Owed R k s sh r (Word (st i r (get_or s.words (at i) 0))) (set s.words (at i) (f (get_or s.words (at i) 0)))
-      × ((me' : Me R (View R)) → Stepped (Word (st i r (get_or s.words (at i) 0))) r me me'
+      → Owed R k s sh r (st i r (get_or s.words (at i) 0)) (set s.words (at i) (f (get_or s.words (at i) 0)))
+      × ((me' : Me R (View R)) → Stepped (st i r (get_or s.words (at i) 0)) r me me'
       → tells i r (get_or s.words (at i) 0) me'))
       → Allows (Shown k) k.layout.depth id me (at i) f
       (λ n me'. (i' : ℕ) (r' : Record R) → at i ≡ at i' → me.0 ≡ own_view r' → tells i' r' n me')
-  allowed at one i f st tells owes s sh deep there _ =
+  allowed_of at one i f st tells silent owes s sh deep there _ =
       let n : ℕ = get_or s.words (at i) 0 in let owed = owes s sh (ok s sh deep there) in
-      let z = answer s sh deep there (Word (st i r n)) (set s.words (at i) (f n)) owed.0
-      (λ t l e. inl (none_posted k.layout r.number (st i r n) t _ e, refl)) in (
+      let z = answer s sh deep there (st i r n) (set s.words (at i) (f n)) owed.0
+      (λ t l e. inl ((silent n t).0 _ e, (silent n t).1 _)) in (
         z.0,
         z.1,
         z.2,
@@ -134,7 +149,62 @@ module _ (R : Type 0) (k : Shape) (narrow : k.layout.shift ≤ 6) (id : ℕ) (me
             (owed.1 (z.0, carried_after me.1 z.1) z.4),
       )
 
-  -- the table allows a load of a word
+  allowed : (at : ℕ → ℕ) → ((i j : ℕ) → at i ≡ at j → i ≡ j) → (i : ℕ) (f : ℕ → ℕ) (st : ℕ → Record R → ℕ → WordStep)
+      (tells : ℕ → Record R → ℕ → Me R (View R) → Type 0)
+      → ((s : State R (View R)) (sh : Shown k s) → IsKnown k sh.history r
+      → Owed R k s sh r (Word (st i r (get_or s.words (at i) 0))) (set s.words (at i) (f (get_or s.words (at i) 0)))
+      × ((me' : Me R (View R)) → Stepped (Word (st i r (get_or s.words (at i) 0))) r me me'
+      → tells i r (get_or s.words (at i) 0) me'))
+      → Allows (Shown k) k.layout.depth id me (at i) f
+      (λ n me'. (i' : ℕ) (r' : Record R) → at i ≡ at i' → me.0 ≡ own_view r' → tells i' r' n me')
+  allowed at one i f st tells = allowed_of at one i f (λ i r n. Word (st i r n)) tells
+      (λ n. word_posts_none k.layout r.number (st i r n))
+
+  -- a step on a list is allowed where it is owed, and tells that it was made
+  listing : (i : ℕ) (f : ℕ → ℕ) (st : ℕ → Record R → ℕ → BellStep)
+      → ((s : State R (View R)) (sh : Shown k s) → IsKnown k sh.history r
+      → Owed R k s sh r (Bell (st i r (get_or s.words (list_at i) 0)))
+      (set s.words (list_at i) (f (get_or s.words (list_at i) 0))))
+      → Allows (Shown k) k.layout.depth id me (list_at i) f
+      (λ n me'. (i' : ℕ) (r' : Record R) → list_at i ≡ list_at i' → me.0 ≡ own_view r'
+      → Stepped (Bell (st i' r' n)) r' me me')
+  listing i f st owes = allowed_of list_at list_at_one i f (λ i r n. Bell (st i r n))
+      (λ i r n me'. Stepped (Bell (st i r n)) r me me') (λ n. bell_posts_none k.layout r.number (st i r n))
+      (λ s sh o. (owes s sh o, λ me' did. did))
+
+  -- the table allows an or of a list and the caller's bit
+  pub enlist_allowed : (i : ℕ) → i < LISTS
+      → Allows (Shown k) k.layout.depth id me (list_at i) (λ n. bit_or n (bit_of r.number))
+      (enlisted (step k.layout.depth (list_at i) (bit_of r.number) 0 none) me)
+  enlist_allowed i inside = listing i (λ n. bit_or n (bit_of r.number)) (λ i r n. Enlist i r.number n)
+      (λ s sh o. enlist_owed R k narrow s sh r o i inside)
+
+  -- a load of a list
+  pub sight_allowed : (i : ℕ) → i < LISTS
+      → Allows (Shown k) k.layout.depth id me (list_at i) (λ n. n)
+      (sighted (step k.layout.depth (list_at i) 0 0 none) me)
+  sight_allowed i inside = listing i (λ n. n) (λ i r n. Sight i n) (λ s sh o. sight_owed R k narrow s sh r o i inside)
+
+  -- an and of a list and the complement of a mask
+  pub tell_allowed : (i kept : ℕ) → i < LISTS → kept < 2 ^ 64
+      → Allows (Shown k) k.layout.depth id me (list_at i) (λ n. bit_and n kept)
+      (plays.told (step k.layout.depth (list_at i) kept 0 none) me)
+  tell_allowed i kept inside fits = listing i (λ n. bit_and n kept) (λ i r n. Tell i (2 ^ 64 - 1 - kept) n)
+      (λ s sh o. subst (λ (x : ℕ). Owed R k s sh r (Bell (Tell i (2 ^ 64 - 1 - kept) (get_or s.words (list_at i) 0)))
+      (set s.words (list_at i) (bit_and (get_or s.words (list_at i) 0) x))) (twice kept fits)
+      (tell_owed R k narrow s sh r o i inside (2 ^ 64 - 1 - kept)))
+    where
+      twice : (m : ℕ) → m < 2 ^ 64 → 2 ^ 64 - 1 - (2 ^ 64 - 1 - m) ≡ m
+      twice m fits = omega arith
+
+  -- an and of a list and the complement of the caller's bit
+  pub get_up_allowed : (i : ℕ) → i < LISTS
+      → Allows (Shown k) k.layout.depth id me (list_at i) (λ n. bit_and n (2 ^ 64 - 1 - bit_of r.number))
+      (got_up (step k.layout.depth (list_at i) (2 ^ 64 - 1 - bit_of r.number) 0 none) me)
+  get_up_allowed i inside = listing i (λ n. without n (bit_of r.number)) (λ i r n. GetUp i r.number n)
+      (λ s sh o. get_up_owed R k narrow s sh r o i inside)
+
+  -- a load of a word
   pub look_allowed : (i : ℕ) → i < words k.layout
       → Allows (Shown k) k.layout.depth id me (word_at i) (λ n. n)
       (looked (step k.layout.depth (word_at i) 0 0 none) me)

@@ -9,6 +9,7 @@ pub mod Advance
 pub mod TagBits
 pub mod Owing
 pub mod OwingTags
+pub mod Listing
 pub mod Acts
 pub mod Moving
 pub mod Allowed
@@ -34,3 +35,5 @@ pub mod Showings
 pub mod Holdings
 pub mod OneWord
 pub mod Numbers
+pub mod FewCallers
+pub mod Ticking

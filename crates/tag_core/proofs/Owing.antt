@@ -20,7 +20,8 @@ use Rattle.tag_core.specs.declared.step.Step.TheVariants.{Word, Take}
 use Rattle.tag_core.specs.declared.word_step.WordStep.TheVariants.{Look, LookAside, Claimed, Give}
 use Rattle.tag_core.specs.declared.record.Record.{Record}
 use Rattle.tag_core.specs.Steps.{changed_at, without}
-use Rattle.tag_core.specs.Spacing.{word_at, aside_at, state_at}
+use Rattle.tag_core.specs.declared.bell.TheConstants.{LISTS}
+use Rattle.tag_core.specs.Spacing.{list_at, word_at, aside_at, state_at}
 use Rattle.tag_core.specs.Bits.{word_bit, aside_bit, held_bit}
 use Rattle.tag_core.specs.Histories.{Cells, cells_of, events_of, opening_world, world_of}
 use Rattle.tag_core.specs.Records.{tag_bit}
@@ -40,19 +41,25 @@ module _ (k : Shape) (ws : List ℕ) (c : Cells) (has : HasCells k ws c) where
   pub word_cells : (i x x' : ℕ) → i < words k.layout → x ≡ x' → IsWithin k.layout i x'
       → HasCells k (set ws (word_at i) x) (record c { words = record c.words { word = changed_at c.words.word i x' } })
   word_cells i x x' h same fits =
-      grind (arith, change, has.word, has.aside, has.state, has.word_within, has.aside_within)
+      grind (arith, change, has.word, has.aside, has.state, has.list, has.word_within, has.aside_within)
 
   -- after a change of one cleared set
   pub aside_cells : (i x x' : ℕ) → i < words k.layout → x ≡ x' → IsWithin k.layout i x'
       → HasCells k (set ws (aside_at i) x)
       (record c { words = record c.words { aside = changed_at c.words.aside i x' } })
   aside_cells i x x' h same fits =
-      grind (arith, change, has.word, has.aside, has.state, has.word_within, has.aside_within)
+      grind (arith, change, has.word, has.aside, has.state, has.list, has.word_within, has.aside_within)
 
   -- after a change of one tag's state
   pub state_cells : (u x : ℕ) → u < k.layout.depth
       → HasCells k (set ws (state_at k.layout u) x) (record c { state = changed_at c.state u x })
-  state_cells u x h = grind (arith, change, has.word, has.aside, has.state, has.word_within, has.aside_within)
+  state_cells u x h = grind (arith, change, has.word, has.aside, has.state, has.list, has.word_within, has.aside_within)
+
+  -- after a change of one list
+  pub list_cells : (i x x' : ℕ) → i < LISTS → x ≡ x'
+      → HasCells k (set ws (list_at i) x) (record c { lists = changed_at c.lists i x' })
+  list_cells i x x' h same =
+      grind (arith, change, has.word, has.aside, has.state, has.list, has.word_within, has.aside_within)
 
 module _ (R : Type 0) (k : Shape) (narrow : k.layout.shift ≤ 6) (s : State R (View R)) (sh : Shown k s) (r : Record R)
     (ok : IsKnown k sh.history r) where
@@ -110,6 +117,7 @@ module _ (R : Type 0) (k : Shape) (narrow : k.layout.shift ≤ 6) (s : State R (
         let same : bit_or n m ≡ x = ap (λ (z : ℕ). bit_or z m) found in
         record {
           finds = found;
+          own = tt;
           value = tt;
           needs = record {
             in_layout = (inside, (let a = minus_le m n in omega arith));
@@ -155,6 +163,7 @@ module _ (R : Type 0) (k : Shape) (narrow : k.layout.shift ≤ 6) (s : State R (
         let same : without n m ≡ x = ap (λ (z : ℕ). without z m) found in
         record {
           finds = found;
+          own = tt;
           value = tt;
           needs = record {
             in_layout =
@@ -182,10 +191,10 @@ module _ (R : Type 0) (k : Shape) (narrow : k.layout.shift ≤ 6) (s : State R (
   abbrev Unmoved : Step R → Type 0
   Unmoved st = Owed R k s sh r st s.words
 
-  look_needs : MayHappen k.layout k.callers now_world event.Look
+  pub look_needs : MayHappen k.layout k.callers now_world event.Look
   look_needs = record { in_layout = tt; caller = some_caller; unspent = none_more 0; places = λ t l is. tt }
 
-  same_tags : (t : ℕ) → t < k.layout.depth → Shows r.number (now_world.place t) (now_world.place t)
+  pub same_tags : (t : ℕ) → t < k.layout.depth → Shows r.number (now_world.place t) (now_world.place t)
       (bit_at (now_cells.words.word (word_of k.layout t)) (place_of k.layout t))
       (bit_at (now_cells.words.aside (word_of k.layout t)) (place_of k.layout t)) (now_cells.state t)
       (tag_bit k.layout r.held t) (tag_bit k.layout r.swept t)
@@ -196,6 +205,7 @@ module _ (R : Type 0) (k : Shape) (narrow : k.layout.shift ≤ 6) (s : State R (
   pub look_owed : (i : ℕ) → i < words k.layout → Unmoved (Word (Look i (get_or s.words (word_at i) 0)))
   look_owed i inside = record {
     finds = sh.cells.word i inside;
+    own = tt;
     value = tt;
     needs = look_needs;
     cells = sh.cells;
@@ -206,6 +216,7 @@ module _ (R : Type 0) (k : Shape) (narrow : k.layout.shift ≤ 6) (s : State R (
   pub look_aside_owed : (i : ℕ) → i < words k.layout → Unmoved (Word (LookAside i (get_or s.words (aside_at i) 0)))
   look_aside_owed i inside = record {
     finds = sh.cells.aside i inside;
+    own = tt;
     value = tt;
     needs = look_needs;
     cells = sh.cells;
@@ -216,6 +227,7 @@ module _ (R : Type 0) (k : Shape) (narrow : k.layout.shift ≤ 6) (s : State R (
   pub miss_owed : (u : ℕ) → u < k.layout.depth → get_or s.words (state_at k.layout u) 0 ≡ 0 → Unmoved (Take u 0 None)
   miss_owed u l e = record {
     finds = sym e ∙ sh.cells.state u l;
+    own = tt;
     value = tt;
     needs = look_needs;
     cells = sh.cells;

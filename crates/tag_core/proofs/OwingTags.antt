@@ -88,6 +88,7 @@ module _ (R : Type 0) (k : Shape) (narrow : k.layout.shift ≤ 6) (s : State R (
       let same : bit_or n m ≡ x = ap (λ (z : ℕ). bit_or z m) found in
       record {
         finds = found;
+        own = tt;
         value = tt;
         needs = record {
           in_layout = subst (λ (z : ℕ). z < k.layout.depth) (sym (tag_named k narrow u)) lu;
@@ -114,6 +115,7 @@ module _ (R : Type 0) (k : Shape) (narrow : k.layout.shift ≤ 6) (s : State R (
       → Owed R k s sh r (Post u y) (set s.words (state_at k.layout u) 1)
   post_owed u y lu has = record {
     finds = tt;
+    own = tt;
     value = tt;
     needs = record {
       in_layout = lu;
@@ -140,6 +142,7 @@ module _ (R : Type 0) (k : Shape) (narrow : k.layout.shift ≤ 6) (s : State R (
       let its : now_world.place u ≡ posted = posted_from (now_world.place u)
       ((sh.tags u lu).posted ∙ shown ∙ ap suc one) in record {
         finds = sym shown;
+        own = tt;
         value = (y, refl, last);
         needs = record {
           in_layout = lu;
@@ -171,6 +174,7 @@ module _ (R : Type 0) (k : Shape) (narrow : k.layout.shift ≤ 6) (s : State R (
       let f : ℕ = get_or s.words (aside_at i) 0 in let found : f ≡ now_cells.words.aside i = sh.cells.aside i inside in
       record {
         finds = found;
+        own = tt;
         value = tt;
         needs = record { in_layout = inside; caller = ok.number; unspent = none_won; places = λ t l is. tt };
         cells = aside_cells k s.words now_cells sh.cells i 0 0 inside refl (pow_pos (word_depth k.layout i));
@@ -214,6 +218,7 @@ module _ (R : Type 0) (k : Shape) (narrow : k.layout.shift ≤ 6) (s : State R (
         let same : without n mask ≡ x = ap (λ (z : ℕ). without z mask) found in
         record {
           finds = found;
+          own = tt;
           value = tt;
           needs = record { in_layout = inside; caller = ok.number; unspent = none_won; places = λ t l is. tt };
           cells = word_cells k s.words now_cells sh.cells i (without n mask) x inside same

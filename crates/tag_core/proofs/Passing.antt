@@ -12,7 +12,7 @@ use Rattle.tag_layout.specs.Layout.{Layout, words, word_depth, word_of, place_of
 use Rattle.tag_core.specs.declared.shape.Shape.{Shape}
 use Rattle.tag_core.specs.declared.record.Record.{Record}
 use Rattle.tag_core.specs.Histories.{History}
-use Rattle.tag_core.specs.Spacing.{word_at, aside_at, state_at, table_width}
+use Rattle.tag_core.specs.Spacing.{list_at, word_at, aside_at, state_at, table_width}
 use Rattle.tag_core.specs.Records.{fresh_record, tag_bit, tags_from, StartsAtZero}
 use Rattle.tag_core.specs.Views.{all_fresh, View}
 use Rattle.tag_core.specs.Rule.{IsOpening, IsKnown, Shown}
@@ -92,6 +92,7 @@ module _ (R : Type 0) (k : Shape) where
           word = λ i l. blank (word_at i);
           aside = λ i l. blank (aside_at i);
           state = λ t l. blank (state_at k.layout t);
+          list = λ i l. blank (list_at i);
           word_within = λ i l. pow_pos (word_depth k.layout i);
           aside_within = λ i l. pow_pos (word_depth k.layout i);
         };

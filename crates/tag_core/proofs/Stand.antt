@@ -1,11 +1,68 @@
--- Words, cleared sets and states stand apart in the table, and tags in their words.
+-- Lists, words, cleared sets and states stand apart in the table, and tags in their words.
 use Rattle.std.proofs.Common.{◌≡◌, ◌≢◌, ℕ, ◌+◌, ◌*◌, ◌^◌, ◌<◌, arith, sym, ◌∙◌}
 use Rattle.std.specs.Int.{bit_at}
 use Rattle.std.proofs.lemmas.Nat.Bits.{bit_at_above}
 use Rattle.std.proofs.lemmas.Nat.{pow_below, div-add-mod'}
 use Rattle.tag_layout.specs.Layout.{Layout, word_bits, words, word_depth, word_of, place_of, tag_at, IsWithin}
 use Rattle.tag_layout.proofs.PlaceFacts.{place_of-below, tag_at-below, word_of-tag_at, place_of-tag_at}
-use Rattle.tag_core.specs.Spacing.{word_at, aside_at, state_at, table_width}
+use Rattle.tag_model.specs.declared.world.TheConstants.{MAX_CALLERS}
+use Rattle.tag_core.specs.declared.bell.TheConstants.{LISTS}
+use Rattle.tag_core.specs.Spacing.{list_at, clock_at, turn_at, word_at, aside_at, state_at, table_width}
+
+-- different lists stand at different indexes
+pub list_at_one : (i j : ℕ) → list_at i ≡ list_at j → i ≡ j
+unfolding list_at
+list_at_one i j e = omega arith
+
+-- no list stands at the index of a word
+pub list_no_word : (i j : ℕ) → i < LISTS → list_at i ≢ word_at j
+unfolding list_at word_at
+list_no_word i j h e = omega arith
+
+-- nor at that of a cleared set
+pub list_no_aside : (i j : ℕ) → i < LISTS → list_at i ≢ aside_at j
+unfolding list_at aside_at
+list_no_aside i j h e = omega arith
+
+-- nor at that of a state
+pub list_no_state : (l : Layout) (i j : ℕ) → i < LISTS → list_at i ≢ state_at l j
+unfolding list_at state_at
+list_no_state l i j h e = omega arith
+
+-- each list stands in the table
+pub list_in : (l : Layout) (i : ℕ) → i < LISTS → list_at i < table_width l
+unfolding list_at table_width
+list_in l i h = omega arith
+
+-- nothing that the rule speaks of stands at this index
+pub record IsApart (l : Layout) (at : ℕ) : Type 0 where
+  pub word : (i : ℕ) → word_at i ≢ at
+  pub aside : (i : ℕ) → aside_at i ≢ at
+  pub state : (i : ℕ) → state_at l i ≢ at
+  pub list : (i : ℕ) → i < LISTS → list_at i ≢ at
+  pub in_table : at < table_width l
+
+-- so it is with the clock of turns
+pub clock_apart : (l : Layout) → IsApart l clock_at
+unfolding clock_at list_at word_at aside_at state_at table_width
+clock_apart l = record {
+  word = λ i e. omega arith;
+  aside = λ i e. omega arith;
+  state = λ i e. omega arith;
+  list = λ i h e. omega arith;
+  in_table = omega arith;
+}
+
+-- and with each caller's turn
+pub turn_apart : (l : Layout) (caller : ℕ) → caller < MAX_CALLERS → IsApart l (turn_at caller)
+unfolding turn_at list_at word_at aside_at state_at table_width
+turn_apart l caller low = record {
+  word = λ i e. omega arith;
+  aside = λ i e. omega arith;
+  state = λ i e. omega arith;
+  list = λ i h e. omega arith;
+  in_table = omega arith;
+}
 
 -- different words stand at different indexes
 pub word_at_one : (i j : ℕ) → word_at i ≡ word_at j → i ≡ j
@@ -52,8 +109,13 @@ pub state_in : (l : Layout) (t : ℕ) → t < l.depth → state_at l t < table_w
 unfolding state_at table_width
 state_in l t h = omega arith
 
--- where words, cleared sets and states stand
+-- where lists, words, cleared sets and states stand
 pub ruleset spread = (
+  list_at_one,
+  list_no_word,
+  list_no_aside,
+  list_no_state,
+  list_in,
   word_at_one,
   aside_at_one,
   state_at_one,

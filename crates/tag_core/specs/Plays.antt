@@ -1,5 +1,5 @@
 -- What each kind of step on the table tells the caller that makes it.
-use Rattle.std.specs.Prelude.{◌≡◌, ◌≢◌, ℕ, ◌+◌, ◌*◌, ◌<◌, ◌≤◌, List, [], ◌∷◌, map, length, slice_index, Some, None}
+use Rattle.std.specs.Prelude.{◌≡◌, ◌≢◌, ℕ, ◌+◌, ◌-◌, ◌*◌, ◌^◌, ◌<◌, ◌≤◌, List, [], ◌∷◌, map, length, slice_index, Some, None}
 use mathlib.Core.Option.{some}
 use lib.ListN.{get_elem?}
 use Rattle.std.specs.Int.{bit_at}
@@ -12,10 +12,11 @@ use Rattle.tag_model.specs.declared.totals.Totals.{Totals}
 use Rattle.tag_model.specs.declared.world.TheConstants.{MOST_WON}
 use Rattle.tag_model.specs.Event.{back_by}
 use Rattle.tag_core.specs.declared.step.Step.{Step}
-use Rattle.tag_core.specs.declared.step.Step.TheVariants.{Word, Post, Take}
+use Rattle.tag_core.specs.declared.step.Step.TheVariants.{Word, Post, Take, Bell}
+use Rattle.tag_core.specs.declared.bell_step.BellStep.TheVariants.{Enlist, Sight, Tell, GetUp}
 use Rattle.tag_core.specs.declared.word_step.WordStep.TheVariants.{Look, LookAside, Claimed, Give, Put, Swap, Spill}
 use Rattle.tag_core.specs.declared.record.Record.{Record}
-use Rattle.tag_core.specs.Spacing.{word_at, aside_at, state_at}
+use Rattle.tag_core.specs.Spacing.{list_at, word_at, aside_at, state_at}
 use Rattle.tag_core.specs.Histories.{event_of}
 use Rattle.tag_core.specs.Records.{record_after, held_after, tag_bit, value_of, tags_from, but, Carries}
 use Rattle.tag_core.specs.Meeting.{HasHistory, ShareHistory, AreApart}
@@ -95,6 +96,33 @@ module _ {R : Type 0} (st : table.Step R) (me : Me R (View R)) (found : ℕ) (me
       → (found ≡ 1 → (value : R) × (value_of me'.1 tag ≡ some value) × Stepped (Take tag 1 (Some value)) r me me'
       × (tag_bit r.shape.layout r.held tag ≢ 1))
       × (found ≢ 1 → (found ≡ 0) × Stepped (Take tag 0 None) r me me')
+
+  -- an or of a list and the caller's bit
+  abbrev pub enlisted : Type 0
+  enlisted =
+      (list : ℕ) (r : Record R) → st.word ≡ list_at list → me.0 ≡ own_view r
+      → Stepped (Bell (Enlist list r.number found)) r me me'
+
+  -- a load of a list
+  abbrev pub sighted : Type 0
+  sighted =
+      (list : ℕ) (r : Record R) → st.word ≡ list_at list → me.0 ≡ own_view r → Stepped (Bell (Sight list found)) r me me'
+
+  -- an and of a list and the complement of a mask
+  abbrev pub told : Type 0
+  told =
+      (list : ℕ) (r : Record R) → st.word ≡ list_at list → me.0 ≡ own_view r
+      → Stepped (Bell (Tell list (2 ^ 64 - 1 - st.first) found)) r me me'
+
+  -- an and of a list and the complement of the caller's bit
+  abbrev pub got_up : Type 0
+  got_up =
+      (list : ℕ) (r : Record R) → st.word ≡ list_at list → me.0 ≡ own_view r
+      → Stepped (Bell (GetUp list r.number found)) r me me'
+
+  -- a change of a turn, which says nothing
+  abbrev pub turned : Type 0
+  turned = me' ≡ me
 
   -- a load that brings a held tag's slot to the front
   abbrev pub fronted : Type 0

@@ -7,7 +7,7 @@ use Rattle.tag_layout.specs.Layout.{Layout, words, word_of, place_of}
 use Rattle.tag_model.specs.Event.{won_by, back_by}
 use Rattle.tag_core.specs.declared.shape.Shape.{Shape}
 use Rattle.tag_core.specs.declared.step.Step.{Step}
-use Rattle.tag_core.specs.declared.step.Step.TheVariants.{Word, Post, Take}
+use Rattle.tag_core.specs.declared.step.Step.TheVariants.{Word, Post, Take, Bell}
 use Rattle.tag_core.specs.declared.word_step.WordStep.{WordStep}
 use Rattle.tag_core.specs.declared.word_step.WordStep.TheVariants.{Look, LookAside, Claimed, Give, Put, Swap, Spill}
 use Rattle.tag_core.specs.declared.record.Record.{Record}
@@ -38,6 +38,7 @@ held_after l (Word step) held = held_after_word step held
 held_after l (Post tag value) held = parted held (word_of l tag) (2 ^ place_of l tag)
 held_after l (Take tag zero value) held = held
 held_after l (Take tag (suc found) value) held = joined held (word_of l tag) (2 ^ place_of l tag)
+held_after l (Bell step) held = held
 
 -- the sweep after a step on a word
 abbrev pub swept_after_word : WordStep → List ℕ → List ℕ
@@ -50,6 +51,7 @@ abbrev pub swept_after : {R : Type 0} → Step R → List ℕ → List ℕ
 swept_after (Word step) swept = swept_after_word step swept
 swept_after (Post tag value) swept = swept
 swept_after (Take tag found value) swept = swept
+swept_after (Bell step) swept = swept
 
 -- the record after the caller's step
 abbrev pub record_after : {R : Type 0} → Step R → Record R → Record R

@@ -15,7 +15,8 @@ use Rattle.tag_model.specs.declared.world.TheConstants.{MOST_WON}
 use Rattle.tag_model.specs.Totals.{got_in, back_in}
 use Rattle.tag_core.specs.declared.shape.Shape.{Shape}
 use Rattle.tag_core.specs.declared.record.Record.{Record}
-use Rattle.tag_core.specs.Spacing.{word_at, aside_at, state_at, table_width}
+use Rattle.tag_core.specs.declared.bell.TheConstants.{LISTS}
+use Rattle.tag_core.specs.Spacing.{list_at, word_at, aside_at, state_at, table_width}
 use Rattle.tag_core.specs.Bits.{word_bit, aside_bit, posted_bit, held_bit, sweep_bit}
 use Rattle.tag_core.specs.Histories.{Cells, History, cells_of, opening_world, world_of, IsLawful, last_post, steps_by}
 use Rattle.tag_core.specs.Records.{tag_bit}
@@ -31,6 +32,7 @@ pub record HasCells (k : Shape) (table : List ℕ) (c : Cells) : Type 0 where
   pub word : (i : ℕ) → i < words k.layout → slice_index table (word_at i) ≡ c.words.word i
   pub aside : (i : ℕ) → i < words k.layout → slice_index table (aside_at i) ≡ c.words.aside i
   pub state : (tag : ℕ) → tag < k.layout.depth → slice_index table (state_at k.layout tag) ≡ c.state tag
+  pub list : (list : ℕ) → list < LISTS → slice_index table (list_at list) ≡ c.lists list
   pub word_within : (i : ℕ) → i < words k.layout → IsWithin k.layout i (c.words.word i)
   pub aside_within : (i : ℕ) → i < words k.layout → IsWithin k.layout i (c.words.aside i)
 

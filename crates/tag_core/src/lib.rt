@@ -2,6 +2,8 @@
 //! place.
 #![tactic(auto)]
 
+mod bell;
+mod bell_step;
 mod caller;
 mod claim;
 mod claims;
@@ -28,6 +30,8 @@ mod together;
 mod word_held;
 mod word_step;
 
+pub use bell::LISTS;
+pub use bell_step::BellStep;
 pub use caller::Caller;
 pub use claim::{Claim, Spent};
 pub use closed::{Closed, GatherFault};

@@ -1,7 +1,7 @@
 //! What each kind of step tells. These types are for the proofs alone.
 ghost use Rattle.std.specs.Prelude.{[]};
 ghost use Rattle.step_ledger.specs.Views.{viewing, first_view, other_views, both_views};
-ghost use Rattle.tag_core.specs.Plays.{looked, looked_aside, claimed, gave, put_aside, swapped, spilled, posted, took, fronted, ordered, counted, met, settled};
+ghost use Rattle.tag_core.specs.Plays.{looked, looked_aside, claimed, gave, put_aside, swapped, spilled, posted, took, enlisted, sighted, told, got_up, turned, fronted, ordered, counted, met, settled};
 
 use crate::record::View;
 use atomic_table::{Join, Play, Split};
@@ -59,6 +59,36 @@ pub(crate) struct Taking;
 
 impl<R> Play<R, View<R>> for Taking {
     ghost then = { took };
+}
+
+pub(crate) struct Enlisting;
+
+impl<R> Play<R, View<R>> for Enlisting {
+    ghost then = { enlisted };
+}
+
+pub(crate) struct Sighting;
+
+impl<R> Play<R, View<R>> for Sighting {
+    ghost then = { sighted };
+}
+
+pub(crate) struct Telling;
+
+impl<R> Play<R, View<R>> for Telling {
+    ghost then = { told };
+}
+
+pub(crate) struct GettingUp;
+
+impl<R> Play<R, View<R>> for GettingUp {
+    ghost then = { got_up };
+}
+
+pub(crate) struct Turning;
+
+impl<R> Play<R, View<R>> for Turning {
+    ghost then = { turned };
 }
 
 pub(crate) struct Fronting;

@@ -1,6 +1,6 @@
-//! Where the words, the cleared sets and the states are in the table. Nothing else knows the stride.
+//! Where the lists, the turns, the words, the cleared sets and the states are in the table. Nothing else knows the stride.
 ghost use Rattle.std.specs.Prelude.{◌≡◌, ◌<◌};
-ghost use Rattle.tag_core.specs.Spacing.{word_at, aside_at, state_at, table_width};
+ghost use Rattle.tag_core.specs.Spacing.{list_at, clock_at, turn_at, word_at, aside_at, state_at, table_width};
 
 use crate::caller::Caller;
 use tag_layout::Layout;
@@ -8,21 +8,45 @@ use tag_layout::Layout;
 /// Distance between used words of the table, in words of 8 bytes: one cache line.
 const STRIDE: usize = 8;
 
+/// Number of cache lines before the first word: one for the spare word, the lists and the clock, and eight for the turns.
+const HEAD: usize = 9;
+
 /// The index of the spare word, which shows nothing.
 pub(crate) const SPARE: usize = 0;
+
+/// The index of a list of the callers that wait. All lists lie in one cache line, since a look takes all of them.
+pub(crate) fn list_spot(list: u32) -> usize
+    ensures { result ≡ list_at list }
+{
+    list as usize + 1
+}
+
+/// The index of the clock of turns, which only callers that list themselves change.
+pub(crate) fn clock_spot() -> usize
+    ensures { result ≡ clock_at }
+{
+    3
+}
+
+/// The index of a caller's turn.
+pub(crate) fn turn_spot(number: u32) -> usize
+    ensures { result ≡ turn_at number }
+{
+    number as usize + STRIDE
+}
 
 /// The index of a word in the table.
 pub(crate) fn word_spot(word: u32) -> usize
     ensures { result ≡ word_at word }
 {
-    STRIDE * (2 * word as usize + 1)
+    STRIDE * (2 * word as usize + HEAD)
 }
 
 /// The index of a word's cleared set in the table.
 pub(crate) fn aside_spot(word: u32) -> usize
     ensures { result ≡ aside_at word }
 {
-    STRIDE * (2 * word as usize + 2)
+    STRIDE * (2 * word as usize + HEAD + 1)
 }
 
 /// The index of a tag's state in the table.
@@ -30,14 +54,14 @@ pub(crate) fn state_spot(layout: Layout, tag: u32) -> usize
     requires { tag < layout.depth }
     ensures { result ≡ state_at layout tag }
 {
-    STRIDE * (2 * layout.words() as usize + tag as usize + 1)
+    STRIDE * (2 * layout.words() as usize + tag as usize + HEAD)
 }
 
 /// The index of the first tag's state.
 pub(crate) fn first_state(layout: Layout) -> u32
     ensures { result ≡ state_at layout 0 }
 {
-    (STRIDE * (2 * layout.words() as usize + 1)) as u32
+    (STRIDE * (2 * layout.words() as usize + HEAD)) as u32
 }
 
 impl<R> Caller<R> {
@@ -54,5 +78,5 @@ impl<R> Caller<R> {
 pub(crate) fn table_words(layout: Layout) -> usize
     ensures { result ≡ table_width layout }
 {
-    STRIDE * (2 * layout.words() as usize + layout.depth() as usize + 1)
+    STRIDE * (2 * layout.words() as usize + layout.depth() as usize + HEAD)
 }

@@ -1,4 +1,5 @@
 //! The kinds of atomic step on a map. Only contracts and proofs speak of them: the code keeps no list.
+use crate::bell_step::BellStep;
 use crate::word_step::WordStep;
 
 /// One atomic step of a caller, with what it found.
@@ -9,4 +10,6 @@ pub enum Step<R> {
     Post(u32, R),
     /// A posted tag is taken: its number, the state that was found (1 is posted), and its slot's value where it was won.
     Take(u32, u64, Option<R>),
+    /// A step on a list of the callers that wait.
+    Bell(BellStep),
 }
