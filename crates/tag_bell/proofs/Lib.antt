@@ -1,0 +1,6 @@
+pub mod ListBits
+pub mod Spots
+pub mod OneStep
+pub mod EachStep
+pub mod Safe
+pub mod Rung

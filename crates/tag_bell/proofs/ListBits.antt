@@ -1,0 +1,50 @@
+-- Bits of words and lists: what an and-not leaves of them, one value of a function changed, and a bit of a number that
+-- is not 0.
+use Rattle.std.proofs.Common.{◌≡◌, ◌≢◌, ℕ, zero, suc, ◌-◌, ◌/◌, ◌%◌, ◌^◌, ◌≤◌, Bool, cond, bit_and, bit_or, arith, ap, ◌∙◌, eq-eqb, ne_eqb}
+use mathlib.Core.Logic.{dite}
+use native.Mathlib.Decide.{ℕ_discrete, dec_le}
+use Rattle.std.specs.Int.{bit_at}
+use Rattle.std.proofs.lemmas.Nat.Bits.{bit_at_and, bit_at_or, bit_at-lt, bit_at-zero, bit_at-suc, bit_at_lowest, bit_at_above, bit_at-pow_other}
+use Rattle.tag_core.specs.Steps.{changed_at, without}
+use Rattle.tag_core.proofs.Masks.{bit_minus}
+
+-- a changed function has the new value there, and the old ones elsewhere
+pub changed_at-here : (f : ℕ → ℕ) (at value i : ℕ) → i ≡ at → changed_at f at value i ≡ value
+changed_at-here f at value i e = ap (λ (b : Bool). cond b value (f i)) (eq-eqb i at e)
+
+pub changed_at-else : (f : ℕ → ℕ) (at value i : ℕ) → i ≢ at → changed_at f at value i ≡ f i
+changed_at-else f at value i ne = ap (λ (b : Bool). cond b value (f i)) (ne_eqb i at ne)
+
+-- a word less a mask has no bit of the mask, which may have more than 64
+pub without-in : (word mask bit : ℕ) → bit_at mask bit ≡ 1 → bit_at (without word mask) bit ≡ 0
+without-in word mask bit set = dite (dec_le (2 ^ 64) mask)
+    (λ (wide : 2 ^ 64 ≤ mask). let none : 2 ^ 64 - 1 - mask ≡ 0 = omega arith in
+    let rest = bit_at_and word (2 ^ 64 - 1 - mask) bit in
+    let off : bit_at (2 ^ 64 - 1 - mask) bit ≡ 0 = ap (λ (m : ℕ). bit_at m bit) none ∙ bit_at-zero bit in omega arith)
+    (λ (narrow : ¬ (2 ^ 64 ≤ mask)). dite (dec_le 64 bit)
+    (λ (high : 64 ≤ bit). let off = bit_at_above mask 64 bit (omega arith) high in absurd (omega arith))
+    (λ (low : ¬ (64 ≤ bit)). let rest = bit_minus word mask bit (omega arith) (omega arith) in omega arith))
+
+-- and it has bits of the word alone
+pub without-of : (word mask bit : ℕ) → bit_at (without word mask) bit ≡ 1 → bit_at word bit ≡ 1
+without-of word mask bit set =
+    let rest = bit_at_and word (2 ^ 64 - 1 - mask) bit in let low = bit_at-lt word bit in omega arith
+
+-- a list with one more caller has no other bit more
+pub with-of : (list caller bit : ℕ) → bit ≢ caller → bit_at (bit_or list (2 ^ caller)) bit ≡ 1 → bit_at list bit ≡ 1
+with-of list caller bit other set =
+    let both = bit_at_or list (2 ^ caller) bit in let off = bit_at-pow_other caller bit other in omega arith
+
+-- a number that is not 0 has a bit, found after at most so many halvings
+bit_found : (most n : ℕ) → n ≤ most → n ≢ 0 → (i : ℕ) × (bit_at n i ≡ 1)
+bit_found zero n le ne = absurd (ne (omega arith))
+bit_found (suc most) n le ne = dite (ℕ_discrete (n % 2) 1)
+    (λ (odd : n % 2 ≡ 1). (0, bit_at_lowest n ∙ odd))
+    (λ (even : n % 2 ≢ 1). let half = bit_found most (n / 2) (omega arith) (λ e. ne (omega arith)) in
+    (suc half.0, bit_at-suc n half.0 ∙ half.1))
+
+-- two numbers whose and is not 0 have a bit in common
+pub bit_and-common : (a b : ℕ) → bit_and a b ≢ 0 → (i : ℕ) × (bit_at a i ≡ 1) × (bit_at b i ≡ 1)
+bit_and-common a b ne = let w = bit_found (bit_and a b) (bit_and a b) (omega arith) ne in
+    let both = bit_at_and a b w.0 in let is = w.1 in let low = bit_at-lt a w.0 in let low' = bit_at-lt b w.0 in
+    (w.0, omega arith, omega arith)

@@ -1,0 +1,281 @@
+-- Steps that change nothing of a caller's record but its list of steps, and what follows for what it has to see to.
+use Rattle.std.proofs.Common.{◌≡◌, ◌≢◌, ℕ, ◌+◌, ◌-◌, ◌^◌, ◌<◌, ◌≤◌, min, List, [], ◌∷◌, ◌++◌, Bool, true, false, cond, nat_eq, bit_and, bit_or, arith, refl, sym, ap, ◌∙◌, subst, append_assoc, length-append, eq-eqb, ne_eqb, inl, inr, ⊎_elim}
+use Rattle.std.specs.Int.Bits.{or_zero_l}
+use Rattle.std.proofs.lemmas.Nat.{le_or_l, le_or_r}
+use mathlib.Core.Logic.{dite}
+use native.Mathlib.Decide.{ℕ_discrete}
+use Rattle.std.specs.Int.{bit_at}
+use Rattle.std.proofs.lemmas.Nat.Bits.{bit_at_and, bit_at-lt, bit_at-zero, bit_at_ones}
+use Rattle.tag_layout.specs.Layout.{Layout, words, word_of, place_of, word_depth}
+use Rattle.tag_layout.proofs.PlaceFacts.{place_of-below, word_of-below}
+use Rattle.tag_core.specs.declared.bell_step.BellStep.{BellStep}
+use Rattle.tag_core.specs.declared.bell_step.BellStep.TheVariants.{Enlist, Sight, Tell, GetUp}
+use Rattle.tag_core.specs.declared.caller.Caller.{Caller}
+use Rattle.tag_core.specs.declared.record.Record.{Record}
+use Rattle.tag_core.specs.declared.step.Step.{Step}
+use Rattle.tag_core.specs.declared.step.Step.TheVariants.{Word, Post, Take, Bell}
+use Rattle.tag_core.specs.declared.word_step.WordStep.TheVariants.{Look, LookAside}
+use Rattle.tag_bell.specs.declared.told.Told.{Told}
+use Rattle.tag_core.specs.Callers.{record_of, Adds}
+use Rattle.tag_bell.specs.declared.spot.Spot.{Spot}
+use Rattle.tag_bell.specs.Waiting.{waits, Owes, in_word, in_aside}
+use Rattle.tag_bell.specs.Waiting as steps
+use Rattle.tag_bell.specs.Callers.{layout_of, OwesNothing}
+use Rattle.tag_bell.specs.Calls.{OwesNoneWhere, nobody, Tells, OnlyAdds, OwesNoMore, told_in}
+
+plus_none : (n : ℕ) → n + 0 ≡ n
+plus_none n = omega arith
+
+-- neither of two sets has a bit if both together have none
+none_of : (b : Bool) (one more rest : ℕ) → cond b (bit_or one more) more ≡ 0
+    → (more ≡ 0) × (cond b (bit_or one rest) rest ≡ rest)
+none_of true one more rest e = let a = le_or_l one more in let z = le_or_r one more in
+    let no : one ≡ 0 = omega arith in (omega arith, ap (λ (n : ℕ). bit_or n rest) no ∙ or_zero_l rest)
+none_of false one more rest e = (e, refl)
+
+module _ {R : Type 0} where
+  -- the record with these steps before its own
+  abbrev with_steps : List (Step R) → Record R → Record R
+  with_steps xs r = record r { steps = xs ++ r.steps }
+
+  -- a step on a list
+  pub rung : (step : BellStep) (old new : Caller R) → Adds (Bell step) old new → OnlyAdds (Bell step ∷ []) old new
+  rung step old new did = let r = record_of old in record {
+    known = did.known ∙ (λ j. record {
+      shape = r.shape;
+      number = r.number;
+      held = r.held;
+      swept = r.swept;
+      won = plus_none r.won j;
+      back = plus_none r.back j;
+      steps = Bell step ∷ r.steps;
+    });
+    same_map = did.same_map;
+  }
+
+  -- none, and some after others
+  pub none_added : (old new : Caller R) → new ≡ old → OnlyAdds [] old new
+  none_added old new e = record {
+    known = ap (λ (c : Caller R). record_of c) e;
+    same_map = ap (λ (c : Caller R). c.seat.table_id) e;
+  }
+
+  pub added_after : (xs ys : List (Step R)) (a b c : Caller R) → OnlyAdds xs a b → OnlyAdds ys b c → OnlyAdds (ys ++ xs) a c
+  added_after xs ys a b c first next = let r = record_of a in record {
+    known = next.known ∙ ap (with_steps ys) first.known
+        ∙ ap (λ (s : List (Step R)). record r { steps = s }) (sym (append_assoc ys xs r.steps));
+    same_map = next.same_map ∙ first.same_map;
+  }
+
+  -- what they say of the caller's steps and of its layout
+  pub steps_added : (xs : List (Step R)) (old new : Caller R) → OnlyAdds xs old new
+      → (record_of new).steps ≡ xs ++ (record_of old).steps
+  steps_added xs old new is = ap (λ (r : Record R). r.steps) is.known
+
+  pub layout_kept : (xs : List (Step R)) (old new : Caller R) → OnlyAdds xs old new → layout_of new ≡ layout_of old
+  layout_kept xs old new is = ap (λ (r : Record R). r.shape.layout) is.known
+
+  -- the caller has nothing to see to if its steps say so
+  pub owes_none : (list : ℕ) (xs : List (Step R)) (old new : Caller R) → OnlyAdds xs old new
+      → steps.OwesNothing (layout_of old) list (xs ++ (record_of old).steps) → OwesNothing list new
+  owes_none list xs old new is holds = subst (λ (x : Layout × List (Step R)). steps.OwesNothing x.0 list x.1)
+      (λ j. (sym (layout_kept xs old new is) j, sym (steps_added xs old new is) j)) holds
+
+  pub waits_so : (list : ℕ) (xs : List (Step R)) (old new : Caller R) → OnlyAdds xs old new
+      → (n : ℕ) → waits list (xs ++ (record_of old).steps) ≡ n → waits list (record_of new).steps ≡ n
+  waits_so list xs old new is n e = ap (λ (s : List (Step R)). waits list s) (steps_added xs old new is) ∙ e
+
+  -- no spot is owed after the steps that was not owed before
+  pub AddsNoDuty : ℕ → List (Step R) → Type 0
+  AddsNoDuty list xs = (older : List (Step R)) (spot : Spot) → Owes list (xs ++ older) spot → Owes list older spot
+
+  pub owes_no_more : (list : ℕ) (xs : List (Step R)) (old new : Caller R) → OnlyAdds xs old new
+      → ((spot : Spot) → Owes list (xs ++ (record_of old).steps) spot → Owes list (record_of old).steps spot)
+      → OwesNoMore list old new
+  owes_no_more list xs old new is less none = owes_none list xs old new is
+      (λ tag low owes. none tag low (⊎_elim (λ a. inl (less (in_word (layout_of old) tag) a))
+      (λ b. inr (less (in_aside (layout_of old) tag) b)) owes))
+
+  -- steps that tell nobody, behind others and before them
+  pub told-before : (list : ℕ) (ys xs : List (Step R)) → told_in list xs ≡ 0 → told_in list (ys ++ xs) ≡ told_in list ys
+  told-before list [] xs e = e
+  told-before list (Word step ∷ ys) xs e = told-before list ys xs e
+  told-before list (Post tag value ∷ ys) xs e = told-before list ys xs e
+  told-before list (Take tag found value ∷ ys) xs e = told-before list ys xs e
+  told-before list (Bell (Enlist at caller found) ∷ ys) xs e = told-before list ys xs e
+  told-before list (Bell (Sight at found) ∷ ys) xs e = told-before list ys xs e
+  told-before list (Bell (Tell at mask found) ∷ ys) xs e =
+      ap (λ (n : ℕ). cond (nat_eq at list) (bit_or (bit_and found mask) n) n) (told-before list ys xs e)
+  told-before list (Bell (GetUp at caller found) ∷ ys) xs e = told-before list ys xs e
+
+  pub told-after : (list : ℕ) (ys xs : List (Step R)) → told_in list ys ≡ 0 → told_in list (ys ++ xs) ≡ told_in list xs
+  told-after list [] xs e = refl
+  told-after list (Word step ∷ ys) xs e = told-after list ys xs e
+  told-after list (Post tag value ∷ ys) xs e = told-after list ys xs e
+  told-after list (Take tag found value ∷ ys) xs e = told-after list ys xs e
+  told-after list (Bell (Enlist at caller found) ∷ ys) xs e = told-after list ys xs e
+  told-after list (Bell (Sight at found) ∷ ys) xs e = told-after list ys xs e
+  told-after list (Bell (Tell at mask found) ∷ ys) xs e =
+      let n = none_of (nat_eq at list) (bit_and found mask) (told_in list ys) (told_in list (ys ++ xs)) e in
+      n.1 ∙ told-after list ys xs n.0
+  told-after list (Bell (GetUp at caller found) ∷ ys) xs e = told-after list ys xs e
+
+-- a tell of a list ends what the caller has to see to there, if it told somebody
+module _ (R : Type 0) (list mask found : ℕ) where
+  pub tell_done : (older : List (Step R)) (spot : Spot) → bit_and found mask ≢ 0
+      → ¬ (Owes list (Bell (Tell list mask found) ∷ older) spot)
+  tell_done older spot some owes = some (owes.0 refl).1
+
+  -- whom it told there, and that it told nobody elsewhere
+  pub told_here : (older : List (Step R)) → told_in list (Bell (Tell list mask found) ∷ older) ≡ bit_or (bit_and found mask) (told_in list older)
+  told_here older = let more = told_in list older in
+      ap (λ (b : Bool). cond b (bit_or (bit_and found mask) more) more) (eq-eqb list list refl)
+
+  pub told_elsewhere : (other : ℕ) (older : List (Step R)) → other ≢ list
+      → told_in other (Bell (Tell list mask found) ∷ older) ≡ told_in other older
+  told_elsewhere other older ne = let more = told_in other older in
+      ap (λ (b : Bool). cond b (bit_or (bit_and found mask) more) more) (ne_eqb list other (λ e. ne (sym e)))
+
+module _ {R : Type 0} where
+  -- a look at a word, and one at a cleared set
+  pub looked : (i found : ℕ) (old new : Caller R) → Adds (Word (Look i found)) old new
+      → OnlyAdds (Word (Look i found) ∷ []) old new
+  looked i found old new did = let r = record_of old in record {
+    known = did.known ∙ (λ j. record {
+      shape = r.shape;
+      number = r.number;
+      held = r.held;
+      swept = r.swept;
+      won = plus_none r.won j;
+      back = plus_none r.back j;
+      steps = Word (Look i found) ∷ r.steps;
+    });
+    same_map = did.same_map;
+  }
+
+  pub looked_aside : (i found : ℕ) (old new : Caller R) → Adds (Word (LookAside i found)) old new
+      → OnlyAdds (Word (LookAside i found) ∷ []) old new
+  looked_aside i found old new did = let r = record_of old in record {
+    known = did.known ∙ (λ j. record {
+      shape = r.shape;
+      number = r.number;
+      held = r.held;
+      swept = r.swept;
+      won = plus_none r.won j;
+      back = plus_none r.back j;
+      steps = Word (LookAside i found) ∷ r.steps;
+    });
+    same_map = did.same_map;
+  }
+
+  -- a call that told nobody, and another one behind it
+  pub tells_after : (first most : ℕ) (told : Told) (a b c : Caller R) → Tells first nobody a b → Tells most told b c
+      → Tells (first + most) told a c
+  tells_after first most told a b c before after = let few = before.few in let few' = after.few in record {
+    steps = after.steps ++ before.steps;
+    only = added_after before.steps after.steps a b c before.only after.only;
+    few = omega (arith, length-append after.steps before.steps);
+    sleepers = after.sleepers ∙ sym (told-before 0 after.steps before.steps (sym before.sleepers));
+    listeners = after.listeners ∙ sym (told-before 1 after.steps before.steps (sym before.listeners));
+  }
+
+  -- it made no more than more steps
+  pub tells_within : (most more : ℕ) (told : Told) (a b : Caller R) → most ≤ more → Tells most told a b → Tells more told a b
+  tells_within most more told a b le is = let few = is.few in record {
+    steps = is.steps;
+    only = is.only;
+    few = omega arith;
+    sleepers = is.sleepers;
+    listeners = is.listeners;
+  }
+
+  pub tells_same : (most : ℕ) (one other : Told) (a b : Caller R) → one.sleepers ≡ other.sleepers
+      → one.listeners ≡ other.listeners → Tells most one a b → Tells most other a b
+  tells_same most one other a b e e' is = record {
+    steps = is.steps;
+    only = is.only;
+    few = is.few;
+    sleepers = sym e ∙ is.sleepers;
+    listeners = sym e' ∙ is.listeners;
+  }
+
+-- every usable bit of a word is 1 if their and is the usable bits
+pub all_taken : (found usable n b : ℕ) → usable + 1 ≡ 2 ^ n → bit_and found usable ≡ usable → b < n → bit_at found b ≡ 1
+all_taken found usable n b is same low =
+    let all : usable ≡ 2 ^ n - 1 = omega arith in
+    let one : bit_at usable b ≡ 1 = ap (λ (m : ℕ). bit_at m b) all ∙ bit_at_ones n b low in
+    let both : min (bit_at found b) (bit_at usable b) ≡ bit_at usable b =
+    sym (bit_at_and found usable b) ∙ ap (λ (m : ℕ). bit_at m b) same in
+    let few = bit_at-lt found b in omega arith
+
+module _ {R : Type 0} where
+  -- what is known of both lists is known of each
+  pub each_list : (caller : Caller R) → OwesNothing 0 caller → OwesNothing 1 caller → (list : ℕ) → list < 2
+      → OwesNothing list caller
+  each_list caller none none' list low = dite (ℕ_discrete list 0)
+      (λ (e : list ≡ 0). subst (λ (n : ℕ). OwesNothing n caller) (sym e) none)
+      (λ (ne : list ≢ 0). let e : 1 ≡ list = omega arith in subst (λ (n : ℕ). OwesNothing n caller) e none')
+
+  -- it has to see to no tag of these words if its steps say so
+  none_where : (here : ℕ → Type 0) (list : ℕ) (xs : List (Step R)) (old new : Caller R) → OnlyAdds xs old new
+      → ((tag : ℕ) → tag < (layout_of old).depth → here (word_of (layout_of old) tag)
+      → ¬ steps.OwesTag (layout_of old) list (xs ++ (record_of old).steps) tag) → OwesNoneWhere here list new
+  none_where here list xs old new is holds = subst (λ (x : Layout × List (Step R)). (tag : ℕ) → tag < x.0.depth
+      → here (word_of x.0 tag) → ¬ steps.OwesTag x.0 list x.1 tag)
+      (λ j. (sym (layout_kept xs old new is) j, sym (steps_added xs old new is) j)) holds
+
+  -- a look at a word and at its cleared set
+  abbrev pub seen : ℕ → ℕ → ℕ → List (Step R)
+  seen i found aside = Word (LookAside i aside) ∷ Word (Look i found) ∷ []
+
+  pub seen_both : (i found aside : ℕ) (old mid new : Caller R) → Adds (Word (Look i found)) old mid
+      → Adds (Word (LookAside i aside)) mid new → OnlyAdds (seen i found aside) old new
+  seen_both i found aside old mid new first next = added_after (Word (Look i found) ∷ [])
+      (Word (LookAside i aside) ∷ []) old mid new (looked i found old mid first) (looked_aside i aside mid new next)
+
+  pub seen_tells : (i found aside : ℕ) (old new : Caller R) → OnlyAdds (seen i found aside) old new
+      → Tells 2 nobody old new
+  seen_tells i found aside old new is = record {
+    steps = seen i found aside;
+    only = is;
+    few = omega arith;
+    sleepers = refl;
+    listeners = refl;
+  }
+
+  seen_less : (list i found aside : ℕ) (older : List (Step R)) (spot : Spot)
+      → Owes list (seen i found aside ++ older) spot → Owes list older spot
+  seen_less list i found aside older spot owes =
+      ⊎_elim (λ no. absurd no) (λ o. ⊎_elim (λ no. absurd no) (λ was. was) o.0) owes.0
+
+  pub seen_others : (here : ℕ → Type 0) (list i found aside : ℕ) (old new : Caller R)
+      → OnlyAdds (seen i found aside) old new → OwesNoneWhere here list old → OwesNoneWhere here list new
+  seen_others here list i found aside old new is none = none_where here list (seen i found aside) old new is
+      (λ tag low at owes. let l = layout_of old in let mine = (record_of old).steps in none tag low at
+      (⊎_elim (λ a. inl (seen_less list i found aside mine (in_word l tag) a))
+      (λ b. inr (seen_less list i found aside mine (in_aside l tag) b)) owes))
+
+  -- if each of the word's bits is 1, and its cleared set is empty, both looks find its spots shut
+  pub seen_shut : (list i found aside usable : ℕ) (old new : Caller R) → OnlyAdds (seen i found aside) old new
+      → usable + 1 ≡ 2 ^ word_depth (layout_of old) i → bit_and found usable ≡ usable → aside ≡ 0
+      → OwesNoneWhere (λ j. j ≡ i) list new
+  seen_shut list i found aside usable old new is wide full empty = none_where (λ j. j ≡ i) list (seen i found aside) old
+      new is (λ tag low here owes. let l = layout_of old in
+      ⊎_elim (λ a. ⊎_elim (λ no. absurd no) (λ o. o.1 (
+        here,
+        all_taken found usable (word_depth l i) (place_of l tag) wide
+            full (subst (λ (j : ℕ). place_of l tag < word_depth l j) here (place_of-below l tag low)),
+      )) a.0)
+      (λ b. b.1 (here, ap (λ (n : ℕ). bit_at n (place_of l tag)) empty ∙ bit_at-zero (place_of l tag))) owes)
+
+  -- what holds below a word and in it holds below the next, and below the last of all tags
+  pub one_more : (i list : ℕ) (caller : Caller R) → OwesNoneWhere (λ j. j < i) list caller
+      → OwesNoneWhere (λ j. j ≡ i) list caller → OwesNoneWhere (λ j. j < i + 1) list caller
+  one_more i list caller below at tag low here = dite (ℕ_discrete (word_of (layout_of caller) tag) i)
+      (λ (e : word_of (layout_of caller) tag ≡ i). at tag low e)
+      (λ (ne : word_of (layout_of caller) tag ≢ i). below tag low (omega arith))
+
+  pub all_words : (n list : ℕ) (caller : Caller R) → n ≡ words (layout_of caller)
+      → OwesNoneWhere (λ j. j < n) list caller → OwesNothing list caller
+  all_words n list caller is below tag low = below tag low
+      (subst (λ (m : ℕ). word_of (layout_of caller) tag < m) (sym is) (word_of-below (layout_of caller) tag low))

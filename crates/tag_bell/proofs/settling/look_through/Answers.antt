@@ -1,0 +1,33 @@
+-- Each word in which no free tag is seen is done with.
+use Rattle.std.proofs.Common.{◌≡◌, ◌+◌, ◌*◌, ◌<◌, arith, ap, ◌∙◌}
+use Rattle.tag_layout.specs.Layout.{Layout, words}
+use Rattle.tag_core.specs.Callers.{layout_of}
+use Rattle.tag_bell.specs.Calls.{nobody}
+use Rattle.tag_bell.proofs.Rung.{one_more, tells_after, tells_within}
+use Rattle.tag_bell.proofs.settling.look_through.Goals as goal
+
+pub returns-then-has_free-clause-told : goal.returns-then-has_free-clause-told
+returns-then-has_free-clause-told g c =
+    let first = c.args.caller.now in let old = c.loop-word.caller in let new = c.has_free.new.caller in
+    let w = c.loop-word.word in let n = words (layout_of c.args.map.now) in
+    let end : c.words-word-end.result ≡ words (layout_of c.args.map.now) = c.words-word-end.ensures.value
+    ∙ ap (λ (l : Layout). words l) c.layout.ensures in
+    let low : w < words (layout_of c.args.map.now) = let t = c.loop-word-test.true in omega arith in
+    tells_within (2 * w + 2 + 6) (2 * n + 6) c.see_to.result first c.see_to.new.caller (omega arith)
+    (tells_after (2 * w + 2) 6 c.see_to.result first new c.see_to.new.caller
+    (tells_after (2 * w) 2 nobody first old new c.loop-word.invariant.told c.has_free.ensures.told) c.see_to.ensures.told)
+
+pub loop-word-preserved : goal.loop-word-preserved
+loop-word-preserved g c =
+    let first = c.args.caller.now in let old = c.loop-word.caller in let new = c.has_free.new.caller in
+    let w = c.loop-word.word in let before = c.loop-word.invariant in let here = c.has_free.ensures in record {
+      own = here.caller;
+      before = λ list. one_more w list new (here.others list (before.before list)) (here.shut c.if-has_free.false list);
+      told = tells_within (2 * w + 2) (2 * (w + 1)) nobody first new (omega arith)
+          (tells_after (2 * w) 2 nobody first old new before.told here.told);
+      waits = λ list. here.waits list ∙ before.waits list;
+      kept = record {
+        kept = λ tag has. let was = before.kept.kept tag has in let now = here.kept.kept tag was.0 in (now.0, now.1 ∙ was.1);
+        none_else = λ tag has. before.kept.none_else tag (here.kept.none_else tag has);
+      };
+    }

@@ -1,0 +1,16 @@
+-- No spot of a word before this one is left to see to.
+use Rattle.std.proofs.Common.{ℕ, ◌*◌, ◌<◌}
+use Rattle.tag_core.specs.Callers.{IsCallerOf}
+use Rattle.tag_core.specs.Holdings.{KeepsAll}
+use Rattle.tag_bell.specs.Callers.{WaitsAsBefore}
+use Rattle.tag_bell.specs.Calls.{OwesNoneWhere, Tells, nobody}
+use Rattle.tag_bell.proofs.settling.look_through.Given as goal
+
+abbrev pub invariant-loop-word : goal.invariant-loop-word
+invariant-loop-word g l = record {
+  own : IsCallerOf l.fn.map l.caller;
+  before : (list : ℕ) → OwesNoneWhere (λ i. i < l.word) list l.caller;
+  told : Tells (2 * l.word) nobody l.fn.caller l.caller;
+  waits : (list : ℕ) → WaitsAsBefore list l.fn.caller l.caller;
+  kept : KeepsAll l.fn.caller l.caller;
+}

@@ -1,0 +1,19 @@
+-- Where nobody is listed, the looks at the lists end what the caller has to see to.
+use Rattle.std.proofs.Common.{◌+◌, ◌*◌, arith}
+use Rattle.std.proofs.lemmas.Nat.{le_or_l, le_or_r}
+use Rattle.tag_layout.specs.Layout.{words}
+use Rattle.tag_core.specs.Callers.{layout_of}
+use Rattle.tag_bell.proofs.Rung.{tells_after, tells_within, each_list}
+use Rattle.tag_bell.proofs.settling.settle.Goals as goal
+
+pub returns-then-sleepers-listeners-eq0-clause-done : goal.returns-then-sleepers-listeners-eq0-clause-done
+returns-then-sleepers-listeners-eq0-clause-done g c =
+    let seen = c.sight_lists-sleepers in let none = c.if-sleepers-listeners-eq0.true in
+    let few = le_or_l seen.result.0 seen.result.1 in let few' = le_or_r seen.result.0 seen.result.1 in
+    each_list seen.new.caller (seen.ensures.sleepers (omega arith)) (seen.ensures.listeners (omega arith))
+
+pub returns-clause-told : goal.returns-clause-told
+returns-clause-told g c = let n = words (layout_of c.args.map.now) in
+    tells_within (2 + (2 * n + 6)) (2 * n + 8) c.look_through.result c.args.caller.now c.look_through.new.caller (omega arith)
+    (tells_after 2 (2 * n + 6) c.look_through.result c.args.caller.now c.sight_lists-sleepers.new.caller
+    c.look_through.new.caller c.sight_lists-sleepers.ensures.told c.look_through.ensures.told)

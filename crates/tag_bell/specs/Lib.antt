@@ -1,0 +1,4 @@
+pub mod Waiting
+pub mod Safety
+pub mod Callers
+pub mod Calls

@@ -1,0 +1,19 @@
+//! Who waits for a tag, and who has to see to one: what the steps of callers say of it, and the law that nobody sleeps
+//! beside a free tag unless somebody is on the way to it.
+#![tactic(auto)]
+
+mod laws;
+mod settling;
+mod spot;
+mod telling;
+mod told;
+mod waiting;
+
+pub use laws::{
+    each_state_is_safe, no_tag_is_forgotten, nobody_is_forgotten, nobody_rests_beside_a_free_tag,
+};
+pub use settling::settle;
+pub use spot::Spot;
+pub use telling::see_to;
+pub use told::{LISTENERS, SLEEPERS, Told};
+pub use waiting::{get_up, is_told, list_self};

@@ -1,0 +1,74 @@
+//! How a caller that was told, and does not need the tag that it was told of, sees to all tags.
+ghost use Rattle.std.specs.Prelude.{◌≡◌, ℕ, ◌+◌, ◌*◌, ◌<◌, false};
+ghost use Rattle.tag_layout.specs.Layout.{words};
+ghost use Rattle.tag_core.specs.declared.bell.TheConstants.{LISTS};
+ghost use Rattle.tag_core.specs.Callers.{layout_of, IsCallerOf};
+ghost use Rattle.tag_core.specs.Holdings.{KeepsAll};
+ghost use Rattle.tag_bell.specs.Callers.{WaitsAsBefore, OwesNothing};
+ghost use Rattle.tag_bell.specs.Calls.{OwesNoneWhere, Tells, nobody};
+
+use crate::telling::{see_to, sight_lists};
+use crate::told::Told;
+use tag_core::{Caller, Map};
+
+/// Sees to all that the caller has to see to, after it was told and got up, and won another tag or gave up. Where
+/// somebody waits it goes through the words, and if it sees a free tag it tells one caller of each list. Returns those
+/// told.
+#[inline]
+pub fn settle<R>(map: &Map<R>, caller: &mut Caller<R>) -> Told
+    requires caller { IsCallerOf map.now caller.old }
+    ensures caller { IsCallerOf map.now caller.new }
+    ensures done { (list : ℕ) → list < LISTS → OwesNothing list caller.new }
+    ensures told { Tells (2 * words (layout_of map.now) + 8) result caller.old caller.new }
+    ensures waits { (list : ℕ) → WaitsAsBefore list caller.old caller.new }
+    ensures kept { KeepsAll caller.old caller.new }
+{
+    let (sleepers, listeners) = sight_lists(map, caller);
+    if sleepers | listeners == 0 {
+        return Told::none();
+    }
+    look_through(map, caller)
+}
+
+/// Looks for a free tag, and tells one caller of each list if it sees one. A word without one needs no telling: the
+/// looks show it.
+#[inline(never)]
+fn look_through<R>(map: &Map<R>, caller: &mut Caller<R>) -> Told
+    requires caller { IsCallerOf map.now caller.old }
+    ensures caller { IsCallerOf map.now caller.new }
+    ensures done { (list : ℕ) → list < LISTS → OwesNothing list caller.new }
+    ensures told { Tells (2 * words (layout_of map.now) + 6) result caller.old caller.new }
+    ensures waits { (list : ℕ) → WaitsAsBefore list caller.old caller.new }
+    ensures kept { KeepsAll caller.old caller.new }
+{
+    for word in 0..map.layout().words() {
+        if has_free(map, caller, word) {
+            return see_to(map, caller, 1);
+        }
+    }
+    Told::none()
+}
+
+/// Returns whether it sees a free tag in a word or in its cleared set. Two looks.
+fn has_free<R>(map: &Map<R>, caller: &mut Caller<R>, word: u32) -> bool
+    requires caller { IsCallerOf map.now caller.old }
+    requires within { word < words (layout_of map.now) }
+    ensures caller { IsCallerOf map.now caller.new }
+    ensures shut { result ≡ false → (list : ℕ) → OwesNoneWhere (λ i. i ≡ word) list caller.new }
+    ensures others { (list : ℕ) → OwesNoneWhere (λ i. i < word) list caller.old
+        → OwesNoneWhere (λ i. i < word) list caller.new }
+    ensures told { Tells 2 nobody caller.old caller.new }
+    ensures waits { (list : ℕ) → WaitsAsBefore list caller.old caller.new }
+    ensures kept { KeepsAll caller.old caller.new }
+{
+    let usable = map.layout().usable(word);
+    let taken = map.look(caller, word);
+    let aside = map.look_aside(caller, word);
+    if aside != 0 {
+        return true;
+    }
+    if taken & usable != usable {
+        return true;
+    }
+    false
+}

@@ -1,0 +1,54 @@
+//! How a caller begins to wait, and how it gets up.
+ghost use Rattle.std.specs.Prelude.{◌≡◌, ◌≢◌, ℕ, ◌<◌, ◌↔◌, IsTrue, false, []};
+ghost use Rattle.std.specs.Int.{bit_at};
+ghost use Rattle.tag_core.specs.declared.bell.TheConstants.{LISTS};
+ghost use Rattle.tag_core.specs.declared.bell_step.BellStep.TheVariants.{Enlist, GetUp};
+ghost use Rattle.tag_core.specs.Callers.{IsCallerOf, record_of};
+ghost use Rattle.tag_core.specs.Holdings.{KeepsAll};
+ghost use Rattle.tag_bell.specs.Callers.{IsWaiting, IsUp, WaitsAsBefore, OwesNothing};
+ghost use Rattle.tag_bell.specs.Calls.{Rings, OwesNoMore};
+
+use tag_core::{Caller, Map};
+
+/// Lists the caller among those that wait. Afterwards it has to try each tag before it may sleep.
+pub fn list_self<R>(map: &Map<R>, caller: &mut Caller<R>, list: u32)
+    requires caller { IsCallerOf map.now caller.old }
+    requires within { list < LISTS }
+    ensures caller { IsCallerOf map.now caller.new }
+    ensures waiting { IsWaiting list caller.new }
+    ensures others { (other : ℕ) → other ≢ list → WaitsAsBefore other caller.old caller.new }
+    ensures owes { IsUp list caller.old → OwesNoMore list caller.old caller.new }
+    ensures owes_others { (other : ℕ) → other ≢ list → OwesNoMore other caller.old caller.new }
+    ensures step { (found : ℕ) × Rings (Enlist list (record_of caller.old).number found) caller.old caller.new }
+    ensures kept { KeepsAll caller.old caller.new }
+{
+    map.take_turn(caller);
+    map.enlist(caller, list);
+}
+
+/// Ends the caller's wait, and returns whether somebody had told it, or it did not wait there. One that was told has to
+/// see to each tag: it settles (`settle`) unless it finds none.
+pub fn get_up<R>(map: &Map<R>, caller: &mut Caller<R>, list: u32) -> bool
+    requires caller { IsCallerOf map.now caller.old }
+    requires within { list < LISTS }
+    ensures caller { IsCallerOf map.now caller.new }
+    ensures up { IsUp list caller.new }
+    ensures others { (other : ℕ) → other ≢ list → WaitsAsBefore other caller.old caller.new }
+    ensures owes { result ≡ false → OwesNoMore list caller.old caller.new }
+    ensures owes_others { (other : ℕ) → other ≢ list → OwesNoMore other caller.old caller.new }
+    ensures step { (found : ℕ) × Rings (GetUp list (record_of caller.old).number found) caller.old caller.new
+        × (IsTrue result ↔ (bit_at found (record_of caller.old).number ≡ 0)) }
+    ensures kept { KeepsAll caller.old caller.new }
+{
+    let found = map.get_up(caller, list);
+    !map.is_listed(caller, found)
+}
+
+/// Returns whether the caller was told, or does not wait there. It is no step of the caller, so no clause says what it
+/// finds: it is for one that sleeps, which gets up once it is told.
+pub fn is_told<R>(map: &Map<R>, caller: &Caller<R>, list: u32) -> bool
+    requires caller { IsCallerOf map.now caller.now }
+    requires within { list < LISTS }
+{
+    !map.is_listed(caller, map.peek_listed(list))
+}
