@@ -1,19 +1,21 @@
 -- The only caller of a map: its own steps determine the words, so gets are choices.
-use Rattle.std.proofs.Common.{◌≡◌, ℕ, zero, suc, ◌<◌, ◌≤◌, ◌^◌, nat_eq}
+use Rattle.std.proofs.Common.{◌≡◌, ℕ, ◌<◌, ◌≤◌, ◌^◌, nat_eq}
 use Rattle.std.proofs.Common.{List, [], ◌∷◌, arith, refl, sym, ap, ◌∙◌, subst}
 use Rattle.std.proofs.Math.Logic.{∥∥₁_elim}
-use Rattle.std.specs.Prelude.{Option}
 use native.Mathlib.Nat.{ℕ_set}
 use Rattle.tag_layout.specs.Layout.{Layout, place_of}
 use Rattle.tag_layout.proofs.PlaceFacts.{place_of-below, word_bits-le}
 use Rattle.tag_core.specs.declared.shape.Shape.{Shape}
 use Rattle.tag_core.specs.declared.step.Step.{Step}
-use Rattle.tag_core.specs.declared.step.Step.TheVariants.{Word, Post, Take}
+use Rattle.tag_core.specs.declared.step.Step.TheVariants.{Word, Post, Take, Bell}
+use Rattle.tag_core.specs.declared.bell_step.BellStep.{BellStep}
+use Rattle.tag_core.specs.declared.bell_step.BellStep.TheVariants.{Enlist, Sight, Tell, GetUp}
 use Rattle.tag_core.specs.declared.word_step.WordStep.{WordStep}
 use Rattle.tag_core.specs.declared.word_step.WordStep.TheVariants.{Look, LookAside, Claimed, Give, Put, Swap, Spill}
 use Rattle.tag_core.specs.declared.record.Record.{Record}
 use Rattle.tag_core.specs.declared.caller.Caller.{Caller}
 use Rattle.tag_core.specs.Steps.{Words, Finds, Quiet, words_after_all}
+use Rattle.tag_core.specs.Lists.{FindsListed}
 use Rattle.tag_core.specs.Histories.{Cells, FindsIn, EachFinds, steps_by}
 use Rattle.tag_core.specs.Meeting.{HasHistory}
 use Rattle.tag_core.specs.Callers.{record_of, Adds}
@@ -35,10 +37,17 @@ finds_prop (Put i mask found) w = ℕ_set found (w.aside i)
 finds_prop (Swap i found) w = ℕ_set found (w.aside i)
 finds_prop (Spill i mask found) w = ℕ_set found (w.word i)
 
+listed_prop : (step : BellStep) (lists : ℕ → ℕ) → IsProp (FindsListed step lists)
+listed_prop (Enlist list caller found) lists = ℕ_set found (lists list)
+listed_prop (Sight list found) lists = ℕ_set found (lists list)
+listed_prop (Tell list mask found) lists = ℕ_set found (lists list)
+listed_prop (GetUp list caller found) lists = ℕ_set found (lists list)
+
 step_prop : {R : Type 0} (step : Step R) (c : Cells) → IsProp (FindsIn step c)
 step_prop (Word step) c = finds_prop step c.words
 step_prop (Post tag value) c = hlevel
 step_prop (Take tag found value) c = ℕ_set found (c.state tag)
+step_prop (Bell step) c = listed_prop step c.lists
 
 found_prop : {R : Type 0} (steps : List (Step R)) → IsProp (EachFound steps)
 found_prop [] = hlevel

@@ -36,15 +36,15 @@ module _ {R : Type 0} where
   pub same_cells : (h : History R) → EachFinds 1 h → cells_of h ≡ cells_left (steps_by 0 h)
   same_cells [] finds = refl
   same_cells (x ∷ older) finds =
-      ap (cells_after x.1) (same_cells older finds.3)
+      ap (cells_after x.1) (same_cells older finds.4)
       ∙ sym (ap (λ (own : List (Step R)). cells_left own) (own_first x older finds.0))
 
   -- each step of the list found what the list's earlier ones left
   pub each_found : (h : History R) → EachFinds 1 h → EachFound (steps_by 0 h)
   each_found [] finds = tt
   each_found (x ∷ older) finds =
-      let here = subst (λ (c : Cells). FindsIn x.1 c) (same_cells older finds.3) finds.1 in
-      subst (λ (own : List (Step R)). EachFound own) (sym (own_first x older finds.0)) (here, each_found older finds.3)
+      let here = subst (λ (c : Cells). FindsIn x.1 c) (same_cells older finds.4) finds.2 in
+      subst (λ (own : List (Step R)). EachFound own) (sym (own_first x older finds.0)) (here, each_found older finds.4)
 
   -- the same for an earlier part of the list
   found_older : (newer older : List (Step R)) → EachFound (newer ++ older) → EachFound older

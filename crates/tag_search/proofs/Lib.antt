@@ -33,3 +33,5 @@ pub mod Freshness
 pub mod HeldFacts
 pub mod MapGets
 pub mod Seen
+pub mod Closing
+pub mod VainGets

@@ -21,3 +21,4 @@ pub mod SharedLaws
 pub mod AloneLaws
 pub mod Gains
 pub mod Alone
+pub mod Vain

@@ -1,5 +1,5 @@
 //! Gets and clears by one of the callers of a shared map.
-ghost use Rattle.std.specs.Prelude.{◌≡◌, ℕ, ◌^◌, ◌↔◌, ◌⊎◌, ◌≤◌, false, List, IsTrue, IsOk, IfOk, IfErr, OnErr, Some};
+ghost use Rattle.std.specs.Prelude.{◌≡◌, ℕ, ◌^◌, ◌↔◌, ◌⊎◌, ◌≤◌, false, List, IsTrue, IsOk, IfOk, IfErr, IfNone, OnErr, Some};
 ghost use Rattle.tag_layout.specs.Layout.{word_bits, word_of, place_of};
 ghost use Rattle.tag_core.specs.Callers.{layout_of, IsCallerOf, Holds, Adds};
 ghost use Rattle.tag_core.specs.Holdings.{Releases};
@@ -16,6 +16,7 @@ ghost use Rattle.tag_search.specs.Hints.{reduced};
 ghost use Rattle.tag_search.specs.Alone.{IsAlone, pool_left, Chooses, ChoosesRun, LeavesPool};
 ghost use Rattle.tag_search.specs.Pool.{set_aside, free_at};
 ghost use Rattle.tag_search.specs.Shared.{HasRoom, Makes};
+ghost use Rattle.tag_search.specs.Vain.{TriesAll, MaySleep};
 ghost use Rattle.tag_search.specs.Visits.{plain_visits, shallow_visits};
 
 use crate::found::Found;
@@ -37,6 +38,10 @@ pub fn get<R>(map: &Map<R>, caller: &mut Caller<R>, hint: &mut Hint) -> Result<F
         let l = layout_of map.now in
         let visits = plain_visits l hint.old.round_robin (reduced l.depth hint.old.at) in
         Makes caller.old caller.new (IsGet l visits found.answer)) }
+
+    // A get that found no tag tried each one, and its caller has to see to none, so that it may sleep.
+    ensures vain { IfOk result (λ found. IfNone found.answer
+        (TriesAll (layout_of map.now) hint.old → MaySleep caller.new)) }
 
     // If the map has no other caller, the get is the choice over the words that the caller's own steps left.
     ensures alone { IsAlone caller.old → IfOk result (λ found.

@@ -5,6 +5,7 @@ use Rattle.tag_core.specs.Callers.{layout_of}
 use Rattle.tag_search.proofs.BegunFacts.{begun_frees_none}
 use Rattle.tag_search.proofs.FreedFacts.{freed_same, none_left, left_since}
 use Rattle.tag_search.proofs.MapGets.{won_got, rest_got}
+use Rattle.tag_search.proofs.VainGets.{none_found}
 use Rattle.tag_search.proofs.on_map.get.Goals as goal
 
 pub returns-in-Ok : goal.returns-in-Ok
@@ -16,6 +17,7 @@ returns-in-Ok g c =
       room = search rules;
       gains = got.gains;
       steps = got.steps;
+      vain = tt;
       alone = got.alone;
       hint = search rules;
       left = none_left old new (freed_same old new won.steps won.added won.holds.freed);
@@ -34,6 +36,7 @@ returns-in-Err g c =
       room = search rules;
       gains = got.gains;
       steps = got.steps;
+      vain = none_found c.args.map.now old new c.requires.caller hint c.finish_get.result.answer got.steps;
       alone = got.alone;
       hint = search rules;
       left = c.finish_get.ensures.left
