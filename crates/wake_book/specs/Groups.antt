@@ -47,6 +47,10 @@ moved_of waiter = total moved_by (steps_of waiter)
 abbrev pub rung_of : Waiter → Rung
 rung_of waiter = waiter.rung.value
 
+-- whom the waiter's latest ring was for, and the one before it
+abbrev pub rings_of : Waiter → Rung × Rung
+rings_of waiter = (rung_of waiter, waiter.before.value.value)
+
 -- the waiter's number and steps
 abbrev pub record_of : Waiter → Record GroupStep
 record_of waiter = record { number = waiter.number; steps = steps_of waiter }
@@ -80,14 +84,32 @@ abbrev pub StandsAsBefore : Waiter → Waiter → Type 0
 StandsAsBefore old new = (number_of new ≡ number_of old) × (standing_of new ≡ standing_of old)
     × (wait_index_of new ≡ wait_index_of old)
 
--- the waiter's latest ring was for these, and nothing else of the waiter changed
-abbrev pub RingsFor : Rung → Waiter → Waiter → Type 0
-RingsFor rung old new = StandsAsBefore old new × (steps_of new ≡ steps_of old) × (rung_of new ≡ rung)
+-- the waiter has rung for nobody since
+abbrev pub RingsNobody : Waiter → Waiter → Type 0
+RingsNobody old new = rings_of new ≡ rings_of old
 
--- whom the waiter's steps granted a wakeup since, if anybody, its latest ring was for
+-- the waiter has rung once since, and for these
+abbrev pub RingsOnce : Rung → Waiter → Waiter → Type 0
+RingsOnce rung old new = rings_of new ≡ (rung, rung_of old)
+
+-- the waiter stands as before, and has rung for nobody since
+abbrev pub StandsSilent : Waiter → Waiter → Type 0
+StandsSilent old new = (number_of new ≡ number_of old) × (standing_of new ≡ standing_of old)
+    × (wait_index_of new ≡ wait_index_of old) × RingsNobody old new
+
+-- the waiter rang once, for these, and nothing else of the waiter changed
+abbrev pub RingsFor : Rung → Waiter → Waiter → Type 0
+RingsFor rung old new = StandsAsBefore old new × (steps_of new ≡ steps_of old) × RingsOnce rung old new
+
+-- the waiter's steps granted these wakeups since, and it has rung for nobody
+pub record GrantsUnrung (grants : Grants) (old new : Waiter) : Type 0 where
+  pub are : AreGrantsOf grants (steps_of old) (steps_of new)
+  pub silent : RingsNobody old new
+
+-- whom the waiter's steps granted a wakeup since, if anybody, it rang for once, and for nobody else
 abbrev pub RingsGranted : Waiter → Waiter → Type 0
-RingsGranted old new = (moved_of new ≡ moved_of old)
-    ⊎ ((grants : Grants) × (rung_of new ≡ Granted grants) × AreGrantsOf grants (steps_of old) (steps_of new))
+RingsGranted old new = ((moved_of new ≡ moved_of old) × RingsNobody old new)
+    ⊎ ((grants : Grants) × RingsOnce (Granted grants) old new × AreGrantsOf grants (steps_of old) (steps_of new))
 
 -- what the other value was at the look
 abbrev pub sighted_beside : {T : Type 0} → Sighting T → T

@@ -68,8 +68,8 @@ impl Groups {
     }
 }
 
-/// A handle that waits and wakes others. A contract sees its number, group, wait index, latest ring, and the list of its own
-/// steps.
+/// A handle that waits and wakes others. A contract sees its number, group, wait index, latest two rings, and the list of its
+/// own steps.
 #[derive(Drop)]
 pub struct Waiter {
     pub(crate) seat: Seat<(), Records<GroupStep>>,
@@ -83,6 +83,8 @@ pub struct Waiter {
     pub(crate) moved: u64,
     /// Whom its latest ring was for, and nobody (`Nudged(0)`) before the first. Only contracts see it.
     pub(crate) rung: Snapshot<Rung>,
+    /// Whom the ring before that was for. Only contracts see it.
+    pub(crate) before: Snapshot<Snapshot<Rung>>,
     ghost knows: { seat.me ≡ (own_view (record { number = number; steps = steps_of seat.me.0 }), []) },
     ghost stands: { StandsSo standing (steps_of seat.me.0) },
     ghost within: { next < 8 },

@@ -59,6 +59,7 @@ impl Groups {
             next: _,
             moved,
             rung: _,
+            before: _,
         } = waiter;
         WaiterGathering { seat, moved }
     }
@@ -122,6 +123,7 @@ impl WaiterGathering {
             next: _,
             moved,
             rung: _,
+            before: _,
         } = waiter;
         groups
             .table

@@ -88,6 +88,7 @@ impl MemberSource for Groups {
             next: 0,
             moved: 0,
             rung: Snapshot::of(&Rung::Nudged(0)),
+            before: Snapshot::of(&Snapshot::of(&Rung::Nudged(0))),
         })
     }
 }

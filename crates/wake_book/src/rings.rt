@@ -28,6 +28,7 @@ impl Groups {
                 self.bells[group].notify_one();
             }
         }
+        waiter.before = Snapshot::of(&waiter.rung);
         waiter.rung = Snapshot::of(&Rung::Granted(grants));
     }
 
@@ -44,6 +45,7 @@ impl Groups {
                 self.bells[group].notify_one();
             }
         }
+        waiter.before = Snapshot::of(&waiter.rung);
         waiter.rung = Snapshot::of(&Rung::Nudged(count));
     }
 }

@@ -1,7 +1,7 @@
 //! Looks at the active count that a contract can place among the steps on another table.
 ghost use Rattle.std.specs.Prelude.{◌≡◌, ◌≤◌, [], ◌∷◌, IsSome};
 ghost use Rattle.wake_book.specs.Waits.{active_at};
-ghost use Rattle.wake_book.specs.Groups.{IsWaiterOf, StandsAsBefore, standing_of, steps_of};
+ghost use Rattle.wake_book.specs.Groups.{IsWaiterOf, StandsSilent, standing_of, steps_of};
 ghost use Rattle.wake_book.specs.Groups.{sighted_beside, sighted_steps};
 ghost use Rattle.wake_book.specs.declared.steps.GroupStep.TheVariants.{Look};
 
@@ -23,7 +23,7 @@ impl Groups {
     /// `beside` is at this moment.
     pub fn sight<T>(&self, waiter: &mut Waiter, beside: &T) -> (u64, Sighting<T>)
         requires groups { IsWaiterOf self.now waiter.old }
-        ensures groups { IsWaiterOf self.now waiter.new × StandsAsBefore waiter.old waiter.new }
+        ensures groups { IsWaiterOf self.now waiter.new × StandsSilent waiter.old waiter.new }
         ensures step { steps_of waiter.new ≡ Look active_at result.0 ∷ steps_of waiter.old }
         ensures own { IsSome (standing_of waiter.old) → 1 ≤ result.0 }
         ensures beside { sighted_beside result.1 ≡ beside.now }

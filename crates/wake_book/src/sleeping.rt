@@ -31,7 +31,7 @@ pub struct Key<'a, T> {
 }
 
 impl Groups {
-    ghost use Rattle.wake_book.specs.Groups.{IsWaiterOf, IsKeyFor, standing_of, moved_of, steps_of, StandsAsBefore, Sleeps};
+    ghost use Rattle.wake_book.specs.Groups.{IsWaiterOf, IsKeyFor, standing_of, moved_of, steps_of, StandsSilent, Sleeps};
     ghost use Rattle.wake_book.specs.Groups.{announcement_of, announced_beside, announced_steps};
 
     /// Announces a sleep in the waiter's group, so that a ring from now on ends it. Whoever announces first and then
@@ -64,7 +64,7 @@ impl Groups {
     pub fn sleep<R: Wait, T>(&self, rt: &R, waiter: &mut Waiter, key: Key<'_, T>) -> Announcement<T>
         requires groups { IsWaiterOf self.now waiter.old }
         requires key { IsKeyFor self.now waiter.old key }
-        ensures groups { IsWaiterOf self.now waiter.new × StandsAsBefore waiter.old waiter.new }
+        ensures groups { IsWaiterOf self.now waiter.new × StandsSilent waiter.old waiter.new }
         ensures moved { moved_of waiter.new ≡ moved_of waiter.old }
         ensures slept { Sleeps waiter.old waiter.new }
         ensures announced { result ≡ announcement_of key.entry }

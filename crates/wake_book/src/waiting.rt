@@ -2,7 +2,7 @@
 ghost use Rattle.std.specs.Prelude.{◌≡◌, ℕ, ◌+◌, ◌%◌, ◌<◌, ◌≤◌, ◌∷◌, length, IsTrue, IsFalse, Some, None, IsSome, IfSome, IfNone};
 ghost use Rattle.wake_book.specs.Waits.{active_at, index_at, group_at, granted, waiting};
 ghost use Rattle.wake_book.specs.Groups.{IsWaiterOf, steps_of, number_of, standing_of, wait_index_of, moved_of};
-ghost use Rattle.wake_book.specs.Groups.{StandsAsBefore, LeavesAs, IdlesOnce};
+ghost use Rattle.wake_book.specs.Groups.{StandsSilent, RingsNobody, LeavesAs, IdlesOnce};
 ghost use Rattle.wake_book.specs.Walks.{IsWayOut};
 ghost use Rattle.wake_book.specs.declared.steps.GroupStep.TheVariants.{Look, Raise, Enter};
 
@@ -39,7 +39,7 @@ impl Groups {
     /// this waiter is in a group.
     pub fn active(&self, waiter: &mut Waiter) -> u64
         requires groups { IsWaiterOf self.now waiter.old }
-        ensures groups { IsWaiterOf self.now waiter.new × StandsAsBefore waiter.old waiter.new }
+        ensures groups { IsWaiterOf self.now waiter.new × StandsSilent waiter.old waiter.new }
         ensures step { steps_of waiter.new ≡ Look active_at result ∷ steps_of waiter.old }
         ensures own { IsSome (standing_of waiter.old) → 1 ≤ result }
     {
@@ -51,7 +51,7 @@ impl Groups {
     /// Loads the wake index: the group that the next walk visits first, 0 to 7.
     pub fn index(&self, waiter: &mut Waiter) -> u32
         requires groups { IsWaiterOf self.now waiter.old }
-        ensures groups { IsWaiterOf self.now waiter.new × StandsAsBefore waiter.old waiter.new }
+        ensures groups { IsWaiterOf self.now waiter.new × StandsSilent waiter.old waiter.new }
         ensures step { steps_of waiter.new ≡ Look index_at result ∷ steps_of waiter.old }
         ensures within { result < 8 }
     {
@@ -87,6 +87,7 @@ impl Groups {
         ensures group { (result ≡ wait_index_of waiter.old) × (standing_of waiter.new ≡ Some result) }
         ensures next { wait_index_of waiter.new ≡ (wait_index_of waiter.old + 1) % 8 }
         ensures steps { (active : ℕ) × (found : ℕ) × (steps_of waiter.new ≡ Enter result found ∷ Raise active ∷ steps_of waiter.old) }
+        ensures silent { RingsNobody waiter.old waiter.new }
         ensures bound { length (steps_of waiter.new) ≡ 2 + length (steps_of waiter.old) }
     {
         let group = waiter.next;
@@ -110,6 +111,7 @@ impl Groups {
         ensures out { (standing_of waiter.new ≡ None) × (wait_index_of waiter.new ≡ wait_index_of waiter.old) }
         ensures moved { moved_of waiter.new ≡ moved_of waiter.old }
         ensures left { LeavesAs waiter.old waiter.new result }
+        ensures silent { RingsNobody waiter.old waiter.new }
     {
         for _ in rt.forever() {
             if let Some(left) = self.try_leave(waiter) {
@@ -131,6 +133,7 @@ impl Groups {
         ensures left { IfSome result (λ left. LeavesAs waiter.old waiter.new left) }
         ensures stays { IfNone result (standing_of waiter.new ≡ standing_of waiter.old) }
         ensures idle { IfNone result (IdlesOnce waiter.old waiter.new) }
+        ensures silent { RingsNobody waiter.old waiter.new }
     {
         let Some(group) = waiter.standing else {
             unreachable!()
@@ -156,7 +159,7 @@ impl Groups {
     pub(crate) fn look_group(&self, waiter: &mut Waiter, group: u32) -> u64
         requires groups { IsWaiterOf self.now waiter.old }
         requires within { group < 8 }
-        ensures groups { IsWaiterOf self.now waiter.new × StandsAsBefore waiter.old waiter.new }
+        ensures groups { IsWaiterOf self.now waiter.new × StandsSilent waiter.old waiter.new }
         ensures step { steps_of waiter.new ≡ Look (group_at group) result ∷ steps_of waiter.old }
         ensures waits { standing_of waiter.old ≡ Some group → granted result ≡ 0 → 1 ≤ waiting result }
         ensures moved { waiter.new.moved ≡ waiter.old.moved }

@@ -1,7 +1,7 @@
 //! What becomes of the wakeups that a call granted: who wakes the sleepers, and what the call answers.
 ghost use Rattle.std.specs.Prelude.{◌≡◌, ◌≤◌};
-ghost use Rattle.wake_book.specs.Grants.{AreGrantsOf, WokenBy};
-ghost use Rattle.wake_book.specs.Groups.{RingsGranted, rung_of, steps_of};
+ghost use Rattle.wake_book.specs.Grants.{WokenBy};
+ghost use Rattle.wake_book.specs.Groups.{GrantsUnrung, RingsGranted, RingsNobody, RingsOnce, steps_of};
 ghost use Rattle.wake_book.specs.declared.rings.Rung.TheVariants.{Granted};
 
 use crate::grants::{Grants, NO_GRANTS};
@@ -13,8 +13,7 @@ pub trait Waking {
     ghost use Rattle.wake_book.specs.declared.grants.Grants.{Grants};
     ghost use Rattle.wake_book.specs.declared.grants.TheConstants.{NO_GRANTS};
     ghost use Rattle.wake_book.specs.declared.groups.Waiter.{Waiter};
-    ghost use Rattle.wake_book.specs.Grants.{AreGrantsOf};
-    ghost use Rattle.wake_book.specs.Groups.{IsWaiterOf, StandsAsBefore, steps_of};
+    ghost use Rattle.wake_book.specs.Groups.{GrantsUnrung, IsWaiterOf, StandsAsBefore, steps_of};
 
     /// What the call answers.
     type Answer: Copy;
@@ -31,7 +30,7 @@ pub trait Waking {
     /// Returns the answer of a call that granted nobody a wakeup.
     fn nobody() -> Self::Answer
         ensures woken { woken result ≡ 0 }
-        ensures tells { (old new : Waiter) → AreGrantsOf NO_GRANTS (steps_of old) (steps_of new) → tells result old new };
+        ensures tells { (old new : Waiter) → GrantsUnrung NO_GRANTS old new → tells result old new };
 
     /// Passes on the grants of the latest call, once, and returns the answer. This makes no step.
     fn tell(groups: &Groups, waiter: &mut Waiter, grants: Grants) -> Self::Answer
@@ -42,8 +41,7 @@ pub trait Waking {
         ensures none { grants.woken ≡ 0 → waiter.new ≡ waiter.old }
         ensures steps { steps_of waiter.new ≡ steps_of waiter.old }
         ensures stands { StandsAsBefore waiter.old waiter.new }
-        ensures tells { (before : Waiter) → AreGrantsOf grants (steps_of before) (steps_of waiter.old)
-            → tells result before waiter.new };
+        ensures tells { (before : Waiter) → GrantsUnrung grants before waiter.old → tells result before waiter.new };
 }
 
 /// Wakes one sleeper for each grant, in its group, and answers how many waiters were granted a wakeup.
@@ -56,7 +54,7 @@ impl Waking for Ring {
 
     ghost tells = { λ woken. RingsGranted };
 
-    ghost passes = { λ grants old new. 1 ≤ grants.woken → rung_of new ≡ Granted grants };
+    ghost passes = { λ grants old new. 1 ≤ grants.woken → RingsOnce (Granted grants) old new };
 
     #[inline]
     fn nobody() -> u32 {
@@ -81,7 +79,7 @@ impl Waking for Report {
 
     ghost woken = { λ grants. grants.woken };
 
-    ghost tells = { λ grants old new. AreGrantsOf grants (steps_of old) (steps_of new) };
+    ghost tells = { GrantsUnrung };
 
     ghost passes = { λ grants old new. new ≡ old };
 
@@ -105,7 +103,7 @@ impl Waking for Count {
 
     ghost woken = { λ woken. woken };
 
-    ghost tells = { λ woken old new. WokenBy woken (steps_of old) (steps_of new) };
+    ghost tells = { λ woken old new. WokenBy woken (steps_of old) (steps_of new) × RingsNobody old new };
 
     ghost passes = { λ grants old new. new ≡ old };
 

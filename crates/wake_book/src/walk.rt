@@ -3,7 +3,7 @@ ghost use Rattle.std.specs.Prelude.{◌≡◌, ◌+◌, ◌^◌, ◌<◌, ◌≤
 ghost use Rattle.wake_book.specs.Waits.{waiting};
 ghost use Rattle.wake_book.specs.Walks.{VisitsGroup, IsWalk, walk_steps};
 ghost use Rattle.wake_book.specs.Grants.{AreGrantsOf};
-ghost use Rattle.wake_book.specs.Groups.{IsWaiterOf, steps_of, moved_of, StandsAsBefore, MovesMore, Loses};
+ghost use Rattle.wake_book.specs.Groups.{IsWaiterOf, steps_of, moved_of, StandsSilent, MovesMore, Loses};
 ghost use Rattle.wake_book.specs.declared.steps.GroupStep.TheVariants.{Grant, Store};
 
 use crate::grants::{Grants, NO_GRANTS};
@@ -25,7 +25,7 @@ impl Groups {
     pub fn walk(&self, waiter: &mut Waiter, nr: u32) -> Grants
         requires groups { IsWaiterOf self.now waiter.old }
         requires within { (1 ≤ nr) × (nr ≤ 8) }
-        ensures groups { IsWaiterOf self.now waiter.new × StandsAsBefore waiter.old waiter.new }
+        ensures groups { IsWaiterOf self.now waiter.new × StandsSilent waiter.old waiter.new }
         ensures most { result.woken ≤ nr }
         ensures moved { moved_of waiter.new ≡ moved_of waiter.old + result.woken }
         ensures lawful { IsWalk nr (steps_of waiter.old) (steps_of waiter.new) result.woken }
@@ -57,7 +57,7 @@ impl Groups {
     fn visit(&self, waiter: &mut Waiter, group: u32, most: u32) -> u32
         requires groups { IsWaiterOf self.now waiter.old }
         requires within { (group < 8) × (waiter.old.moved + most ≤ 2 ^ 56) }
-        ensures groups { IsWaiterOf self.now waiter.new × StandsAsBefore waiter.old waiter.new }
+        ensures groups { IsWaiterOf self.now waiter.new × StandsSilent waiter.old waiter.new }
         ensures moved { (result ≤ most) × (waiter.new.moved ≡ waiter.old.moved + result) }
         ensures visit { VisitsGroup group most (steps_of waiter.old) (steps_of waiter.new) result }
     {
@@ -79,7 +79,7 @@ impl Groups {
     fn grant(&self, waiter: &mut Waiter, group: u32, found: u64, count: u64) -> bool
         requires groups { IsWaiterOf self.now waiter.old }
         requires within { (group < 8) × (count ≤ waiting found) × (waiter.old.moved + count ≤ 2 ^ 56) }
-        ensures groups { IsWaiterOf self.now waiter.new × StandsAsBefore waiter.old waiter.new }
+        ensures groups { IsWaiterOf self.now waiter.new × StandsSilent waiter.old waiter.new }
         ensures moved { IsTrue result → MovesMore count waiter.old waiter.new }
         ensures won { IsTrue result → steps_of waiter.new ≡ Grant group found count found ∷ steps_of waiter.old }
         ensures kept { IsFalse result → waiter.new.moved ≡ waiter.old.moved }
@@ -100,7 +100,7 @@ impl Groups {
     fn store_index(&self, waiter: &mut Waiter, group: u32)
         requires groups { IsWaiterOf self.now waiter.old }
         requires within { group < 8 }
-        ensures groups { IsWaiterOf self.now waiter.new × StandsAsBefore waiter.old waiter.new }
+        ensures groups { IsWaiterOf self.now waiter.new × StandsSilent waiter.old waiter.new }
         ensures step { steps_of waiter.new ≡ Store group ∷ steps_of waiter.old }
     {
         self.table

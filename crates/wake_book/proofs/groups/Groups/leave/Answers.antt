@@ -29,7 +29,7 @@ module _ (g : ℕ) (steps before : List GroupStep) (idled : (idles : ℕ) × Idl
 pub loop-init : goal.loop-init
 loop-init g c = let stands = group_of c.args.waiter.now.standing c.requires.stands in record {
   turns = (tt, tt);
-  groups = (c.requires.groups, (refl, refl, refl));
+  groups = (c.requires.groups, (refl, refl, refl, refl));
   moved = refl;
   idle = (stands.0, stands.1, 0, refl);
 }
@@ -41,7 +41,7 @@ loop-preserved g c = let inv = c.loop.invariant in let turn = c.try_leave.ensure
       turns = (tt, tt);
       groups = (
         turn.groups.0,
-        (turn.groups.1 ∙ inv.groups.1.0, stays ∙ inv.groups.1.1, turn.index ∙ inv.groups.1.2),
+        (turn.groups.1 ∙ inv.groups.1.0, stays ∙ inv.groups.1.1, turn.index ∙ inv.groups.1.2, turn.silent ∙ inv.groups.1.3),
       );
       moved = turn.moved ∙ inv.moved;
       idle = let more = idles_on inv.idle.0 (steps_of c.args.waiter.now) (steps_of c.loop.waiter) (inv.idle.2, inv.idle.3) 1

@@ -1,13 +1,13 @@
 -- Until the waiter leaves, it stays in its group, and each turn added a look and a lost exchange.
 use Rattle.std.proofs.Common.{◌≡◌, ℕ, Some}
-use Rattle.wake_book.specs.Groups.{IsWaiterOf, steps_of, standing_of, moved_of, StandsAsBefore}
+use Rattle.wake_book.specs.Groups.{IsWaiterOf, steps_of, standing_of, moved_of, StandsSilent}
 use Rattle.wake_book.specs.Walks.{Idles}
 use Rattle.wake_book.proofs.groups.Groups.leave.Given as goal
 
 abbrev pub invariant-loop : goal.invariant-loop
 invariant-loop g l = record {
   turns : (goal.iterator-loop g).can_next l.iterator' × (goal.iterator-loop g).is_finite l.iterator';
-  groups : IsWaiterOf l.self l.waiter × StandsAsBefore l.fn.waiter l.waiter;
+  groups : IsWaiterOf l.self l.waiter × StandsSilent l.fn.waiter l.waiter;
   moved : moved_of l.waiter ≡ moved_of l.fn.waiter;
   idle : (group : ℕ) × (standing_of l.fn.waiter ≡ Some group)
       × (idles : ℕ) × Idles idles group (steps_of l.fn.waiter) (steps_of l.waiter);

@@ -1,12 +1,12 @@
 -- Each turn so far found somebody waiting and lost its exchange, so nobody was moved.
 use Rattle.std.proofs.Common.{◌≡◌}
-use Rattle.wake_book.specs.Groups.{IsWaiterOf, steps_of, StandsAsBefore}
+use Rattle.wake_book.specs.Groups.{IsWaiterOf, steps_of, StandsSilent}
 use Rattle.wake_book.specs.Walks.{LosesGrants}
 use Rattle.wake_book.proofs.groups.Groups.visit.Given as goal
 
 abbrev pub invariant-loop : goal.invariant-loop
 invariant-loop l = record {
-  groups : IsWaiterOf l.self l.waiter × StandsAsBefore l.fn.waiter l.waiter;
+  groups : IsWaiterOf l.self l.waiter × StandsSilent l.fn.waiter l.waiter;
   moved : l.waiter.moved ≡ l.fn.waiter.moved;
   tries : LosesGrants l.counter l.group l.most (steps_of l.fn.waiter) (steps_of l.waiter);
 }

@@ -16,7 +16,12 @@ loop-left-preserved c = let inv = c.loop-left.invariant in let e = c.visit-moved
     let count : ℕ = get_or c.loop-left.in_group c.loop-left.group 0 + c.visit-moved.result in record {
       groups = (
         e.groups.0,
-        (e.groups.1.0 ∙ inv.groups.1.0, e.groups.1.1 ∙ inv.groups.1.1, e.groups.1.2 ∙ inv.groups.1.2),
+        (
+          e.groups.1.0 ∙ inv.groups.1.0,
+          e.groups.1.1 ∙ inv.groups.1.1,
+          e.groups.1.2 ∙ inv.groups.1.2,
+          e.groups.1.3 ∙ inv.groups.1.3,
+        ),
       );
       few = (omega arith, omega arith, omega arith);
       moved = omega arith;

@@ -1,7 +1,7 @@
 -- The visits so far moved `nr - left` waiters, in cyclic order from the wake index, and as many in each group as its
 -- entry says; there are at most eight visits.
 use Rattle.std.proofs.Common.{length, get_or, sum, ◌≡◌, ℕ, ◌+◌, ◌-◌, ◌<◌, ◌≤◌}
-use Rattle.wake_book.specs.Groups.{IsWaiterOf, steps_of, StandsAsBefore}
+use Rattle.wake_book.specs.Groups.{IsWaiterOf, steps_of, StandsSilent}
 use Rattle.step_ledger.specs.History.{total}
 use Rattle.wake_book.specs.Grants.{granted_in}
 use Rattle.wake_book.proofs.Walking.{HasVisited}
@@ -9,7 +9,7 @@ use Rattle.wake_book.proofs.groups.Groups.walk.Given as goal
 
 abbrev pub invariant-loop-left : goal.invariant-loop-left
 invariant-loop-left l = record {
-  groups : IsWaiterOf l.self l.waiter × StandsAsBefore l.fn.waiter l.waiter;
+  groups : IsWaiterOf l.self l.waiter × StandsSilent l.fn.waiter l.waiter;
   few : (l.left ≤ l.nr) × (l.group < 8) × (l.visits ≤ 8);
   moved : l.waiter.moved + l.left ≡ l.fn.waiter.moved + l.nr;
   walk : HasVisited l.nr l.left l.group l.visits (steps_of l.fn.waiter) (steps_of l.waiter);
