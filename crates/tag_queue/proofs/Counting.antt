@@ -13,7 +13,7 @@ use Rattle.wake_book.specs.Waits.{active_at}
 use Rattle.tag_queue.specs.declared.agent.Agent.{Agent}
 use Rattle.tag_queue.specs.declared.queue.Queue.{Queue}
 use Rattle.tag_queue.specs.Agents.{SameCounts, waiter_of, book_steps, group_steps, batch_of, cap_of}
-use Rattle.tag_queue.specs.Clears.{Follows, FindsNoneActive, Charges, Counts}
+use Rattle.tag_queue.specs.Clears.{Follows, SightsAfter, FindsNoneActive, Charges, Counts}
 
 -- a charge that was not won is followed by no step
 pub follows_none : (batch : ℕ) (charge : Charge) (steps : List GroupStep) → ((start : ℕ) → charge ≡ Won start → ⊥)
@@ -23,18 +23,28 @@ follows_none batch Below steps h = (refl, refl)
 follows_none batch (Won start) steps h = absurd (h start refl)
 follows_none batch Busy steps h = (refl, refl)
 
+-- steps on the map alone, made before a look, leave it the first on the groups
+sights_after : {R : Type 0} (found : ℕ) (old mid new : Agent R) → SameCounts old mid → SightsAfter found mid new
+    → SightsAfter found old new
+sights_after found old mid new same s = record {
+  after_map = s.after_map;
+  first_step = s.first_step ∙ ap (λ (w : Waiter). Look active_at found ∷ groups.steps_of w) same.1;
+}
+
 module _ {R : Type 0} (queue : Queue R) (n : ℕ) where
   -- steps on the map alone, made before, change nothing about it
   pub counts_after : (old mid new : Agent R) (woken : ℕ) → SameCounts old mid → Counts queue n mid new woken
       → Counts queue n old new woken
   counts_after old mid new woken same c = record {
     counts = ⊎_elim (λ (f : FindsNoneActive mid new woken). inl (record {
+      sights = sights_after 0 old mid new same f.sights;
       teller = f.teller ∙ same.0;
       looks = f.looks ∙ ap (λ (w : Waiter). Look active_at 0 ∷ groups.steps_of w) same.1;
       none = f.none;
     })) (λ (f : Charges queue n mid new woken). inr (record {
       active = f.active;
       some = f.some;
+      sights = sights_after f.active old mid new same f.sights;
       charge = f.charge;
       lawful = subst (λ (t : Teller). IsCharge (cap_of queue) (batch_of queue) n (book.steps_of t)
           (book_steps new) f.charge) same.0 f.lawful;

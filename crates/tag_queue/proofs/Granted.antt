@@ -1,4 +1,5 @@
--- Whom the steps of an agent granted a wakeup: a look at the active count grants none, and neither do steps on the map.
+-- Whom the steps of an agent granted a wakeup, unrung: a look at the active count grants none, and neither do steps on the
+-- map.
 use Rattle.std.proofs.Common.{arith, ◌≡◌, ℕ, ◌∷◌, List, slice_index, refl, sym, ap, ◌∙◌, subst}
 use Rattle.std.proofs.lemmas.List.{get_or-replicate}
 use Rattle.step_ledger.specs.History.{total}
@@ -11,17 +12,16 @@ use Rattle.wake_book.specs.declared.steps.GroupStep.TheVariants.{Look}
 use Rattle.wake_book.specs.Book.{steps_of}
 use Rattle.wake_book.specs.Charging.{IsCharge}
 use Rattle.wake_book.specs.Grants.{AreGrantsOf, granted_in}
-use Rattle.wake_book.specs.Groups.{StandsAsBefore}
+use Rattle.wake_book.specs.Groups.{GrantsUnrung, RingsNobody, StandsAsBefore}
+use Rattle.wake_book.specs.Groups as groups
 use Rattle.wake_book.specs.Waits.{active_at, moved_by}
 use Rattle.tag_queue.specs.declared.agent.Agent.{Agent}
 use Rattle.tag_queue.specs.declared.queue.Queue.{Queue}
 use Rattle.tag_queue.specs.Agents.{SameCounts, teller_of, waiter_of, book_steps, group_steps, batch_of, cap_of}
 use Rattle.tag_queue.specs.Clears.{ChargesNow, Follows}
 
--- a look at the active count grants nobody a wakeup
-pub look_grants_none : (found : ℕ) (old new : List GroupStep) → new ≡ Look active_at found ∷ old
-    → AreGrantsOf NO_GRANTS old new
-look_grants_none found old new looked = let all = ap (total moved_by) looked in record {
+look_alone : (found : ℕ) (old new : List GroupStep) → new ≡ Look active_at found ∷ old → AreGrantsOf NO_GRANTS old new
+look_alone found old new looked = let all = ap (total moved_by) looked in record {
   each = λ group low. let none : slice_index NO_GRANTS.in_group group ≡ 0 = get_or-replicate 8 group 0 0 low in
       let same = ap (total (granted_in group)) looked in
       omega arith;
@@ -29,23 +29,41 @@ look_grants_none found old new looked = let all = ap (total moved_by) looked in 
   sum_is = refl;
 }
 
--- no steps grant nobody a wakeup
-pub none_granted : (steps : List GroupStep) → AreGrantsOf NO_GRANTS steps steps
-none_granted steps = record {
+no_step : (steps : List GroupStep) → AreGrantsOf NO_GRANTS steps steps
+no_step steps = record {
   each = λ group low. let none : slice_index NO_GRANTS.in_group group ≡ 0 = get_or-replicate 8 group 0 0 low in
       omega arith;
   all = omega arith;
   sum_is = refl;
 }
 
--- grants that were made after a moment are all since an earlier one, if nobody was granted a wakeup in between
-pub granted_since : (grants : Grants) (before old new : List GroupStep) → AreGrantsOf NO_GRANTS before old
+made_since : (grants : Grants) (before old new : List GroupStep) → AreGrantsOf NO_GRANTS before old
     → AreGrantsOf grants old new → AreGrantsOf grants before new
-granted_since grants before old new none made = let all = made.all in let still = none.all in record {
+made_since grants before old new none made = let all = made.all in let still = none.all in record {
   each = λ group low. let zero : slice_index NO_GRANTS.in_group group ≡ 0 = get_or-replicate 8 group 0 0 low in
       let same = none.each group low in let is = made.each group low in omega arith;
   all = omega arith;
   sum_is = made.sum_is;
+}
+
+-- a look at the active count grants nobody a wakeup
+pub look_grants_none : (found : ℕ) (old new : Waiter) → groups.steps_of new ≡ Look active_at found ∷ groups.steps_of old
+    → RingsNobody old new → GrantsUnrung NO_GRANTS old new
+look_grants_none found old new looked silent = record {
+  are = look_alone found (groups.steps_of old) (groups.steps_of new) looked;
+  silent = silent;
+}
+
+-- no steps grant nobody a wakeup
+pub none_granted : (waiter : Waiter) → GrantsUnrung NO_GRANTS waiter waiter
+none_granted waiter = record { are = no_step (groups.steps_of waiter); silent = refl }
+
+-- grants that were made after a moment are all since an earlier one, if nobody was granted a wakeup in between
+pub granted_since : (grants : Grants) (before old new : Waiter) → GrantsUnrung NO_GRANTS before old
+    → GrantsUnrung grants old new → GrantsUnrung grants before new
+granted_since grants before old new none made = record {
+  are = made_since grants (groups.steps_of before) (groups.steps_of old) (groups.steps_of new) none.are made.are;
+  silent = made.silent ∙ none.silent;
 }
 
 module _ {R : Type 0} where

@@ -8,14 +8,16 @@ use Rattle.tag_core.specs.declared.shape.Shape.{Shape}
 use Rattle.tag_search.specs.declared.hint.Hint.{Hint}
 use Rattle.tag_search.specs.Shared as search
 use Rattle.wake_book.specs.declared.groups.Waiter.{Waiter}
+use Rattle.wake_book.specs.declared.rings.Rung.TheVariants.{Nudged}
 use Rattle.wake_book.specs.declared.waiting.Left.{Left}
+use Rattle.wake_book.specs.declared.waiting.Left.TheVariants.{Woken, Unwoken}
 use Rattle.wake_book.specs.Groups as groups
-use Rattle.wake_book.specs.Groups.{LeavesAs}
+use Rattle.wake_book.specs.Groups.{LeavesAs, RingsNobody}
 use Rattle.wake_book.specs.Walks.{IsLeave}
 use Rattle.tag_queue.specs.declared.agent.Agent.{Agent}
 use Rattle.tag_queue.specs.Agents.{caller_of, teller_of, hint_of, standing_of}
 use Rattle.tag_queue.specs.Gets.{SearchesPlain}
-use Rattle.tag_queue.specs.Blocking.{GetsPlainAndLooks, AreRounds, IsStay, IsRound, WaitsFor, FindNone, BlockingGets}
+use Rattle.tag_queue.specs.Blocking.{GetsPlainAndLooks, PassesOn, AreRounds, IsStay, IsRound, WaitsFor, FindNone, BlockingGets}
 use Rattle.tag_queue.proofs.Looking.{searched_plain, counted_none, stood_still}
 
 -- a waiter that is in a group leaves that one
@@ -24,6 +26,13 @@ pub leaves_there : (group : ℕ) (old new : Waiter) (left : Left) → groups.sta
 leaves_there group old new left is leaves =
     subst (λ (g : ℕ). IsLeave g (groups.steps_of old) (groups.steps_of new) left)
     (same_Some leaves.0 group (sym leaves.1 ∙ is)) leaves.2
+
+-- a wakeup that is passed on after a time in which the waiter rang for nobody is the only ring since then
+pub passes_since : (answer : Option ℕ) (left : Left) (old mid new : Waiter) → RingsNobody old mid
+    → PassesOn answer left mid new → PassesOn answer left old new
+passes_since (Some tag) Woken old mid new silent passes = passes ∙ (λ j. (Nudged 1, (silent j).0))
+passes_since (Some tag) Unwoken old mid new silent passes = passes ∙ silent
+passes_since None left old mid new silent passes = passes ∙ silent
 
 module _ {R : Type 0} (l : Layout) where
   -- a search that found none leaves as much room

@@ -62,7 +62,7 @@ teller_of agent = agent.teller
 abbrev pub waiter_of : {R : Type 0} → Agent R → Waiter
 waiter_of agent = agent.waiter
 
--- the agent's latest look for sleepers after a get
+-- the agent's latest look for sleepers, after a get or in a clear
 abbrev pub sighting_of : {R : Type 0} → Agent R → Sighting (Caller R)
 sighting_of agent = agent.sighting
 

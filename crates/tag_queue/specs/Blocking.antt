@@ -7,8 +7,8 @@ use Rattle.wake_book.specs.declared.groups.Waiter.{Waiter}
 use Rattle.wake_book.specs.declared.rings.Rung.TheVariants.{Nudged}
 use Rattle.wake_book.specs.declared.steps.GroupStep.{GroupStep}
 use Rattle.wake_book.specs.declared.waiting.Left.{Left}
-use Rattle.wake_book.specs.declared.waiting.Left.TheVariants.{Woken}
-use Rattle.wake_book.specs.Groups.{wait_index_of, rung_of, announced_beside, announced_steps}
+use Rattle.wake_book.specs.declared.waiting.Left.TheVariants.{Woken, Unwoken}
+use Rattle.wake_book.specs.Groups.{wait_index_of, RingsNobody, RingsOnce, announced_beside, announced_steps}
 use Rattle.wake_book.specs.Walks.{IsLeave, IsSleep}
 use Rattle.tag_queue.specs.declared.agent.Agent.{Agent}
 use Rattle.tag_queue.specs.Agents.{caller_of, teller_of, waiter_of, hint_of, announcement_of, standing_of, group_steps}
@@ -30,10 +30,12 @@ abbrev pub AnnouncedAt : {R : Type 0} → Agent R → Agent R → Type 0
 AnnouncedAt moment agent = (announced_beside (announcement_of agent) ≡ caller_of moment)
     × (announced_steps (announcement_of agent) ≡ group_steps moment)
 
--- a waiter that has a tag, and used a grant although it needed none, rang one sleeper of every group
-abbrev pub PassesOn : Option ℕ → Left → Waiter → Type 0
-PassesOn (Some tag) Woken waiter = rung_of waiter ≡ Nudged 1
-PassesOn _ _ waiter = Unit {0}
+-- a waiter that has a tag, and used a grant although it needed none, rang one sleeper of every group once, and any other
+-- rang for nobody
+abbrev pub PassesOn : Option ℕ → Left → Waiter → Waiter → Type 0
+PassesOn (Some tag) Woken old new = RingsOnce (Nudged 1) old new
+PassesOn (Some tag) Unwoken old new = RingsNobody old new
+PassesOn None left old new = RingsNobody old new
 
 -- the agent entered the group of its wait index, searched, rested there as that search called for, left that group, and
 -- passed on a wakeup that it did not need; its list of group steps grew by nothing else
@@ -47,7 +49,7 @@ pub record IsStay {R : Type 0} (l : Layout) (group : ℕ) (answer : Option ℕ) 
   pub rests : Rests group answer (group_steps searched) rested
   pub announced : answer ≡ None → AnnouncedAt entered new
   pub leaves : IsLeave group rested (group_steps new) left
-  pub passes : PassesOn answer left (waiter_of new)
+  pub passes : PassesOn answer left (waiter_of searched) (waiter_of new)
   pub out : standing_of new ≡ None
   pub next : wait_index_of (waiter_of new) ≡ (group + 1) % 8
   pub same : SameTags searched new

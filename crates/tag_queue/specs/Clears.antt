@@ -11,14 +11,13 @@ use Rattle.wake_book.specs.declared.grants.TheConstants.{NO_GRANTS}
 use Rattle.wake_book.specs.declared.steps.GroupStep.{GroupStep}
 use Rattle.wake_book.specs.declared.steps.GroupStep.TheVariants.{Look}
 use Rattle.wake_book.specs.Charging.{IsCharge, count_steps}
-use Rattle.wake_book.specs.Grants.{AreGrantsOf}
-use Rattle.wake_book.specs.Groups.{StandsAsBefore}
+use Rattle.wake_book.specs.Groups.{StandsAsBefore, GrantsUnrung, sighted_beside, sighted_steps}
 use Rattle.wake_book.specs.Waits.{active_at}
 use Rattle.wake_book.specs.Walks.{IsWalk, walk_steps}
 use Rattle.tag_queue.specs.declared.agent.Agent.{Agent}
 use Rattle.tag_queue.specs.declared.queue.Queue.{Queue}
 use Rattle.tag_queue.specs.Holding.{HoldsLess}
-use Rattle.tag_queue.specs.Agents.{caller_of, teller_of, waiter_of, hint_of, book_steps, group_steps, batch_of, cap_of}
+use Rattle.tag_queue.specs.Agents.{caller_of, teller_of, waiter_of, hint_of, sighting_of, book_steps, group_steps, batch_of, cap_of}
 
 -- one put sets the tag aside, the agent no longer holds it, and the hint follows
 pub record Puts {R : Type 0} (l : Layout) (tag : ℕ) (old new : Agent R) : Type 0 where
@@ -34,9 +33,9 @@ Follows batch Below steps steps' woken = (steps' ≡ steps) × (woken ≡ 0)
 Follows batch (Won start) steps steps' woken = IsWalk batch steps steps' woken
 Follows batch Busy steps steps' woken = (steps' ≡ steps) × (woken ≡ 0)
 
--- the agent granted nobody a wakeup in between
+-- the agent granted nobody a wakeup in between, and rang for nobody
 abbrev pub GrantsNone : {R : Type 0} → Agent R → Agent R → Type 0
-GrantsNone old new = AreGrantsOf NO_GRANTS (group_steps old) (group_steps new)
+GrantsNone old new = GrantsUnrung NO_GRANTS (waiter_of old) (waiter_of new)
 
 -- the most steps of a charge: those of a count, and of the walk that follows
 abbrev pub charge_steps : ℕ
@@ -46,8 +45,15 @@ charge_steps = count_steps + walk_steps
 abbrev pub complete_steps : ℕ
 complete_steps = 1 + charge_steps
 
+-- the agent's first step on the groups was a look at the active count, which found this many, and came after all of the
+-- agent's steps on the map
+pub record SightsAfter {R : Type 0} (found : ℕ) (old new : Agent R) : Type 0 where
+  pub after_map : sighted_beside (sighting_of new) ≡ caller_of new
+  pub first_step : sighted_steps (sighting_of new) ≡ Look active_at found ∷ group_steps old
+
 -- no agent is found active, so nothing is counted and nobody is woken
 pub record FindsNoneActive {R : Type 0} (old new : Agent R) (woken : ℕ) : Type 0 where
+  pub sights : SightsAfter 0 old new
   pub teller : teller_of new ≡ teller_of old
   pub looks : group_steps new ≡ Look active_at 0 ∷ group_steps old
   pub none : woken ≡ 0
@@ -63,6 +69,7 @@ pub record ChargesNow {R : Type 0} (queue : Queue R) (n : ℕ) (old new : Agent 
 pub record Charges {R : Type 0} (queue : Queue R) (n : ℕ) (old new : Agent R) (woken : ℕ) : Type 0 where
   pub active : ℕ
   pub some : 1 ≤ active
+  pub sights : SightsAfter active old new
   pub charge : Charge
   pub lawful : IsCharge (cap_of queue) (batch_of queue) n (book_steps old) (book_steps new) charge
   pub follows : Follows (batch_of queue) charge (Look active_at active ∷ group_steps old) (group_steps new) woken

@@ -2,21 +2,22 @@
 use Rattle.std.specs.Prelude.{◌≡◌, ℕ, ◌≤◌, ◌∷◌, min}
 use Rattle.wake_book.specs.declared.rings.Rung.TheVariants.{Nudged}
 use Rattle.wake_book.specs.declared.steps.GroupStep.TheVariants.{Look}
-use Rattle.wake_book.specs.Groups.{StandsAsBefore, rung_of, sighted_beside, sighted_steps}
+use Rattle.wake_book.specs.Groups.{StandsAsBefore, RingsNobody, RingsOnce, sighted_beside, sighted_steps}
 use Rattle.wake_book.specs.Waits.{active_at}
 use Rattle.tag_search.specs.Freed.{left_free}
 use Rattle.tag_queue.specs.declared.agent.Agent.{Agent}
 use Rattle.tag_queue.specs.Agents.{caller_of, waiter_of, sighting_of, group_steps}
 use Rattle.tag_queue.specs.Waits.{SameTags}
 
--- the agent loaded the active count after all of its steps on the map, and rang as many sleepers of every group as that
--- load found active, but no more than were left
+-- the agent loaded the active count after all of its steps on the map, and rang once for as many sleepers of every group
+-- as that load found active, but no more than were left
 pub record LooksAndRings {R : Type 0} (left : ℕ) (old new : Agent R) : Type 0 where
   pub active : ℕ
   pub step : group_steps new ≡ Look active_at active ∷ group_steps old
   pub after_map : sighted_beside (sighting_of new) ≡ caller_of new
   pub last_step : sighted_steps (sighting_of new) ≡ group_steps new
-  pub rings : 1 ≤ active → rung_of (waiter_of new) ≡ Nudged (min active left)
+  pub rings : 1 ≤ active → RingsOnce (Nudged (min active left)) (waiter_of old) (waiter_of new)
+  pub silent : active ≡ 0 → RingsNobody (waiter_of old) (waiter_of new)
 
 -- an agent whose get left this many tags free looks for sleepers and rings them, and otherwise nothing changes
 pub record LooksAfter {R : Type 0} (left : ℕ) (old new : Agent R) : Type 0 where

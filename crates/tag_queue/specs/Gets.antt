@@ -1,5 +1,5 @@
 -- The effect of gets on the agent that makes them.
-use Rattle.std.specs.Prelude.{ℕ, ◌+◌, ◌*◌, ◌≤◌, List, Option}
+use Rattle.std.specs.Prelude.{ℕ, ◌+◌, ◌*◌, ◌≤◌, List, Option, IfNone}
 use Rattle.tag_layout.specs.Layout.{Layout, words, word_bits, word_of}
 use Rattle.tag_core.specs.declared.word_step.WordStep.{WordStep}
 use Rattle.tag_core.specs.declared.caller.Caller.{Caller}
@@ -13,6 +13,7 @@ use Rattle.tag_search.specs.Batch.{IsBatchGet}
 use Rattle.tag_search.specs.Alone.{IsAlone, Chooses, ChoosesRun}
 use Rattle.tag_search.specs.Hints.{reduced}
 use Rattle.tag_search.specs.Search.{Visit}
+use Rattle.tag_search.specs.Vain.{TriesAll, MaySleep}
 use Rattle.tag_search.specs.Visits.{plain_visits, shallow_visits}
 use Rattle.tag_search.specs.Follows.{HintFollows, BatchFollows}
 use Rattle.tag_queue.specs.declared.agent.Agent.{Agent}
@@ -32,10 +33,11 @@ abbrev pub SearchesPlain : {R : Type 0} → Layout → Option ℕ → Caller R �
 SearchesPlain l answer old new before after = Searches l (plain_visits l before.round_robin (reduced l.depth before.at))
     answer old new before after
 
--- a plain get
+-- a plain get; if it found no tag it tried each one, so the agent may sleep
 pub record GetsPlain {R : Type 0} (l : Layout) (answer : Option ℕ) (old new : Agent R) : Type 0 where
   pub searches : SearchesPlain l answer (caller_of old) (caller_of new) (hint_of old) (hint_of new)
   pub others : SameCounts old new
+  pub vain : IfNone answer (TriesAll l (hint_of old) → MaySleep (caller_of new))
 
 -- a shallow get of this depth
 pub record GetsShallow {R : Type 0} (l : Layout) (depth : ℕ) (answer : Option ℕ) (old new : Agent R) : Type 0 where

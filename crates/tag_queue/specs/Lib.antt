@@ -17,3 +17,4 @@ pub mod Resizing
 pub mod Placing
 pub mod Tallies
 pub mod Refusals
+pub mod Bell

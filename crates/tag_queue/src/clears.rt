@@ -1,12 +1,11 @@
 //! Clears: tags are given back, counted, and waiters granted a wakeup.
 ghost use Rattle.std.specs.Prelude.{◌≡◌, ◌+◌, ◌<◌, ◌≤◌, IfOk, OnOk, ⊤};
-ghost use Rattle.tag_queue.specs.Agents.{layout_of, IsAgentOf, Holds, step_count, caller_of, teller_of, waiter_of, hint_of, group_steps, SameCounts};
+ghost use Rattle.tag_queue.specs.Agents.{layout_of, IsAgentOf, Holds, step_count, caller_of, teller_of, waiter_of, hint_of, sighting_of, group_steps, SameCounts};
 ghost use Rattle.tag_queue.specs.Clears.{Puts, Counts, ChargesNow, GrantsNone, charge_steps, complete_steps};
 ghost use Rattle.tag_queue.specs.Tallies.{back_of};
 ghost use Rattle.tag_queue.specs.Waits.{SameTags};
 ghost use Rattle.wake_book.specs.Book.{counted_by};
-ghost use Rattle.wake_book.specs.Grants.{AreGrantsOf};
-ghost use Rattle.wake_book.specs.Groups.{StandsAsBefore};
+ghost use Rattle.wake_book.specs.Groups.{GrantsUnrung, StandsAsBefore};
 ghost use Rattle.refusals.specs.Refusals.{RefusesBy};
 ghost use Rattle.tag_queue.specs.Refusals.{tag_checks};
 
@@ -99,7 +98,8 @@ impl<R: Copy> Queue<R> {
         after_clear(&mut agent.hint, tag);
     }
 
-    /// Counts `n` tags given back if anybody is active, and grants up to a batch of wakeups if it charged one.
+    /// Counts `n` tags given back if anybody is active, and grants up to a batch of wakeups if it charged one. The look
+    /// is a sighting, so that a contract can say that it came after the tags were given back.
     #[inline]
     pub(crate) fn complete<W: Waking>(&self, agent: &mut Agent<R>, n: u32) -> W::Answer
         requires agent { IsAgentOf self.now agent.old }
@@ -111,7 +111,8 @@ impl<R: Copy> Queue<R> {
         ensures others { (caller_of agent.new ≡ caller_of agent.old) × (hint_of agent.new ≡ hint_of agent.old) }
         ensures bound { step_count agent.new ≤ complete_steps + step_count agent.old }
     {
-        let found = self.groups.active(&mut agent.waiter);
+        let (found, sighting) = self.groups.sight(&mut agent.waiter, &agent.caller);
+        agent.sighting = sighting;
         if found == 0 {
             return W::nobody();
         }
@@ -129,6 +130,7 @@ impl<R: Copy> Queue<R> {
         ensures charges { ChargesNow self.now n agent.old agent.new (W.woken result) }
         ensures tells { (before : Agent R) → GrantsNone before agent.old → W.tells result (waiter_of before) (waiter_of agent.new) }
         ensures others { (caller_of agent.new ≡ caller_of agent.old) × (hint_of agent.new ≡ hint_of agent.old) }
+        ensures sighted { sighting_of agent.new ≡ sighting_of agent.old }
         ensures bound { step_count agent.new ≤ charge_steps + step_count agent.old }
     {
         let grants = self.charge(agent, n);
@@ -143,8 +145,9 @@ impl<R: Copy> Queue<R> {
         requires came_back { counted_by (teller_of agent.old) + n ≤ back_of agent.old }
         ensures agent { IsAgentOf self.now agent.new }
         ensures charges { ChargesNow self.now n agent.old agent.new result.woken }
-        ensures grants { AreGrantsOf result (group_steps agent.old) (group_steps agent.new) }
+        ensures grants { GrantsUnrung result (waiter_of agent.old) (waiter_of agent.new) }
         ensures others { (caller_of agent.new ≡ caller_of agent.old) × (hint_of agent.new ≡ hint_of agent.old) }
+        ensures sighted { sighting_of agent.new ≡ sighting_of agent.old }
         ensures bound { step_count agent.new ≤ charge_steps + step_count agent.old }
     {
         match self.book.count(&mut agent.teller, n) {
@@ -160,13 +163,14 @@ impl<R: Copy> Queue<R> {
         requires agent { IsAgentOf self.now agent.old }
         ensures agent { IsAgentOf self.now agent.new }
         ensures woken { W.woken result ≡ grants.woken }
-        ensures tells { (before : Agent R) → AreGrantsOf grants (group_steps before) (group_steps agent.old)
+        ensures tells { (before : Agent R) → GrantsUnrung grants (waiter_of before) (waiter_of agent.old)
             → W.tells result (waiter_of before) (waiter_of agent.new) }
         ensures passes { W.passes grants (waiter_of agent.old) (waiter_of agent.new) }
         ensures none { grants.woken ≡ 0 → waiter_of agent.new ≡ waiter_of agent.old }
         ensures steps { group_steps agent.new ≡ group_steps agent.old }
         ensures stands { StandsAsBefore (waiter_of agent.old) (waiter_of agent.new) }
         ensures others { SameTags agent.old agent.new }
+        ensures sighted { sighting_of agent.new ≡ sighting_of agent.old }
     {
         W::tell(&self.groups, &mut agent.waiter, grants)
     }

@@ -3,6 +3,7 @@
 #![tactic(auto)]
 
 mod agent;
+mod bell;
 mod clears;
 mod fault;
 mod gather;
@@ -24,6 +25,7 @@ pub use gather::{QueueGatherFault, QueueTotals};
 pub use queue::{Options, Queue};
 pub use resizes::{ResizeCause, ResizeFault};
 pub use step_ledger::{GatherCause, Numbered};
+pub use tag_bell::{LISTENERS, SLEEPERS, Told};
 pub use tag_layout::{MAX_DEPTH, MAX_SHIFT};
 pub use tag_model::{MAX_CALLERS, MOST_WON};
 pub use tag_search::Found;

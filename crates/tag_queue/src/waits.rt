@@ -1,7 +1,7 @@
 //! Enters and leaves wait groups, and loads what they count.
 ghost use Rattle.std.specs.Prelude.{◌≡◌, ◌≤◌, ◌<◌, ◌∷◌, IfOk, IfSome, IfNone, IsSome, None};
 ghost use Rattle.wake_book.specs.Waits.{active_at, index_at};
-ghost use Rattle.wake_book.specs.Groups.{LeavesAs, IdlesOnce, StandsAsBefore, wait_index_of};
+ghost use Rattle.wake_book.specs.Groups.{LeavesAs, IdlesOnce, RingsNobody, StandsSilent, wait_index_of};
 ghost use Rattle.wake_book.specs.Book.{counted_by};
 ghost use Rattle.wake_book.specs.declared.steps.BookStep.TheVariants.{LookCompletions, LookWakeups};
 ghost use Rattle.wake_book.specs.declared.steps.GroupStep.TheVariants.{Look};
@@ -37,6 +37,7 @@ impl<R: Copy> Queue<R> {
         ensures agent { IsAgentOf self.now agent.new }
         ensures refusals { RefusesBy (wait_checks agent.old) (agent.new ≡ agent.old) result }
         ensures enters { IfOk result (λ group. Enters group agent.old agent.new) }
+        ensures silent { RingsNobody (waiter_of agent.old) (waiter_of agent.new) }
     {
         if Groups::standing(&agent.waiter).is_some() {
             return Err(QueueFault::Waiting);
@@ -91,7 +92,7 @@ impl<R: Copy> Queue<R> {
         ensures own { counted_by (teller_of agent.old) ≤ result.counted }
         ensures active { IsSome (standing_of agent.old) → 1 ≤ result.active }
         ensures same { (caller_of agent.new ≡ caller_of agent.old) × (hint_of agent.new ≡ hint_of agent.old)
-            × StandsAsBefore (waiter_of agent.old) (waiter_of agent.new) }
+            × StandsSilent (waiter_of agent.old) (waiter_of agent.new) }
     {
         let (counted, charged) = self.book.counts(&mut agent.teller);
         let index = self.groups.index(&mut agent.waiter);
@@ -113,7 +114,7 @@ impl<R: Copy> Queue<R> {
         ensures own { IsSome (standing_of agent.old) → 1 ≤ result }
         ensures counts { teller_of agent.new ≡ teller_of agent.old }
         ensures same { (caller_of agent.new ≡ caller_of agent.old) × (hint_of agent.new ≡ hint_of agent.old)
-            × StandsAsBefore (waiter_of agent.old) (waiter_of agent.new) }
+            × StandsSilent (waiter_of agent.old) (waiter_of agent.new) }
     {
         self.groups.active(&mut agent.waiter)
     }

@@ -1,6 +1,6 @@
 //! Blocking gets: an agent that finds no tag stays in a wait group until it is woken, and searches again.
 ghost use Rattle.std.specs.Prelude.{◌≡◌, ℕ, IfOk, Some, None};
-ghost use Rattle.wake_book.specs.Groups.{IsWaiterOf, IsKeyFor, StandsAsBefore, steps_of, wait_index_of};
+ghost use Rattle.wake_book.specs.Groups.{IsWaiterOf, IsKeyFor, StandsAsBefore, StandsSilent, steps_of, wait_index_of};
 ghost use Rattle.wake_book.specs.Groups.{announcement_of as announced};
 ghost use Rattle.tag_queue.specs.Agents.{layout_of, IsAgentOf, HasRoom, standing_of, waiter_of, group_steps, announcement_of};
 ghost use Rattle.tag_queue.specs.Waits.{SameTags};
@@ -80,7 +80,7 @@ impl<R: Copy> Queue<R> {
         ensures rests { (group : ℕ) → standing_of agent.old ≡ Some group
             → Rests group answer (group_steps agent.old) (group_steps agent.new) }
         ensures announced { answer ≡ None → announcement_of agent.new ≡ announced key.entry }
-        ensures same { SameTags agent.old agent.new × StandsAsBefore (waiter_of agent.old) (waiter_of agent.new) }
+        ensures same { SameTags agent.old agent.new × StandsSilent (waiter_of agent.old) (waiter_of agent.new) }
     {
         if answer.is_none() {
             agent.announcement = self.groups.sleep(rt, &mut agent.waiter, key);
@@ -93,7 +93,7 @@ impl<R: Copy> Queue<R> {
         requires groups { IsWaiterOf self.now.groups waiter.old }
         ensures groups { IsWaiterOf self.now.groups waiter.new × StandsAsBefore waiter.old waiter.new }
         ensures steps { steps_of waiter.new ≡ steps_of waiter.old }
-        ensures passes { PassesOn answer left waiter.new }
+        ensures passes { PassesOn answer left waiter.old waiter.new }
     {
         if answer.is_some() && left == Left::Woken {
             self.groups.nudge(waiter, 1);

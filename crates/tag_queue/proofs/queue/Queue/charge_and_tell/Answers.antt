@@ -1,11 +1,11 @@
 -- The grants of the charge are all that were made since the moment before, at which the answer looks.
-use Rattle.tag_queue.specs.Agents.{group_steps}
+use Rattle.tag_queue.specs.Agents.{waiter_of}
 use Rattle.tag_queue.proofs.Granted.{charges_told, granted_since}
 use Rattle.tag_queue.proofs.queue.Queue.charge_and_tell.Goals as goal
 
 pub returns-clause-tells : goal.returns-clause-tells
 returns-clause-tells g c = λ before none. c.tell.ensures.tells before (granted_since c.charge-grants.result
-    (group_steps before) (group_steps c.args.agent.now) (group_steps c.charge-grants.new.agent) none
+    (waiter_of before) (waiter_of c.args.agent.now) (waiter_of c.charge-grants.new.agent) none
     c.charge-grants.ensures.grants)
 
 pub returns-clause-charges : goal.returns-clause-charges

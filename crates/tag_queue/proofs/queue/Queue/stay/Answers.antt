@@ -5,7 +5,7 @@ use Rattle.wake_book.specs.declared.steps.GroupStep.TheVariants.{Enter, Raise}
 use Rattle.wake_book.specs.Groups.{steps_of, standing_of, wait_index_of, announced_beside, announced_steps}
 use Rattle.wake_book.specs.Walks.{IsLeave}
 use Rattle.tag_queue.proofs.Looking.{began, stood_still, indexed_alike}
-use Rattle.tag_queue.proofs.Rounds.{leaves_there}
+use Rattle.tag_queue.proofs.Rounds.{leaves_there, passes_since}
 use Rattle.tag_queue.specs.Agents.{layout_of}
 use Rattle.tag_queue.proofs.queue.Queue.stay.Goals as goal
 
@@ -41,7 +41,8 @@ returns-clause-stay g c =
       leaves = subst (λ (l : List GroupStep). IsLeave group (steps_of rested) l c.leave-left.result) (sym passed.steps)
           (leaves_there group rested c.leave-left.new.waiter c.leave-left.result (sleep.same.1.1 ∙ stands)
           c.leave-left.ensures.left);
-      passes = passed.passes;
+      passes = passes_since c.try_get-answer.result c.leave-left.result searched.waiter c.leave-left.new.waiter
+          c.pass_on.new.waiter (c.leave-left.ensures.silent ∙ sleep.same.1.3) passed.passes;
       out = passed.groups.1.1 ∙ c.leave-left.ensures.out.0;
       next = passed.groups.1.2 ∙ c.leave-left.ensures.out.1 ∙ sleep.same.1.2 ∙ indexed_alike (layout_of c.args.self.now) c.try_get-answer.result entered searched made ∙ enter.next;
       same = sleep.same.0;
