@@ -4,6 +4,7 @@ use mathlib.Core.Option.{some}
 use Rattle.refusals.specs.Refusals.{RefusesBy}
 use Rattle.wake_book.specs.declared.groups.Waiter.{Waiter}
 use Rattle.wake_book.specs.declared.waiting.Left.{Left}
+use Rattle.wake_book.specs.Groups.{RingsNobody}
 use Rattle.tag_search.specs.declared.found.Found.{Found}
 use Rattle.tag_queue.specs.Clears.{complete_steps}
 use Rattle.tag_queue.specs.Masks.{tags_in}
@@ -109,10 +110,11 @@ pub record DoesTake {R : Type 0} (tag : ℕ) (tags : Tags R) (result : Result �
   pub takes : OnOk result (Takes tag old new)
   pub refuses : IfErr result (λ fault. RefusesTake tag fault old new)
 
--- enters a wait group
+-- enters a wait group, and rings for nobody
 pub record DoesPrepare {R : Type 0} (result : Result ℕ TagFault) (old new : Hand R) : Type 0 where
   pub refusals : RefusesBy (wait_checks old) (new ≡ old) result
   pub enters : IfOk result (λ group. Enters group old new)
+  pub silent : RingsNobody (waiter_of old) (waiter_of new)
 
 -- leaves the wait group, or stays in it because the group changed meanwhile
 pub record DoesFinish {R : Type 0} (result : Result (Option Left) TagFault) (old new : Hand R) : Type 0 where

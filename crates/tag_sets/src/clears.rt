@@ -5,9 +5,9 @@ ghost use Rattle.tag_sets.specs.Hands.{reserved_of, IsHandOf, Holds, agent_of, w
 ghost use Rattle.tag_sets.specs.Clears.{Clears, Counts};
 ghost use Rattle.tag_sets.specs.Waits.{Stays};
 ghost use Rattle.tag_sets.specs.declared.kind.Kind.TheVariants.{Ordinary};
-ghost use Rattle.tag_queue.specs.Agents.{teller_of};
+ghost use Rattle.tag_queue.specs.Agents.{teller_of, sighting_of};
 ghost use Rattle.tag_queue.specs.Clears.{complete_steps};
-ghost use Rattle.wake_book.specs.Grants.{AreGrantsOf};
+ghost use Rattle.wake_book.specs.Groups.{GrantsUnrung};
 ghost use Rattle.tag_sets.specs.Calls.{DoesClear};
 
 use crate::fault::TagFault;
@@ -30,14 +30,12 @@ impl<R: Copy> Tags<R> {
         ensures hand { IsHandOf self.now hand.new }
         ensures does { DoesClear W.woken W.tells tag self.now result hand.old hand.new }
     {
-        let SetTag { kind, number } = SetTag::of(tag, self.reserved_count);
-        match kind {
-            Kind::Ordinary => Ok(self.ordinary.clear::<W>(&mut hand.ordinary, number)?),
-            Kind::Reserved => {
-                self.reserved.clear_uncounted(&mut hand.reserved, number)?;
-                Ok(W::nobody())
-            }
+        if tag < self.reserved_count {
+            self.reserved.clear_uncounted(&mut hand.reserved, tag)?;
+            return Ok(W::nobody());
         }
+        let number = tag - self.reserved_count;
+        Ok(self.ordinary.clear::<W>(&mut hand.ordinary, number)?)
     }
 
     /// Clears a tag that the hand holds, like `clear` but for the test.
@@ -70,12 +68,13 @@ impl<R: Copy> Tags<R> {
         requires hand { IsHandOf self.now hand.old }
         ensures hand { IsHandOf self.now hand.new }
         ensures woken { W.woken result ≡ grants.woken }
-        ensures tells { (before : Hand R) → AreGrantsOf grants (group_steps before) (group_steps hand.old)
+        ensures tells { (before : Hand R) → GrantsUnrung grants (waiter_of before) (waiter_of hand.old)
             → W.tells result (waiter_of before) (waiter_of hand.new) }
         ensures passes { W.passes grants (waiter_of hand.old) (waiter_of hand.new) }
         ensures none { grants.woken ≡ 0 → waiter_of hand.new ≡ waiter_of hand.old }
         ensures steps { group_steps hand.new ≡ group_steps hand.old }
         ensures counts { teller_of (agent_of hand.new Ordinary) ≡ teller_of (agent_of hand.old Ordinary) }
+        ensures sighted { sighting_of (agent_of hand.new Ordinary) ≡ sighting_of (agent_of hand.old Ordinary) }
         ensures same { Stays hand.old hand.new }
     {
         self.ordinary.tell::<W>(&mut hand.ordinary, grants)

@@ -2,6 +2,7 @@
 //! thread, as in Linux's `blk_mq_tags`.
 #![tactic(auto)]
 
+mod bell;
 mod buffers;
 mod clears;
 mod fault;
@@ -28,8 +29,8 @@ pub use resizes::TagsResizeFault;
 pub use shown::Shown;
 pub use step_ledger::{GatherCause, Numbered};
 pub use tag_queue::{
-    Found, MAX_BATCH, MAX_CALLERS, MAX_CAP, MAX_DEPTH, MAX_SHIFT, MOST_WON, Options, QueueTotals,
-    ResizeCause, Wakes,
+    Found, LISTENERS, MAX_BATCH, MAX_CALLERS, MAX_CAP, MAX_DEPTH, MAX_SHIFT, MOST_WON, Options,
+    QueueTotals, ResizeCause, SLEEPERS, Wakes,
 };
 pub use tags::Tags;
 pub use wake_book::{Count, Grants, Left, Report, Ring, Waking};

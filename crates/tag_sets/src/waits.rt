@@ -2,10 +2,11 @@
 ghost use Rattle.std.specs.Prelude.{◌≡◌, ◌≤◌, ◌<◌, ◌∷◌, IfOk, IsSome, None};
 ghost use Rattle.wake_book.specs.Waits.{active_at, index_at};
 ghost use Rattle.wake_book.specs.Book.{counted_by};
+ghost use Rattle.wake_book.specs.Groups.{RingsNobody};
 ghost use Rattle.wake_book.specs.declared.steps.BookStep.TheVariants.{LookCompletions, LookWakeups};
 ghost use Rattle.wake_book.specs.declared.steps.GroupStep.TheVariants.{Look};
 ghost use Rattle.tag_queue.specs.Agents.{teller_of};
-ghost use Rattle.tag_sets.specs.Hands.{IsHandOf, agent_of, standing_of, wait_index_of, book_steps, group_steps};
+ghost use Rattle.tag_sets.specs.Hands.{IsHandOf, agent_of, standing_of, wait_index_of, book_steps, group_steps, waiter_of};
 ghost use Rattle.tag_sets.specs.Waits.{Leaves, Stays};
 ghost use Rattle.tag_sets.specs.declared.kind.Kind.TheVariants.{Ordinary};
 ghost use Rattle.refusals.specs.Refusals.{RefusesBy};
@@ -77,6 +78,7 @@ impl<R: Copy> Tags<R> {
         ensures looks { group_steps hand.new ≡ Look active_at result ∷ group_steps hand.old }
         ensures own { IsSome (standing_of hand.old) → 1 ≤ result }
         ensures counts { teller_of (agent_of hand.new Ordinary) ≡ teller_of (agent_of hand.old Ordinary) }
+        ensures silent { RingsNobody (waiter_of hand.old) (waiter_of hand.new) }
         ensures same { Stays hand.old hand.new }
     {
         self.ordinary.active(&mut hand.ordinary)

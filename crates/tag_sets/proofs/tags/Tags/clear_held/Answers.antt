@@ -2,7 +2,7 @@
 use Rattle.std.proofs.Common.{refl}
 use Rattle.tag_queue.proofs.Granted.{none_granted}
 use Rattle.tag_sets.specs.declared.kind.Kind.TheVariants.{Ordinary, Reserved}
-use Rattle.tag_sets.specs.Hands.{group_steps, waiter_of}
+use Rattle.tag_sets.specs.Hands.{waiter_of}
 use Rattle.tag_sets.proofs.Passing.{placed, clears_at}
 use Rattle.tag_sets.proofs.tags.Tags.clear_held.Goals as goal
 
@@ -22,4 +22,4 @@ returns-in-Ok-clause-clears g c = let hand = c.args.hand.now in
 
 pub returns-in-Ok-clause-tells : goal.returns-in-Ok-clause-tells
 returns-in-Ok-clause-tells g c = let waiter = waiter_of c.args.hand.now in
-    c.nobody.ensures.tells waiter waiter (none_granted (group_steps c.args.hand.now))
+    c.nobody.ensures.tells waiter waiter (none_granted waiter)

@@ -7,5 +7,6 @@ pub returns-clause-does : goal.returns-clause-does
 returns-clause-does g c = record {
   enters = enters_of c.args.hand.now c.prepare_wait.new.agent c.in_ok-prepare_wait.field-0
       c.in_ok-prepare_wait.ensures.enters;
+  silent = c.prepare_wait.ensures.silent;
   refusals = search rules;
 }
