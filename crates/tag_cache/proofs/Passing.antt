@@ -3,8 +3,7 @@ use Rattle.std.proofs.Common.{◌≡◌, ℕ, Result, Ok, Err, OnOk, OnErr, refl
 use Rattle.tag_core.specs.declared.record.Record.{Record}
 use Rattle.wake_book.specs.declared.groups.Waiter.{Waiter}
 use Rattle.wake_book.specs.declared.grants.TheConstants.{NO_GRANTS}
-use Rattle.wake_book.specs.Grants.{AreGrantsOf}
-use Rattle.wake_book.specs.Groups.{steps_of}
+use Rattle.wake_book.specs.Groups.{GrantsUnrung}
 use Rattle.tag_queue.proofs.Granted.{none_granted}
 use Rattle.tag_queue.specs.declared.agent.Agent.{Agent}
 use Rattle.tag_queue.specs.Agents as queue
@@ -15,7 +14,7 @@ use Rattle.tag_sets.specs.declared.kind.Kind.{Kind}
 use Rattle.tag_sets.specs.declared.kind.Kind.TheVariants.{Ordinary, Reserved}
 use Rattle.tag_sets.specs.declared.tags.Tags.{Tags}
 use Rattle.tag_sets.specs.Sets.{kind_of}
-use Rattle.tag_sets.specs.Hands.{Changes, split_of, group_steps, waiter_of}
+use Rattle.tag_sets.specs.Hands.{Changes, split_of, waiter_of}
 use Rattle.tag_sets.specs.Slots.{Posts}
 use Rattle.tag_cache.specs.declared.cache.Cache.{Cache}
 use Rattle.tag_cache.specs.Caches.{IsLast, IsKnown, KeepsNone}
@@ -44,8 +43,8 @@ module _ {R : Type 0} where
 
   -- so it grants nobody a wakeup
   pub grants_none : (a b : Hand R) → waiter_of b ≡ waiter_of a → GrantsNone a b
-  grants_none a b same = subst (λ (w : Waiter). AreGrantsOf NO_GRANTS (group_steps a) (steps_of w)) (sym same)
-      (none_granted (group_steps a))
+  grants_none a b same = subst (λ (w : Waiter). GrantsUnrung NO_GRANTS (waiter_of a) w) (sym same)
+      (none_granted (waiter_of a))
 
   pub posts_moves : (tag : ℕ) (a b : Hand R) → Posts tag a b → Moves 0 0 a b
   posts_moves tag a b p = moves_in (kind_of (split_of a) tag) 0 0 _ a b (λ c d (x : queue_slots.Posts _ c d). record {

@@ -14,11 +14,11 @@ use Rattle.wake_book.specs.declared.steps.GroupStep.{GroupStep}
 use Rattle.wake_book.specs.declared.steps.GroupStep.TheVariants.{Look}
 use Rattle.wake_book.specs.Book as book
 use Rattle.wake_book.specs.Charging.{IsCharge}
-use Rattle.wake_book.specs.Groups.{StandsAsBefore}
+use Rattle.wake_book.specs.Groups.{StandsAsBefore, sighted_beside, sighted_steps}
 use Rattle.wake_book.specs.Waits.{active_at}
 use Rattle.tag_queue.specs.declared.agent.Agent.{Agent}
 use Rattle.tag_queue.specs.declared.queue.Queue.{Queue}
-use Rattle.tag_queue.specs.Agents.{caller_of, hint_of, teller_of, waiter_of, group_steps, batch_of, cap_of}
+use Rattle.tag_queue.specs.Agents.{caller_of, hint_of, teller_of, waiter_of, sighting_of, group_steps, batch_of, cap_of}
 use Rattle.tag_queue.specs.Batches as queue_batches
 use Rattle.tag_queue.specs.Clears as queue_clears
 use Rattle.tag_queue.specs.Waits as queue_waits
@@ -53,13 +53,21 @@ module _ {R : Type 0} (a b c : Agent R) (caller : caller_of c ≡ caller_of b) (
     hint = subst (λ (x : Hint). ClearFollows (slice_index list (length list - 1)) (hint_of a) x) (sym hint) g.hint;
   }
 
+  sights_still : sighting_of c ≡ sighting_of b → (found : ℕ) → queue_clears.SightsAfter found a b
+      → queue_clears.SightsAfter found a c
+  sights_still sighted found s = record {
+    after_map = ap sighted_beside sighted ∙ s.after_map ∙ sym caller;
+    first_step = ap sighted_steps sighted ∙ s.first_step;
+  }
+
   module _ (teller : teller_of c ≡ teller_of b) (steps : group_steps c ≡ group_steps b)
       (stands : StandsAsBefore (waiter_of b) (waiter_of c)) where
-    counts_still : (queue : Queue R) (n woken : ℕ) → queue_clears.Counts queue n a b woken
-        → queue_clears.Counts queue n a c woken
-    counts_still queue n woken k = record {
+    counts_still : sighting_of c ≡ sighting_of b → (queue : Queue R) (n woken : ℕ)
+        → queue_clears.Counts queue n a b woken → queue_clears.Counts queue n a c woken
+    counts_still sighted queue n woken k = record {
       counts = ⊎_elim
           (λ (f : queue_clears.FindsNoneActive a b woken). inl (record {
+            sights = sights_still sighted 0 f.sights;
             teller = teller ∙ f.teller;
             looks = steps ∙ f.looks;
             none = f.none;
@@ -67,6 +75,7 @@ module _ {R : Type 0} (a b c : Agent R) (caller : caller_of c ≡ caller_of b) (
           (λ (s : queue_clears.Charges queue n a b woken). inr (record {
             active = s.active;
             some = s.some;
+            sights = sights_still sighted s.active s.sights;
             charge = s.charge;
             lawful = subst (λ (t : Teller). IsCharge (cap_of queue) (batch_of queue) n (book.steps_of a.teller)
                 (book.steps_of t) s.charge) (sym teller) s.lawful;
@@ -124,7 +133,7 @@ module _ {R : Type 0} (tags : Tags R) (a b c : Hand R) (r : MakesNoStep b c) whe
   ordinary_counts : (n woken : ℕ) → hand_clears.Counts tags Ordinary n a b woken
       → hand_clears.Counts tags Ordinary n a c woken
   ordinary_counts n woken k = let s = r.stays.set.changed in
-      counts_still a.ordinary b.ordinary c.ordinary s.0 s.1 r.counts r.steps s.2 tags.ordinary n woken k
+      counts_still a.ordinary b.ordinary c.ordinary s.0 s.1 r.counts r.steps s.2 r.sighted tags.ordinary n woken k
 
   kind_counts : (kind : Kind) → kind ≡ Ordinary → (n woken : ℕ) → hand_clears.Counts tags kind n a b woken
       → hand_clears.Counts tags kind n a c woken

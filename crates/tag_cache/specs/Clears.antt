@@ -1,5 +1,6 @@
 -- The effect of clears on the cache that makes them.
 use Rattle.std.specs.Prelude.{◌≡◌, ◌⊎◌, ℕ, ◌+◌, ◌<◌, ◌≤◌, List, ◌∷◌, length}
+use Rattle.wake_book.specs.Groups.{RingsNobody}
 use Rattle.wake_book.specs.Waits.{active_at}
 use Rattle.wake_book.specs.declared.steps.GroupStep.TheVariants.{Look}
 use Rattle.tag_queue.specs.Agents.{teller_of}
@@ -15,10 +16,11 @@ use Rattle.tag_cache.specs.declared.cache.Cache.{Cache}
 use Rattle.tag_cache.specs.Caches.{KeepsNone, IsLast, HasNoPlace, CanBeKept, kept_tags, reused_of}
 use Rattle.tag_cache.specs.Changes.{SameTerms, KeepsSame, KeepsAlso, KeepsOnly}
 
--- the hand's only step was a look at the active count, which it found to be this
+-- the hand's only step was a look at the active count, which it found to be this, and it rang for nobody
 pub record LooksOnce {R : Type 0} (found : ℕ) (old new : Hand R) : Type 0 where
   pub looks : hands.group_steps new ≡ Look active_at found ∷ hands.group_steps old
   pub counts : teller_of (hands.agent_of new Ordinary) ≡ teller_of (hands.agent_of old Ordinary)
+  pub silent : RingsNobody (hands.waiter_of old) (hands.waiter_of new)
   pub stays : Stays old new
 
 -- the hand gave this tag back as by a clear, and woke that many waiters

@@ -1,19 +1,20 @@
 -- Grants that are passed on.
 use Rattle.std.specs.Prelude.{◌≡◌}
 use Rattle.wake_book.specs.declared.grants.TheConstants.{NO_GRANTS}
-use Rattle.wake_book.specs.Grants.{AreGrantsOf}
-use Rattle.tag_queue.specs.Agents.{teller_of}
+use Rattle.wake_book.specs.Groups.{GrantsUnrung}
+use Rattle.tag_queue.specs.Agents.{teller_of, sighting_of}
 use Rattle.tag_sets.specs.declared.hand.Hand.{Hand}
 use Rattle.tag_sets.specs.declared.kind.Kind.TheVariants.{Ordinary}
-use Rattle.tag_sets.specs.Hands.{agent_of, group_steps}
+use Rattle.tag_sets.specs.Hands.{agent_of, group_steps, waiter_of}
 use Rattle.tag_sets.specs.Waits.{Stays}
 
--- the hand granted nobody a wakeup in between
+-- the hand granted nobody a wakeup in between, and rang for nobody
 abbrev pub GrantsNone : {R : Type 0} → Hand R → Hand R → Type 0
-GrantsNone old new = AreGrantsOf NO_GRANTS (group_steps old) (group_steps new)
+GrantsNone old new = GrantsUnrung NO_GRANTS (waiter_of old) (waiter_of new)
 
 -- the hand made no step, but for what it rings for it is as before
 pub record MakesNoStep {R : Type 0} (old new : Hand R) : Type 0 where
   pub steps : group_steps new ≡ group_steps old
   pub counts : teller_of (agent_of new Ordinary) ≡ teller_of (agent_of old Ordinary)
+  pub sighted : sighting_of (agent_of new Ordinary) ≡ sighting_of (agent_of old Ordinary)
   pub stays : Stays old new

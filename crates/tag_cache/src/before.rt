@@ -1,7 +1,7 @@
 //! What becomes of the kept tags before others that are cleared together.
 ghost use Rattle.std.specs.Prelude.{◌≡◌, ◌≤◌, ◌↔◌, ℕ, IsTrue, IsFalse};
-ghost use Rattle.wake_book.specs.Grants.{AreGrantsOf};
-ghost use Rattle.tag_sets.specs.Hands.{group_steps};
+ghost use Rattle.wake_book.specs.Groups.{GrantsUnrung};
+ghost use Rattle.tag_sets.specs.Hands.{waiter_of};
 ghost use Rattle.tag_cache.specs.Windows.{IsIn};
 ghost use Rattle.tag_cache.specs.Batches.{GoesOn, CallsForKept, LeavesNone};
 ghost use Rattle.tag_cache.specs.Caches.{IsCacheOf, IsKnown, KeepsNone, hand_of, reused_of};
@@ -40,7 +40,7 @@ impl<R: Copy> Cache<R> {
         requires left { (other : ℕ) → IsIn self.old.first left other → IsKnown self.old other }
         ensures cache { IsCacheOf tags.now self.new }
         ensures gives { GivesKept tags.now result.woken self.old (hand_of self.old) (hand_of self.new) }
-        ensures grants { AreGrantsOf result (group_steps (hand_of self.old)) (group_steps (hand_of self.new)) }
+        ensures grants { GrantsUnrung result (waiter_of (hand_of self.old)) (waiter_of (hand_of self.new)) }
         ensures none { KeepsNone self.new }
         ensures terms { SameTerms self.old self.new }
         ensures reused { reused_of self.new ≡ reused_of self.old }

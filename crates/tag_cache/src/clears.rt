@@ -1,8 +1,8 @@
 //! Clears of one tag.
-ghost use Rattle.std.specs.Prelude.{◌≡◌, ◌⊎◌, ◌<◌, ◌≤◌, IfOk, OnOk};
-ghost use Rattle.wake_book.specs.Grants.{AreGrantsOf};
+ghost use Rattle.std.specs.Prelude.{◌≡◌, ◌⊎◌, ◌<◌, ◌≤◌, IfOk, OnOk, Ok};
+ghost use Rattle.wake_book.specs.Groups.{GrantsUnrung};
 ghost use Rattle.tag_sets.specs.declared.hand.Hand.{Hand};
-ghost use Rattle.tag_sets.specs.Hands.{group_steps, waiter_of};
+ghost use Rattle.tag_sets.specs.Hands.{waiter_of};
 ghost use Rattle.tag_cache.specs.Caches.{IsCacheOf, Holds, HasPlace, IsLast, IsKnown, IsWithin, IsFixed, KeepsNone, LeavesWindow, hand_of, split_of, reused_of};
 ghost use Rattle.tag_cache.specs.Changes.{IsUnchanged, KeepsSame, SameTerms, SameWindow, KnowsLess};
 ghost use Rattle.tag_cache.specs.Holding.{HoldsLess};
@@ -31,9 +31,20 @@ impl<R: Copy> Cache<R> {
         ensures does { DoesClear W.woken W.tells tag tags.now result self.old self.new }
     {
         if self.has_place(tag) {
-            return Ok(self.keep_or_give_back_all::<W>(tags, tag));
+            return Ok(self.clear_placed::<W>(tags, tag));
         }
         self.clear_and_tell::<W>(tags, tag)
+    }
+
+    /// Clears a tag that has a place (`has_place`), as `clear` does, which refuses none of these.
+    #[inline(always)]
+    pub fn clear_placed<W: Waking>(&mut self, tags: &Tags<R>, tag: u32) -> W::Answer
+        requires cache { IsCacheOf tags.now self.old }
+        requires place { HasPlace tag self.old }
+        ensures cache { IsCacheOf tags.now self.new }
+        ensures does { DoesClear W.woken W.tells tag tags.now (Ok result) self.old self.new }
+    {
+        self.keep_or_give_back_all::<W>(tags, tag)
     }
 
     /// Keeps a tag that has a place, or gives all back if somebody waits. Grants stay out of line, so that a clear needs
@@ -95,7 +106,7 @@ impl<R: Copy> Cache<R> {
         ensures less { OnOk result (HoldsLess (λ other. other ≡ tag) self.old self.new) }
         ensures way { IfOk result (λ grants. Goes tags.now tag grants.woken self.old self.new) }
         ensures grants { IfOk result (λ grants.
-            AreGrantsOf grants (group_steps (hand_of self.old)) (group_steps (hand_of self.new))) }
+            GrantsUnrung grants (waiter_of (hand_of self.old)) (waiter_of (hand_of self.new))) }
         ensures knows { LeavesWindow tag self.old → OnOk result (KnowsLess tag self.old self.new) }
         ensures tally { OnOk result (Tallies 0 1 self.old self.new) }
     {
@@ -112,7 +123,7 @@ impl<R: Copy> Cache<R> {
         ensures cache { IsCacheOf tags.now self.new }
         ensures refusals { RefusesBy (tag_checks tags.now self.old tag) (IsUnchanged self.old self.new) result }
         ensures way { IfOk result (λ grants. Goes tags.now tag grants.woken self.old self.new) }
-        ensures grants { IfOk result (λ grants. AreGrantsOf grants (group_steps (hand_of self.old)) (group_steps (hand_of self.new))) }
+        ensures grants { IfOk result (λ grants. GrantsUnrung grants (waiter_of (hand_of self.old)) (waiter_of (hand_of self.new))) }
         ensures knows { LeavesWindow tag self.old → OnOk result (KnowsLess tag self.old self.new) }
     {
         let kind = tags.find_held(&self.hand, tag)?;
@@ -133,7 +144,7 @@ impl<R: Copy> Cache<R> {
         requires ordinary { split_of self.old ≤ tag }
         ensures cache { IsCacheOf tags.now self.new }
         ensures way { GoesOrdinary tags.now tag result.woken self.old self.new }
-        ensures grants { AreGrantsOf result (group_steps (hand_of self.old)) (group_steps (hand_of self.new)) }
+        ensures grants { GrantsUnrung result (waiter_of (hand_of self.old)) (waiter_of (hand_of self.new)) }
         ensures knows { LeavesWindow tag self.old → KnowsLess tag self.old self.new }
     {
         self.follow(tag);
@@ -148,7 +159,7 @@ impl<R: Copy> Cache<R> {
         requires aimed { IsWithin self.old tag ⊎ IsFixed self.old }
         ensures cache { IsCacheOf tags.now self.new }
         ensures way { GoesOrdinary tags.now tag result.woken self.old self.new }
-        ensures grants { AreGrantsOf result (group_steps (hand_of self.old)) (group_steps (hand_of self.new)) }
+        ensures grants { GrantsUnrung result (waiter_of (hand_of self.old)) (waiter_of (hand_of self.new)) }
         ensures knows { LeavesWindow tag self.old → KnowsLess tag self.old self.new }
     {
         if tags.active(&mut self.hand) != 0 {
@@ -172,7 +183,7 @@ impl<R: Copy> Cache<R> {
         requires other { ¬ (IsLast tag self.old) }
         ensures cache { IsCacheOf tags.now self.new }
         ensures way { MakesRoom tags.now tag result.woken self.old self.new }
-        ensures grants { AreGrantsOf result (group_steps (hand_of self.old)) (group_steps (hand_of self.new)) }
+        ensures grants { GrantsUnrung result (waiter_of (hand_of self.old)) (waiter_of (hand_of self.new)) }
         ensures knows { LeavesWindow tag self.old → KnowsLess tag self.old self.new }
     {
         if !self.can_keep(tag) {
@@ -190,7 +201,7 @@ impl<R: Copy> Cache<R> {
         requires held { Holds self.old tag }
         ensures cache { IsCacheOf tags.now self.new }
         ensures gives { GivesWith tags.now tag result.woken self.old (hand_of self.old) (hand_of self.new) }
-        ensures grants { AreGrantsOf result (group_steps (hand_of self.old)) (group_steps (hand_of self.new)) }
+        ensures grants { GrantsUnrung result (waiter_of (hand_of self.old)) (waiter_of (hand_of self.new)) }
         ensures knows { KnowsLess tag self.old self.new }
         ensures none { KeepsNone self.new }
         ensures terms { SameTerms self.old self.new }
@@ -209,7 +220,7 @@ impl<R: Copy> Cache<R> {
         requires other { KeepsNone self.old ⊎ ¬ (IsLast tag self.old) }
         ensures cache { IsCacheOf tags.now self.new }
         ensures gives { GivesOne tags.now tag result.woken (hand_of self.old) (hand_of self.new) }
-        ensures grants { AreGrantsOf result (group_steps (hand_of self.old)) (group_steps (hand_of self.new)) }
+        ensures grants { GrantsUnrung result (waiter_of (hand_of self.old)) (waiter_of (hand_of self.new)) }
         ensures knows { KnowsLess tag self.old self.new }
         ensures kept { KeepsSame self.old self.new }
         ensures few { result.woken ≤ 8 }
@@ -226,7 +237,7 @@ impl<R: Copy> Cache<R> {
         requires unknown { ¬ (IsKnown self.old tag) }
         ensures cache { IsCacheOf tags.now self.new }
         ensures gives { GivesOne tags.now tag result.woken (hand_of self.old) (hand_of self.new) }
-        ensures grants { AreGrantsOf result (group_steps (hand_of self.old)) (group_steps (hand_of self.new)) }
+        ensures grants { GrantsUnrung result (waiter_of (hand_of self.old)) (waiter_of (hand_of self.new)) }
         ensures kept { KeepsSame self.old self.new }
         ensures window { SameWindow self.old self.new }
         ensures few { result.woken ≤ 8 }

@@ -1,7 +1,7 @@
 //! Kept tags are given back.
 ghost use Rattle.std.specs.Prelude.{◌≡◌, ◌≤◌};
-ghost use Rattle.wake_book.specs.Grants.{AreGrantsOf};
-ghost use Rattle.tag_sets.specs.Hands.{IsHandOf, waiter_of, group_steps};
+ghost use Rattle.wake_book.specs.Groups.{GrantsUnrung};
+ghost use Rattle.tag_sets.specs.Hands.{IsHandOf, waiter_of};
 ghost use Rattle.tag_cache.specs.Caches.{IsCacheOf, KeepsNone, hand_of, reused_of};
 ghost use Rattle.tag_cache.specs.Changes.{SameTerms};
 ghost use Rattle.tag_cache.specs.Holding.{IsLeftWith};
@@ -32,7 +32,7 @@ impl<R: Copy> Cache<R> {
         ensures cache { IsCacheOf tags.now self.new }
         ensures none { KeepsNone self.new }
         ensures gives { GivesKept tags.now result.woken self.old (hand_of self.old) (hand_of self.new) }
-        ensures grants { AreGrantsOf result (group_steps (hand_of self.old)) (group_steps (hand_of self.new)) }
+        ensures grants { GrantsUnrung result (waiter_of (hand_of self.old)) (waiter_of (hand_of self.new)) }
         ensures terms { SameTerms self.old self.new }
         ensures reused { reused_of self.new ≡ reused_of self.old }
         ensures window { (self.new.first ≡ self.old.first) × (self.new.known ≡ self.old.known) }

@@ -1,5 +1,5 @@
 //! Gets that look for no sleeper and return how many ordinary tags they left free.
-ghost use Rattle.std.specs.Prelude.{◌≡◌, ◌<◌, IfOk, None};
+ghost use Rattle.std.specs.Prelude.{◌≡◌, ◌<◌, IfOk, Ok, Some, None};
 ghost use Rattle.tag_sets.specs.Refusals as of_hand;
 ghost use Rattle.tag_sets.specs.Freed.{left_free};
 ghost use Rattle.tag_sets.specs.Gets as hands;
@@ -26,9 +26,20 @@ impl<R: Copy> Cache<R> {
             return self.win_freed(tags);
         }
         Ok(Found {
-            answer: Some(self.reuse()),
+            answer: Some(self.get_kept(tags)),
             left: 0,
         })
+    }
+
+    /// Returns the least kept tag, where one is kept (`keeps_none`): what `get_freed` does then. It leaves none free.
+    #[inline(always)]
+    pub fn get_kept(&mut self, tags: &Tags<R>) -> u32
+        requires cache { IsCacheOf tags.now self.old }
+        requires some { ¬ (KeepsNone self.old) }
+        ensures cache { IsCacheOf tags.now self.new }
+        ensures does { DoesGet tags.now (Ok (record { answer = Some result; left = 0 })) self.old self.new }
+    {
+        self.reuse()
     }
 
     /// Has the hand get a tag. It is out of line, so that a get is short where a tag is kept.

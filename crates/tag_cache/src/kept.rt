@@ -40,7 +40,7 @@ impl<R> Cache<R> {
 
     /// Returns whether no tag is kept.
     #[inline(always)]
-    pub(crate) fn keeps_none(&self) -> bool
+    pub fn keeps_none(&self) -> bool
         ensures { IsTrue result ↔ KeepsNone self.now }
     {
         self.kept == 0
@@ -119,7 +119,7 @@ impl<R> Cache<R> {
 
     /// Returns whether a clear keeps the tag if nobody waits: the user is known to hold it, and there is a place for it.
     #[inline(always)]
-    pub(crate) fn has_place(&self, tag: u32) -> bool
+    pub fn has_place(&self, tag: u32) -> bool
         ensures { IsTrue result ↔ HasPlace tag self.now }
     {
         if !self.knows(tag) {

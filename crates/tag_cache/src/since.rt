@@ -1,8 +1,7 @@
 //! Answers that cover a look before the call.
 ghost use Rattle.wake_book.specs.declared.grants.TheConstants.{NO_GRANTS};
 ghost use Rattle.wake_book.specs.declared.groups.Waiter.{Waiter};
-ghost use Rattle.wake_book.specs.Grants.{AreGrantsOf};
-ghost use Rattle.wake_book.specs.Groups.{steps_of};
+ghost use Rattle.wake_book.specs.Groups.{GrantsUnrung};
 
 use std::marker::PhantomData;
 use tag_sets::{Grants, Waking};
@@ -19,8 +18,7 @@ impl<W: Waking> Waking for Since<W> {
 
     ghost woken = { λ answer. W.woken answer };
 
-    ghost tells = { λ answer old new. (before : Waiter) → AreGrantsOf NO_GRANTS (steps_of before) (steps_of old)
-        → W.tells answer before new };
+    ghost tells = { λ answer old new. (before : Waiter) → GrantsUnrung NO_GRANTS before old → W.tells answer before new };
 
     ghost passes = { λ grants old new. W.passes grants old new };
 

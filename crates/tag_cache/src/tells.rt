@@ -1,8 +1,8 @@
 //! Grants are passed on, and sleepers looked for.
 ghost use Rattle.std.specs.Prelude.{◌≡◌, ◌≤◌};
-ghost use Rattle.wake_book.specs.Grants.{AreGrantsOf};
+ghost use Rattle.wake_book.specs.Groups.{GrantsUnrung};
 ghost use Rattle.tag_sets.specs.Freed as hands;
-ghost use Rattle.tag_sets.specs.Hands.{group_steps, waiter_of};
+ghost use Rattle.tag_sets.specs.Hands.{waiter_of};
 ghost use Rattle.tag_sets.specs.declared.hand.Hand.{Hand};
 ghost use Rattle.tag_cache.specs.Caches.{IsCacheOf, hand_of};
 ghost use Rattle.tag_cache.specs.Rings.{MakesNoStep};
@@ -20,7 +20,7 @@ impl<R: Copy> Cache<R> {
         ensures cache { IsCacheOf tags.now self.new }
         ensures woken { W.woken result ≡ grants.woken }
         ensures tells { (before : Hand R)
-            → AreGrantsOf grants (group_steps before) (group_steps (hand_of self.old))
+            → GrantsUnrung grants (waiter_of before) (waiter_of (hand_of self.old))
             → W.tells result (waiter_of before) (waiter_of (hand_of self.new)) }
         ensures passes { 1 ≤ grants.woken
             → W.passes grants (waiter_of (hand_of self.old)) (waiter_of (hand_of self.new)) }

@@ -1,7 +1,8 @@
 //! Waits for an ordinary tag. A thread that begins to wait keeps nothing.
 ghost use Rattle.std.specs.Prelude.{◌≡◌, IfOk, None};
 ghost use Rattle.tag_sets.specs.Refusals as of_hand;
-ghost use Rattle.tag_sets.specs.Hands.{standing_of, wait_index_of};
+ghost use Rattle.tag_sets.specs.Hands.{standing_of, wait_index_of, waiter_of};
+ghost use Rattle.wake_book.specs.Groups.{RingsNobody};
 ghost use Rattle.tag_sets.specs.Waits as hands;
 ghost use Rattle.tag_sets.specs.Waits.{Leaves};
 ghost use Rattle.tag_cache.specs.Caches.{IsCacheOf, hand_of};
@@ -37,6 +38,7 @@ impl<R: Copy> Cache<R> {
         requires out { standing_of (hand_of self.old) ≡ None }
         ensures cache { IsCacheOf tags.now self.new }
         ensures enters { hands.Enters result (hand_of self.old) (hand_of self.new) }
+        ensures silent { RingsNobody (waiter_of (hand_of self.old)) (waiter_of (hand_of self.new)) }
         ensures same { SameTags self.old self.new }
     {
         let Ok(group) = tags.prepare_wait(&mut self.hand) else {

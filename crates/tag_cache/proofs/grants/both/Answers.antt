@@ -33,10 +33,14 @@ loop-group-preserved c = let inv = c.loop-group.invariant in let k : ℕ = c.loo
 
 pub returns-clause-grants : goal.returns-clause-grants
 returns-clause-grants c = let inv = c.loop-group.invariant in let stop = c.loop-group-test.false in
-    let end : c.loop-group.group ≡ 8 = let few = inv.few in omega arith in λ old between new a b. record {
-      each = λ k low. let sooner = a.each k low in let later = b.each k low in
-          let is = inv.done k (omega arith) in omega arith;
-      all = let sooner = a.all in let later = b.all in omega arith;
-      sum_is = let sums = c.requires.sums in let is = inv.sum_is in
-          let whole = ap sum (take_all c.loop-group.group c.args.later.in_group (omega arith)) in omega arith;
+    let end : c.loop-group.group ≡ 8 = let few = inv.few in omega arith in λ old between new x y. let a = x.are in
+    let b = y.are in record {
+      are = record {
+        each = λ k low. let sooner = a.each k low in let later = b.each k low in
+            let is = inv.done k (omega arith) in omega arith;
+        all = let sooner = a.all in let later = b.all in omega arith;
+        sum_is = let sums = c.requires.sums in let is = inv.sum_is in
+            let whole = ap sum (take_all c.loop-group.group c.args.later.in_group (omega arith)) in omega arith;
+      };
+      silent = y.silent ∙ x.silent;
     }

@@ -1,6 +1,6 @@
 -- The kept tags go back, and then this one.
 use Rattle.std.proofs.Common.{◌∙◌, inl}
-use Rattle.tag_sets.specs.Hands.{group_steps}
+use Rattle.tag_sets.specs.Hands.{waiter_of}
 use Rattle.tag_cache.proofs.Giving.{flushed}
 use Rattle.tag_cache.proofs.Looking.{same_known, same_then_knows_less}
 use Rattle.tag_cache.proofs.cache.Cache.give_back_all.Goals as goal
@@ -15,8 +15,8 @@ give_back_alone-later-requires-clause-other g c = inl c.give_back_kept-sooner.en
 
 pub both-requires-clause-sums : goal.both-requires-clause-sums
 both-requires-clause-sums g c = (
-  c.give_back_kept-sooner.ensures.grants.sum_is,
-  c.give_back_alone-later.ensures.grants.sum_is,
+  c.give_back_kept-sooner.ensures.grants.are.sum_is,
+  c.give_back_alone-later.ensures.grants.are.sum_is,
 )
 
 pub returns-clause-gives : goal.returns-clause-gives
@@ -30,8 +30,8 @@ returns-clause-gives g c = record {
 }
 
 pub returns-clause-grants : goal.returns-clause-grants
-returns-clause-grants g c = c.both.ensures.grants (group_steps c.args.self.now.hand)
-    (group_steps c.give_back_kept-sooner.new.self.hand) (group_steps c.give_back_alone-later.new.self.hand)
+returns-clause-grants g c = c.both.ensures.grants (waiter_of c.args.self.now.hand)
+    (waiter_of c.give_back_kept-sooner.new.self.hand) (waiter_of c.give_back_alone-later.new.self.hand)
     c.give_back_kept-sooner.ensures.grants c.give_back_alone-later.ensures.grants
 
 pub returns-clause-none : goal.returns-clause-none

@@ -1,7 +1,7 @@
 -- The kept tags go first, and then the list; telling makes no step.
 use Rattle.std.proofs.Common.{◌∙◌, refl}
 use Rattle.tag_queue.proofs.Granted.{granted_since}
-use Rattle.tag_sets.specs.Hands.{group_steps}
+use Rattle.tag_sets.specs.Hands.{waiter_of}
 use Rattle.tag_cache.proofs.Carrying.{own_after, same_fields}
 use Rattle.tag_cache.proofs.Giving.{flushed, list_few}
 use Rattle.tag_cache.proofs.Listing.{all_still}
@@ -40,8 +40,8 @@ returns-clause-gives g c = let s = c.leave-sooner.ensures in let e = c.clear_bat
 
 pub returns-clause-tells : goal.returns-clause-tells
 returns-clause-tells g c = λ before none. c.tell.ensures.tells before (granted_since c.both.result _
-    (group_steps c.args.self.now.hand) _ none (c.both.ensures.grants (group_steps c.args.self.now.hand)
-    (group_steps c.leave-sooner.new.self.hand) (group_steps c.clear_batch_held-later.new.hand)
+    (waiter_of c.args.self.now.hand) _ none (c.both.ensures.grants (waiter_of c.args.self.now.hand)
+    (waiter_of c.leave-sooner.new.self.hand) (waiter_of c.clear_batch_held-later.new.hand)
     c.leave-sooner.ensures.grants c.clear_batch_held-later.ensures.tells))
 
 pub returns-clause-knows : goal.returns-clause-knows

@@ -2,7 +2,7 @@
 use Rattle.std.proofs.Common.{ℕ, ◌∙◌, refl}
 use Rattle.tag_queue.specs.Masks.{tags_in}
 use Rattle.tag_queue.proofs.Granted.{granted_since}
-use Rattle.tag_sets.specs.Hands.{group_steps}
+use Rattle.tag_sets.specs.Hands.{waiter_of}
 use Rattle.tag_cache.proofs.Carrying.{own_after, same_fields}
 use Rattle.tag_cache.proofs.Giving.{flushed, list_few, mask_gives}
 use Rattle.tag_cache.proofs.Listing.{all_still}
@@ -45,8 +45,8 @@ returns-clause-gives g c = let s = c.leave-sooner.ensures in let e = c.clear_mas
 
 pub returns-clause-tells : goal.returns-clause-tells
 returns-clause-tells g c = λ before none. c.tell.ensures.tells before (granted_since c.both.result _
-    (group_steps c.args.self.now.hand) _ none (c.both.ensures.grants (group_steps c.args.self.now.hand)
-    (group_steps c.leave-sooner.new.self.hand) (group_steps c.clear_mask_held-later.new.hand)
+    (waiter_of c.args.self.now.hand) _ none (c.both.ensures.grants (waiter_of c.args.self.now.hand)
+    (waiter_of c.leave-sooner.new.self.hand) (waiter_of c.clear_mask_held-later.new.hand)
     c.leave-sooner.ensures.grants c.clear_mask_held-later.ensures.tells))
 
 pub returns-clause-knows : goal.returns-clause-knows

@@ -2,7 +2,7 @@
 use Rattle.std.proofs.Common.{refl}
 use Rattle.tag_queue.specs.Masks.{tags_in}
 use Rattle.tag_queue.proofs.Granted.{look_grants_none}
-use Rattle.tag_sets.specs.Hands.{group_steps, waiter_of}
+use Rattle.tag_sets.specs.Hands.{waiter_of}
 use Rattle.tag_cache.proofs.Carrying.{own_after, same_fields}
 use Rattle.tag_cache.proofs.Giving.{mask_gives}
 use Rattle.tag_cache.proofs.Listing.{all_still, call_same, goes_after, goes_alone, left_still, learns_after, learns_alone, not_listed, on_same}
@@ -37,7 +37,7 @@ returns-then-goes_on g c = let old = c.args.self.now in let mid = c.goes_on.new.
       way = goes_alone c.args.tags.now list left.result old left.type_inv left.ensures _ mid _ on
           (mask_gives c.args.tags.now c.args.first c.args.mask c.ranges.mask.fits _ mid.hand c.clear_mask_held.new.hand
           e.gives e.back e.counts) (same_fields mid _ refl refl refl refl refl);
-      tells = e.tells (waiter_of old.hand) (look_grants_none 0 (group_steps old.hand) _ on.looked.looks);
+      tells = e.tells (waiter_of old.hand) (look_grants_none 0 (waiter_of old.hand) _ on.looked.looks on.looked.silent);
       knows = learns_alone list old mid left.result left.ensures on;
     }
 
@@ -58,6 +58,6 @@ returns g c = let old = c.args.self.now in let mid = c.goes_on.new.self in
     let call = c.goes_on.ensures.ends c.if-goes_on.false in let e = c.give_back_kept_and_mask.ensures in record {
       cache = e.cache;
       way = goes_after c.args.tags.now list left.result old left.type_inv left.ensures _ mid new call e.gives;
-      tells = e.tells old.hand (look_grants_none call.found (group_steps old.hand) _ call.looked.looks);
+      tells = e.tells old.hand (look_grants_none call.found (waiter_of old.hand) _ call.looked.looks call.looked.silent);
       knows = learns_after list old mid call.fields new e.knows;
     }

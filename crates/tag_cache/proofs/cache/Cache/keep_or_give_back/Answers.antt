@@ -1,7 +1,7 @@
 -- After the look at the active count the tag is kept or given back.
 use Rattle.std.proofs.Common.{arith, ◌≡◌, inl, inr, refl, sym, subst, ⊎_elim}
-use Rattle.wake_book.specs.Grants.{AreGrantsOf}
-use Rattle.tag_sets.specs.Hands.{group_steps}
+use Rattle.wake_book.specs.Groups.{GrantsUnrung}
+use Rattle.tag_sets.specs.Hands.{waiter_of}
 use Rattle.tag_cache.specs.declared.cache.Cache.{Cache}
 use Rattle.tag_cache.specs.Caches.{hand_of, IsLast, LeavesWindow}
 use Rattle.tag_cache.specs.Changes.{KnowsLess}
@@ -29,14 +29,20 @@ returns-then-active-ne0-clause-way g c = inr (inr (inr (inl (record {
   gives = goes_with_kept c.args.tags.now c.args.tag c.args.self.now _
       (record { first = refl; kept = refl; known = refl; most = refl; keeping = refl; reused = refl })
       c.active.result c.give_back_all.result.woken c.give_back_all.new.self
-      (record { looks = c.active.ensures.looks; counts = c.active.ensures.counts; stays = c.active.ensures.same })
+      (record {
+        looks = c.active.ensures.looks;
+        counts = c.active.ensures.counts;
+        silent = c.active.ensures.silent;
+        stays = c.active.ensures.same;
+      })
       c.give_back_all.ensures.gives c.give_back_all.ensures.none c.give_back_all.ensures.terms
       c.give_back_all.ensures.reused;
 }))))
 
 pub returns-then-active-ne0-clause-grants : goal.returns-then-active-ne0-clause-grants
 returns-then-active-ne0-clause-grants g c = after_look c.give_back_all.result c.active.result c.args.self.now.hand
-    c.active.new.hand c.give_back_all.new.self.hand c.active.ensures.looks c.give_back_all.ensures.grants
+    c.active.new.hand c.give_back_all.new.self.hand c.active.ensures.looks c.active.ensures.silent
+    c.give_back_all.ensures.grants
 
 pub returns-then-is_last-clause-way : goal.returns-then-is_last-clause-way
 returns-then-is_last-clause-way g c = let zero : c.active.result ≡ 0 = omega arith in inr (inr (inr (inr (record {
@@ -45,7 +51,12 @@ returns-then-is_last-clause-way g c = let zero : c.active.result ≡ 0 = omega a
       (record { first = refl; kept = refl; known = refl; most = refl; keeping = refl; reused = refl })
       0 c.give_back_all-then-is_last.result.woken c.give_back_all-then-is_last.new.self
       (found_none c.args.tags.now c.active.result c.args.self.now.hand c.active.new.hand zero
-      (record { looks = c.active.ensures.looks; counts = c.active.ensures.counts; stays = c.active.ensures.same }))
+      (record {
+        looks = c.active.ensures.looks;
+        counts = c.active.ensures.counts;
+        silent = c.active.ensures.silent;
+        stays = c.active.ensures.same;
+      }))
       c.give_back_all-then-is_last.ensures.gives c.give_back_all-then-is_last.ensures.none
       c.give_back_all-then-is_last.ensures.terms c.give_back_all-then-is_last.ensures.reused;
 }))))
@@ -53,14 +64,19 @@ returns-then-is_last-clause-way g c = let zero : c.active.result ≡ 0 = omega a
 pub returns-then-is_last-clause-grants : goal.returns-then-is_last-clause-grants
 returns-then-is_last-clause-grants g c = after_look c.give_back_all-then-is_last.result c.active.result
     c.args.self.now.hand c.active.new.hand c.give_back_all-then-is_last.new.self.hand c.active.ensures.looks
-    c.give_back_all-then-is_last.ensures.grants
+    c.active.ensures.silent c.give_back_all-then-is_last.ensures.grants
 
 pub returns-then-keep-clause-way : goal.returns-then-keep-clause-way
 returns-then-keep-clause-way g c = let zero : c.active.result ≡ 0 = omega arith in inl (kept_unseen c.args.tags.now
     c.args.tag c.args.self.now _
     (record { first = refl; kept = refl; known = refl; most = refl; keeping = refl; reused = refl })
     0 c.keep.new.self refl (found_none c.args.tags.now c.active.result c.args.self.now.hand c.active.new.hand zero
-    (record { looks = c.active.ensures.looks; counts = c.active.ensures.counts; stays = c.active.ensures.same }))
+    (record {
+      looks = c.active.ensures.looks;
+      counts = c.active.ensures.counts;
+      silent = c.active.ensures.silent;
+      stays = c.active.ensures.same;
+    }))
     c.if-keep.ensures.1 c.if-keep.ensures.2 c.if-keep.ensures.0)
 
 pub returns-clause-way : goal.returns-clause-way
@@ -69,14 +85,19 @@ returns-clause-way g c = let zero : c.active.result ≡ 0 = omega arith in inr (
     (record { first = refl; kept = refl; known = refl; most = refl; keeping = refl; reused = refl })
     c.make_room.result.woken c.keep.new.self c.make_room.new.self
     (found_none c.args.tags.now c.active.result c.args.self.now.hand c.active.new.hand zero
-    (record { looks = c.active.ensures.looks; counts = c.active.ensures.counts; stays = c.active.ensures.same }))
+    (record {
+      looks = c.active.ensures.looks;
+      counts = c.active.ensures.counts;
+      silent = c.active.ensures.silent;
+      stays = c.active.ensures.same;
+    }))
     c.if-keep.ensures.0 c.if-keep.ensures.1 c.make_room.ensures.way))
 
 pub returns-clause-grants : goal.returns-clause-grants
 returns-clause-grants g c = after_look c.make_room.result c.active.result c.args.self.now.hand c.active.new.hand
-    c.make_room.new.self.hand c.active.ensures.looks
-    (subst (λ (x : Cache g.row.R.Denot). AreGrantsOf c.make_room.result (group_steps (hand_of x))
-    (group_steps (hand_of c.make_room.new.self))) c.if-keep.ensures.0 c.make_room.ensures.grants)
+    c.make_room.new.self.hand c.active.ensures.looks c.active.ensures.silent
+    (subst (λ (x : Cache g.row.R.Denot). GrantsUnrung c.make_room.result (waiter_of (hand_of x))
+    (waiter_of (hand_of c.make_room.new.self))) c.if-keep.ensures.0 c.make_room.ensures.grants)
 
 pub make_room-requires-clause-other : goal.make_room-requires-clause-other
 make_room-requires-clause-other g c = λ last. not_true c.is_last.result (IsLast c.args.tag c.args.self.now)

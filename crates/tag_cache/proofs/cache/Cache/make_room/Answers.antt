@@ -1,8 +1,8 @@
 -- The kept tags go back, and the tag is kept where none is; or it goes back alone.
 use Rattle.std.proofs.Common.{arith, ◌≤◌, ◌∙◌, ℕ, inl, inr, sym, subst, ⊎_elim}
 use Rattle.tag_sets.specs.declared.hand.Hand.{Hand}
-use Rattle.tag_sets.specs.Hands.{group_steps}
-use Rattle.wake_book.specs.Grants.{AreGrantsOf}
+use Rattle.tag_sets.specs.Hands.{waiter_of}
+use Rattle.wake_book.specs.Groups.{GrantsUnrung}
 use Rattle.tag_cache.specs.Clears.{GivesKept}
 use Rattle.tag_cache.proofs.Cautious.{can_still, last_back, only_back}
 use Rattle.tag_cache.proofs.Giving.{flushed}
@@ -44,8 +44,8 @@ returns-clause-way g c = let e = c.give_back_kept-grants.ensures in let old = c.
 )
 
 pub returns-clause-grants : goal.returns-clause-grants
-returns-clause-grants g c = subst (λ (h : Hand g.row.R.Denot). AreGrantsOf c.give_back_kept-grants.result
-    (group_steps c.args.self.now.hand) (group_steps h)) (sym c.keep_first.ensures.hand)
+returns-clause-grants g c = subst (λ (h : Hand g.row.R.Denot). GrantsUnrung c.give_back_kept-grants.result
+    (waiter_of c.args.self.now.hand) (waiter_of h)) (sym c.keep_first.ensures.hand)
     c.give_back_kept-grants.ensures.grants
 
 pub returns-then-not-can_keep-clause-knows : goal.returns-then-not-can_keep-clause-knows

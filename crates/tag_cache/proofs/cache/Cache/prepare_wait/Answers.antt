@@ -30,7 +30,7 @@ returns-clause-does g c = record {
       });
   tells = let flush = c.flush-grants in c.tell.ensures.tells c.args.self.now.hand
       (then_enters flush.result c.enter-group.result c.args.self.now.hand flush.new.self.hand c.enter-group.new.self.hand
-      flush.ensures.does.tells c.enter-group.ensures.enters);
+      flush.ensures.does.tells c.enter-group.ensures.enters c.enter-group.ensures.silent);
   same = let flush = c.flush-grants in let entered = c.enter-group.new.self in
       same_then_same c.args.self.now entered c.tell.new.self (same_then_same c.args.self.now flush.new.self entered
       flush.ensures.does.same c.enter-group.ensures.same.held) c.tell.ensures.same.held;

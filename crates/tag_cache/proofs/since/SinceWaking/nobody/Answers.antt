@@ -1,9 +1,8 @@
 -- Nobody was granted a wakeup in between.
 use Rattle.wake_book.specs.declared.grants.TheConstants.{NO_GRANTS}
-use Rattle.wake_book.specs.Groups.{steps_of}
 use Rattle.tag_queue.proofs.Granted.{granted_since}
 use Rattle.tag_cache.proofs.since.SinceWaking.nobody.Goals as goal
 
 pub returns-clause-tells : goal.returns-clause-tells
 returns-clause-tells g c = λ old new none before still. c.nobody.ensures.tells before new
-    (granted_since NO_GRANTS (steps_of before) (steps_of old) (steps_of new) still none)
+    (granted_since NO_GRANTS before old new still none)

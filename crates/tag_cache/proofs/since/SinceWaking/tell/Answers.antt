@@ -1,8 +1,7 @@
 -- Nobody was granted a wakeup in between.
-use Rattle.wake_book.specs.Groups.{steps_of}
 use Rattle.tag_queue.proofs.Granted.{granted_since}
 use Rattle.tag_cache.proofs.since.SinceWaking.tell.Goals as goal
 
 pub returns-clause-tells : goal.returns-clause-tells
 returns-clause-tells g c = λ old made before still. c.tell.ensures.tells before
-    (granted_since c.args.grants (steps_of before) (steps_of old) (steps_of c.args.waiter.now) still made)
+    (granted_since c.args.grants before old c.args.waiter.now still made)
