@@ -6,8 +6,8 @@ use Rattle.wake_book.specs.declared.grants.Grants.{Grants}
 use Rattle.wake_book.specs.declared.grants.TheConstants.{NO_GRANTS}
 use Rattle.wake_book.specs.declared.groups.Waiter.{Waiter}
 use Rattle.wake_book.specs.declared.waiting.Left.{Left}
-use Rattle.wake_book.specs.Grants.{AreGrantsOf, WokenBy}
-use Rattle.wake_book.specs.Groups.{steps_of}
+use Rattle.wake_book.specs.Grants.{WokenBy}
+use Rattle.wake_book.specs.Groups.{GrantsUnrung, RingsNobody, steps_of}
 use Rattle.tag_search.specs.declared.found.Found.{Found}
 use Rattle.tag_sets.specs.declared.fault.TagFault.{TagFault}
 use Rattle.tag_sets.specs.declared.tags.Tags.{Tags}
@@ -56,13 +56,13 @@ abbrev pub Through : {A : Type 0} → (Tags ℕ → A → Holder → Holder → 
     → Type 0
 Through {A} does number code tags old new = (answer : A) × (code ≡ number answer) × does tags answer old new
 
--- the number says how many waiters the steps between two moments granted a wakeup
+-- the number says how many waiters the steps between two moments granted a wakeup, and none of them was rung for
 abbrev pub Counts : ℕ → Waiter → Waiter → Type 0
-Counts woken old new = WokenBy woken (steps_of old) (steps_of new)
+Counts woken old new = WokenBy woken (steps_of old) (steps_of new) × RingsNobody old new
 
--- these are the grants of the steps between two moments
+-- these are the grants of the steps between two moments, and none of them was rung for
 abbrev pub Grant : Grants → Waiter → Waiter → Type 0
-Grant grants old new = AreGrantsOf grants (steps_of old) (steps_of new)
+Grant grants old new = GrantsUnrung grants old new
 
 -- how many waiters were granted a wakeup, by their number itself
 abbrev pub itself : ℕ → ℕ

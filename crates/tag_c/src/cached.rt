@@ -20,7 +20,8 @@ pub struct CacheTerms {
 }
 
 /// A hand outside its cell, with its cache, and the pool that it belongs to. Its calls are out of line, so that those of a
-/// hand without a cache stay as short as if there were no other.
+/// hand without a cache stay as short as if there were no other, but for a get of a kept tag and a clear that keeps its
+/// tag, which are whole in line.
 #[derive(Drop)]
 pub struct CachedMember {
     pub shared: Arc<PoolState, Global>,

@@ -1,5 +1,5 @@
 //! Gives tags back, through the handle of a hand. Each call is described in tags.h.
-ghost use Rattle.tag_c.specs.Calls.{CallsBy, Through, DoesClear, DoesClearBatch};
+ghost use Rattle.tag_c.specs.Calls.{CacheCalls, CallsBy, Through, DoesClear, DoesClearBatch};
 ghost use Rattle.tag_c.specs.Codes.{code_of_count, code_of_grants};
 
 use crate::any_hand::{AnyHand, on_hand};
@@ -33,10 +33,24 @@ impl ClearCalls for Member {
     }
 }
 
-impl ClearCalls for CachedMember {
+impl CachedMember {
+    /// Gives a tag back, whatever becomes of it. It is out of line, and called last, so that a clear that keeps its tag
+    /// needs no memory and saves no registers.
     #[inline(never)]
-    fn clear(&mut self, tag: u32) -> i32 {
+    fn clear_any(&mut self, tag: u32) -> i32
+        ensures { CacheCalls (Through (DoesClear tag) code_of_count result) self.old self.new }
+    {
         count_code(self.cache.clear::<Count>(&self.shared.tags, tag))
+    }
+}
+
+impl ClearCalls for CachedMember {
+    #[inline(always)]
+    fn clear(&mut self, tag: u32) -> i32 {
+        if self.cache.has_place(tag) {
+            return count_code(Ok(self.cache.clear_placed::<Count>(&self.shared.tags, tag)));
+        }
+        self.clear_any(tag)
     }
 
     #[inline(never)]

@@ -68,9 +68,18 @@ pub(crate) fn count_code(answer: Result<u32, TagFault>) -> i32
     ensures { result ≡ code_of_count answer }
 {
     match answer {
-        Ok(count) => number_code(count),
+        Ok(0) => 0,
+        Ok(count) => woken_code(count),
         Err(fault) => fault_code(fault),
     }
+}
+
+/// Returns the count as `number_code` does. It is out of line: a clear seldom grants a wakeup.
+#[inline(never)]
+fn woken_code(count: u32) -> i32
+    ensures { result ≡ pos (min count MAX_DEPTH) }
+{
+    number_code(count)
 }
 
 /// Returns how many waiters were granted a wakeup, or the status of the error.

@@ -1,7 +1,7 @@
 //! Takes tags through the handle of a hand. Each call is described in tags.h.
 ghost use Rattle.std.specs.Prelude.{◌≡◌};
 ghost use Rattle.tag_c.specs.declared.status.Status.TheVariants.{BadHandle};
-ghost use Rattle.tag_c.specs.Calls.{CallsBy, Through, DoesGet, DoesGetReserved, DoesGetShallow, DoesGetBatch};
+ghost use Rattle.tag_c.specs.Calls.{CacheCalls, CallsBy, Through, DoesGet, DoesGetReserved, DoesGetShallow, DoesGetBatch};
 ghost use Rattle.tag_c.specs.Codes.{IsRefusal, code_of, code_of_get, code_of_found, code_of_found_batch};
 
 use crate::any_hand::{AnyHand, on_hand};
@@ -62,11 +62,27 @@ impl GetCalls for Member {
     }
 }
 
-impl GetCalls for CachedMember {
+impl CachedMember {
+    /// Takes a free ordinary tag, kept or not, and returns it. It is out of line, and called last, so that a get of a kept
+    /// tag needs no memory and saves no registers.
     #[inline(never)]
-    fn get(&mut self, left: &mut u64) -> i32 {
+    fn get_any(&mut self, left: &mut u64) -> i32
+        ensures { CacheCalls (Through (DoesGet left.new) code_of_found result) self.old self.new }
+    {
         let found = self.cache.get_freed(&self.shared.tags);
         get_code(tell_left(found, left))
+    }
+}
+
+impl GetCalls for CachedMember {
+    #[inline(always)]
+    fn get(&mut self, left: &mut u64) -> i32 {
+        if self.cache.keeps_none() {
+            return self.get_any(left);
+        }
+        *left = 0;
+        let tag = self.cache.get_kept(&self.shared.tags);
+        get_code(Ok(Some(tag)))
     }
 
     #[inline(never)]

@@ -1,8 +1,10 @@
--- An ordinary tag is below the total, so its number fits.
-use Rattle.tag_c.proofs.Runs.{each, ordinary_fits}
+-- A kept tag is ordinary, so it is below the total and its number fits.
+use Rattle.std.proofs.Common.{refl}
+use Rattle.std.specs.Prelude.{Ok, Some}
+use Rattle.tag_c.proofs.Runs.{ordinary_fits}
 use Rattle.tag_c.proofs.gets.CachedMemberGetCalls.get.Goals as goal
 
 pub get_code-requires : goal.get_code-requires
-get_code-requires c = let found = c.get_freed-found.result in
-    ordinary_fits c.deref.result.now found c.tell_left.ensures.answer
-    (each found (λ known gets. gets.ordinary) c.get_freed-found.ensures.does.gets)
+get_code-requires c = ordinary_fits c.deref.result.now
+    (Ok (record { answer = Some c.get_kept-tag.result; left = 0 })) refl
+    (λ tag. c.get_kept-tag.ensures.does.gets.ordinary tag)
