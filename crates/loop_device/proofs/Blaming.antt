@@ -1,5 +1,5 @@
 -- What a play reports where it fails.
-use Rattle.std.proofs.Common.{◌≡◌, ℕ, zero, suc, ◌<◌, false, List, [], ◌∷◌, Result, Ok, Err, IfOk, IfErr, OnOk, length, map, get_or, inr, refl, sym, subst, arith}
+use Rattle.std.proofs.Common.{◌≡◌, ◌≢◌, ℕ, zero, suc, ◌<◌, false, List, [], ◌∷◌, Result, Ok, Err, IfOk, IfErr, OnOk, length, map, get_or, inr, refl, sym, subst, arith}
 use Rattle.std.specs.List.{Contains}
 use Rattle.std.proofs.lemmas.List.Elements.{Contains-append_right}
 use Rattle.std.proofs.lemmas.List.{length-map}
@@ -59,6 +59,13 @@ pub names_lines : (ios : List Io) (done : List Done) (totals : Totals) (faults :
     → IfErr r (IsJudged ios done totals faults) → IfErr r (NamesLine ios)
 names_lines ios done totals faults (Ok report) is = tt
 names_lines ios done totals faults (Err fault) is = names_line ios done totals faults fault is
+
+-- what is judged after the play is never that the setup was refused
+pub no_setup : (ios : List Io) (done : List Done) (totals : Totals) (faults : Faults) (r : Result Report PlayFault)
+    → IfErr r (IsJudged ios done totals faults) → IfErr r (λ fault. fault ≢ Setup)
+no_setup ios done totals faults (Ok report) is = tt
+no_setup ios done totals faults (Err fault) is = λ (e : fault ≡ Setup).
+    subst (λ (f : PlayFault). IsJudged ios done totals faults f) e is
 
 -- what the threads did under tags that are gathered then is a run
 pub runs : (tags : Tags ℕ) (setup : Asked) (ios : List Io) (hands : List (Hand ℕ)) (faults : Faults)

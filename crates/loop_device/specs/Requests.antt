@@ -3,7 +3,8 @@ use Rattle.std.specs.Prelude.{◌≡◌, ◌≤◌, ◌<◌, ◌⊎◌, ℕ, Lis
 use mathlib.Core.Option.{some}
 use Rattle.tag_sets.specs.declared.hand.Hand.{Hand}
 use Rattle.tag_sets.specs.declared.tags.Tags.{Tags}
-use Rattle.tag_sets.specs.Hands.{total_of, slot_of}
+use Rattle.wake_book.specs.Groups.{RingsGranted}
+use Rattle.tag_sets.specs.Hands.{total_of, slot_of, waiter_of}
 use Rattle.tag_sets.specs.Slots.{Reads, Takes, Misses}
 use Rattle.tag_sets.specs.Clears.{Clears}
 use Rattle.loop_device.specs.declared.io.Io.{Io}
@@ -14,12 +15,13 @@ use Rattle.loop_device.specs.declared.fault.PlayFault.TheVariants.{Memory, Setup
 abbrev pub IsLineOf : List Io → ℕ → Type 0
 IsLineOf ios line = (io : Io) × Contains ios io × (io.line ≡ line)
 
--- the tag, held with this line in its slot, was read and cleared
+-- the tag, held with this line in its slot, was read and cleared, and whom the clear granted a wakeup was rung for
 pub record EndsRequest (tags : Tags ℕ) (tag line : ℕ) (old new : Hand ℕ) : Type 0 where
   pub read : Hand ℕ
   pub slot : slot_of old tag ≡ some line
   pub reads : Reads tag line old read
   pub clears : Clears tags tag read new
+  pub rings : RingsGranted (waiter_of read) (waiter_of new)
 
 -- the tag was found posted with this line in its slot, and was taken, read and cleared
 pub record Completes (tags : Tags ℕ) (tag line : ℕ) (old new : Hand ℕ) : Type 0 where

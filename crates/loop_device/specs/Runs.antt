@@ -2,13 +2,16 @@
 use Rattle.std.specs.Prelude.{◌≡◌, ℕ, ◌+◌, ◌-◌, nat_lt, true, false, List, [], ◌∷◌, length, map, fold, Option, Some, None, if◌then◌else◌}
 use Rattle.tag_layout.specs.Layout.{HasShift}
 use Rattle.tag_model.specs.declared.totals.Totals.{Totals}
+use Rattle.tag_model.specs.declared.world.TheConstants.{MOST_WON}
+use Rattle.wake_book.specs.declared.book_opening.TheConstants.{MAX_CAP}
 use Rattle.tag_queue.specs.declared.gather.QueueTotals.{QueueTotals}
+use Rattle.tag_queue.specs.declared.queue.Options.{Options}
 use Rattle.tag_sets.specs.declared.hand.Hand.{Hand}
 use Rattle.tag_sets.specs.declared.kind.Kind.TheVariants.{Ordinary, Reserved}
 use Rattle.tag_sets.specs.declared.tags.Tags.{Tags}
 use Rattle.tag_sets.specs.Gathering.{IsGathered}
 use Rattle.tag_sets.specs.Hands.{IsHandOf, total_of, reserved_of, layout_of}
-use Rattle.tag_sets.specs.Opening.{HoldsNone}
+use Rattle.tag_sets.specs.Opening.{HoldsNone, IsOpen}
 use Rattle.loop_device.specs.declared.device_queue.Worker.{Worker}
 use Rattle.loop_device.specs.declared.fault.PlayFault.{PlayFault}
 use Rattle.loop_device.specs.declared.fault.PlayFault.TheVariants.{Memory, Setup, Lost, Twice, Spurious}
@@ -25,8 +28,20 @@ use Rattle.loop_device.specs.Playing.{IsJudged}
 use Rattle.loop_device.specs.Submitting.{SubmitsShare}
 use Rattle.loop_device.specs.Working.{begins, ends, clean, added}
 
--- the tags are those that the setup asks for
+-- the options of the tags of a play: a hand for each thread, the shift of the setup, and otherwise the defaults
+abbrev pub options_for : Asked → Options
+options_for setup = record {
+  shift = setup.shift;
+  round_robin = false;
+  min_shallow = None;
+  callers = setup.submitters + setup.completers;
+  life = MOST_WON;
+  cap = MAX_CAP;
+}
+
+-- the tags are those that the setup asks for, and were opened with these options
 pub record AreTagsFor (setup : Asked) (tags : Tags ℕ) : Type 0 where
+  pub opened : (hands : List (Hand ℕ)) × IsOpen (options_for setup) tags hands
   pub total : total_of tags ≡ setup.total
   pub reserved : reserved_of tags ≡ setup.reserved
   pub ordinary_shift : HasShift (setup.total - setup.reserved) setup.shift (layout_of tags Ordinary).shift
