@@ -3,9 +3,12 @@ use crate::tests::allocator::TagAllocator;
 use crate::tests::answers::Answer;
 use crate::tests::calls::{Call, act};
 use crate::tests::jobs::everything::{do_everything, keep};
-use crate::tests::jobs::waits::{clear_for_a_waiter, wait_for_a_tag, wait_on_and_off};
+use crate::tests::jobs::waits::{
+    clear_for_a_waiter, clear_once, wait_for_a_tag, wait_for_one_clear, wait_on_and_off,
+};
 use crate::tests::tally::Tally;
 use std::sync::Wait;
+use std::sync::atomic::AtomicU64;
 use std::sync::atomic::Ordering::SeqCst;
 use std::thread;
 
@@ -30,6 +33,9 @@ pub(crate) enum Job {
     Meet(Call),
     /// One thread gets tag 0, and clears it once the other one waits for it.
     PassOn,
+    /// In each round one thread gets tag 0 and clears it, and the other makes a blocking get of it at about the same time.
+    /// Nobody else would wake a thread that sleeps although the tag is free.
+    OneClear,
 }
 
 /// A job, for how many workers, and how often each of them acts.
@@ -70,6 +76,8 @@ pub(crate) fn play<R: Wait, T: TagAllocator>(
         Job::Meet(call) => meet(rt, tags, caller, tally, call, plan),
         Job::PassOn if works => clear_for_a_waiter(rt, tags, caller, tally),
         Job::PassOn => wait_for_a_tag(rt, tags, caller, tally),
+        Job::OneClear if works => clear_once(rt, tags, caller, tally, plan.rounds),
+        Job::OneClear => wait_for_one_clear(rt, tags, caller, tally, plan.rounds),
     }
 }
 
@@ -172,7 +180,7 @@ fn meet<R: Wait, T: TagAllocator>(
         match act(rt, tags, caller, call) {
             Answer::Tag(tag) => {
                 tally.wins(tag);
-                wait_for_wins(rt, tally, wins);
+                wait_until(rt, &tally.won, wins);
                 tally.goes(tag);
                 tally.cleared(1, tags.clear(caller, tag));
             }
@@ -182,10 +190,10 @@ fn meet<R: Wait, T: TagAllocator>(
     tally.cleared(0, Ok(tags.flush(caller)));
 }
 
-/// Waits until this many tags were won.
-fn wait_for_wins<R: Wait>(rt: &R, tally: &Tally, wins: u64) {
+/// Waits until a count has come to this number.
+pub(crate) fn wait_until<R: Wait>(rt: &R, count: &AtomicU64, number: u64) {
     for _ in rt.forever() {
-        if tally.won.load(SeqCst) >= wins {
+        if count.load(SeqCst) >= number {
             break;
         }
         thread::yield_now();

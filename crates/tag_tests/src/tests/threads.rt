@@ -195,6 +195,19 @@ fn a_blocked_get_takes_the_tag_that_another_clears(rt: HostRuntime) -> Result<()
 }
 
 #[test]
+fn one_clear_is_enough_for_one_waiter(rt: HostRuntime) -> Result<(), Fail> {
+    let plan = Plan {
+        job: Job::OneClear,
+        workers: 1,
+        rounds: 10_000,
+    };
+    let (tally, sums) = played_on_queue(&rt, 1, 2, plan)?;
+    expect_balance(&rt, &tally, sums);
+    assert_eq!(rt; sums.tags, totals(20_000, 20_000, 0, 0));
+    Ok(())
+}
+
+#[test]
 fn two_agents_take_turns_at_one_tag(rt: HostRuntime) -> Result<(), Fail> {
     let (tally, sums) = played_on_queue(&rt, 1, 2, gets(Call::GetBlocking))?;
     expect_balance(&rt, &tally, sums);

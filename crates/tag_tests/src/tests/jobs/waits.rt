@@ -1,8 +1,14 @@
 //! Threads that wait, and one that wakes another.
 use crate::tests::allocator::TagAllocator;
+use crate::tests::jobs::wait_until;
 use crate::tests::tally::Tally;
 use std::sync::Wait;
+use std::sync::atomic::AtomicU64;
 use std::sync::atomic::Ordering::SeqCst;
+use std::thread;
+
+/// How often a thread yields before it takes another for asleep: some seconds.
+const PATIENCE: u32 = 1 << 24;
 
 /// Starts a wait and gives it up.
 pub(crate) fn wait_in_vain<R: Wait, T: TagAllocator>(
@@ -73,4 +79,67 @@ pub(crate) fn clear_for_a_waiter<R: Wait, T: TagAllocator>(
         }
     }
     tally.cleared(1, tags.clear(caller, 0));
+}
+
+/// Gets tag 0 in each round, and clears it a little later, before or after the other thread has begun to wait. A round in
+/// which the other thread doesn't come to the tag counts as wrong; a second clear then wakes it.
+pub(crate) fn clear_once<R: Wait, T: TagAllocator>(
+    rt: &R,
+    tags: &T,
+    caller: &mut T::Caller,
+    tally: &Tally,
+    rounds: u32,
+)
+    requires { T.is_own tags.now caller.old }
+    ensures { T.is_own tags.now caller.new }
+{
+    let mut wins = 0u64;
+    for round in 0..rounds {
+        wins = wins.wrapping_add(2);
+        tally.check(tags.get(caller) == Ok(Some(0)));
+        tally.wins(0);
+        for _ in 0..round % 512 {
+            tally.check(tally.won.load(SeqCst) < wins);
+        }
+        tally.goes(0);
+        tally.cleared(1, tags.clear(caller, 0));
+        if !comes_to(&tally.won, wins) {
+            tally.check(false);
+            tally.check(tags.get(caller) == Ok(Some(0)) && tags.clear(caller, 0).is_ok());
+        }
+        wait_until(rt, &tally.back, wins);
+    }
+}
+
+/// Waits for tag 0 in each round, once the other thread has it, and clears it.
+pub(crate) fn wait_for_one_clear<R: Wait, T: TagAllocator>(
+    rt: &R,
+    tags: &T,
+    caller: &mut T::Caller,
+    tally: &Tally,
+    rounds: u32,
+)
+    requires { T.is_own tags.now caller.old }
+    ensures { T.is_own tags.now caller.new }
+{
+    let mut wins = 1u64;
+    for _ in 0..rounds {
+        wait_until(rt, &tally.won, wins);
+        tally.check(tags.get_blocking(rt, caller) == Ok(0));
+        tally.wins(0);
+        tally.goes(0);
+        tally.cleared(1, tags.clear(caller, 0));
+        wins = wins.wrapping_add(2);
+    }
+}
+
+/// Waits until a count has come to this number, but not for ever.
+fn comes_to(count: &AtomicU64, number: u64) -> bool {
+    for _ in 0..PATIENCE {
+        if count.load(SeqCst) >= number {
+            return true;
+        }
+        thread::yield_now();
+    }
+    false
 }
