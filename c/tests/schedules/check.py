@@ -1,0 +1,190 @@
+#!/usr/bin/env python3
+"""check.py [SUITE..]: explores the C files of c/ under every schedule. It prints a line for each scenario, after the schedule of a
+fault, and a last line that counts them. The suites, of which the first three are what it explores if none is named:
+
+small    every schedule of each small scenario, over the model of the library
+races    the same, with each access to memory as a step, for all but the largest: looks for data races
+true     over the library itself, as assembly for x86-64: the scenarios that are small enough, with the calls that the model lacks, and C++
+large    four threads completely, few preemptions of larger scenarios, and schedules at random: seven minutes
+mutants  plants errors, one at a time, and looks whether they are found: three minutes. `mutants NAME..` plants these
+gate     what the merge gate runs: small, races, a part of true, and an error of each kind: two minutes
+
+The minutes are of one processor, and it takes up to 2 GB. --seed N makes other schedules at random. It takes gcc, g++ and binutils, on x86-64 Linux.
+"""
+import pathlib
+import re
+import subprocess
+import sys
+import tempfile
+
+import build
+import mutants
+
+# These take long with each access as a step.
+TOO_LARGE_FOR_RACES = "three_of_two hider_two mixed_of_two loops_of_two loops_three stop_taken four_stopped shallow_pairs resized".split()
+# These take seconds over the library itself, with those that need it.
+SMALL_FOR_TRUE = """again signals heir words prepared stop stop_listeners stop_timed stop_joins loop loops hider hider_loop hidden timed resizes closes
+    resizes_reported closes_reported hires hires_timed hires_stop drains drains_kept drains_stop""".split()
+# Of those that need it, these have races looked for as well.
+RACES_FOR_TRUE = "posts reserved robin batches resizes hires drains_stop plus_owners plus_joins plus_stop plus_waits plus_loop plus_quits".split()
+TRUE_IN_GATE = "stop hidden loops posts reserved robin batches resizes resizes_reported hires drains_stop plus_owners plus_joins plus_stop".split()
+# Large, but complete. The others are too large for that, and one of them for two preemptions.
+COMPLETE = "kept_three four_sleepers four_loops".split()
+ONE_PREEMPTION = ["four_ways"]
+# One for each kind of fault that is looked for.
+IN_GATE = """clear_looks_first futex_is_not_woken get_looks_only_if_it_won take_out_forgets_the_last turn_is_lost load_is_relaxed
+    state_is_stored_plainly eventfd_is_written_without_the_lock ring_changes_errno join_without_the_handle leave_loses_its_place
+    refused_sleeper_stays_in_its_group stop_does_not_refuse place_is_given_up_after_the_leave cancelled_sleeper_stays_listed
+    ring_gives_no_kept_tags_back leave_opens_no_gate ring_opens_no_gate cancelled_wait_stays_at_its_gate destroyed_coroutine_leaves_its_hand_listed""".split()
+# Instructions for ARM by which threads meet: those that are weaker than sequentially consistent, and the others.
+WEAKER = re.compile(r"^\s+(ldap\w*|ldx\w*|stx\w*|(cas|swp|ld(add|clr|set|eor|[su]max|[su]min))(?!p?al)\w*|st(add|clr|set|eor)\w*)\s", re.M)
+ORDERED = re.compile(r"^\s+(ldar|stlr|ldaxr|stlxr)\w*\s", re.M)
+SUITES = ["small", "races", "true", "large", "mutants", "gate"]
+LINE = re.compile(r"(\d+) states +(\d+) steps +(\d+) ends")
+
+
+class Check:
+    """The explorers that were built, and what they came to."""
+
+    def __init__(self, made, seed):
+        self.made, self.seed = pathlib.Path(made), seed
+        self.counts = {"scenarios": 0, "with races": 0, "with few preemptions": 0, "at random": 0, "states": 0}
+        self.planted = self.found = self.failed = 0
+        self.fixed = {}
+
+    def explorer(self, kind):
+        program = self.made / kind
+        if not program.exists():
+            build.build(program, kind, fixed=self.common(kind))
+        return program
+
+    def common(self, kind):
+        if kind not in self.fixed:
+            self.fixed[kind] = self.made / f"fixed_{kind}"
+            self.fixed[kind].mkdir()
+            build.make_fixed(self.fixed[kind], kind)
+        return self.fixed[kind]
+
+    def scenarios(self, kind, option="--list"):
+        listed = subprocess.run([self.explorer(kind), option], capture_output=True, text=True, check=True).stdout
+        return [line.split()[0] for line in listed.splitlines()]
+
+    def explore(self, kind, name, *options):
+        """A scenario that is not explored to its end has failed."""
+        ran = subprocess.run([self.explorer(kind), *options, name], capture_output=True, text=True, check=False)
+        line = LINE.search(ran.stdout)
+        is_well = ran.returncode == 0 and line is not None
+        self.failed += not is_well
+        kinds = {"--random": "at random", "--preempt": "with few preemptions", "--races": "with races"}
+        what = next((kinds[it] for it in options if it in kinds), "scenarios")
+        self.counts[what] += 1
+        self.counts["states"] += int(line[1]) if line else 0
+        print(f"{'ok    ' if is_well else 'FAILED'} {kind:5s} {ran.stdout.rstrip()} {ran.stderr.strip()}".rstrip(), flush=True)
+
+    def plant(self, mutant):
+        """Whether a planted error is found, or makes the program crash."""
+        try:
+            program = mutants.make(mutant, self.made, self.common(mutant.kind))
+        except (build.Failed, mutants.Stale) as why:
+            print(f"FAILED {mutant.name}: {why}", flush=True)
+            self.failed += 1
+            return
+        ran = subprocess.run([program, "--quiet", *mutant.options], capture_output=True, text=True, check=False)
+        is_found = ran.returncode == 1 or ran.returncode < 0
+        line = LINE.search(ran.stdout)
+        told = f"{line[1]} states, {line[3]} schedules: {ran.stdout.split('  ')[-1].strip()}" if line else f"status {ran.returncode}"
+        print(f"{'ok    ' if is_found else 'MISSED'} {mutant.name}: {' '.join(mutant.options)}: {told}", flush=True)
+        program.unlink()
+        self.planted, self.found = self.planted + 1, self.found + is_found
+        self.failed += not is_found
+
+    def check_orders(self):
+        """No step of the library is weaker than sequentially consistent, for ARM."""
+        text = (build.C / "generated" / "tag_c-aarch64.s").read_text(encoding="utf-8")
+        weaker, ordered = WEAKER.findall(text), ORDERED.findall(text)
+        is_well = bool(ordered) and not weaker
+        print(f"{'ok    ' if is_well else 'FAILED'} ARM: {len(ordered)} sequentially consistent instructions, {len(weaker)} weaker ones", flush=True)
+        self.failed += not is_well
+
+    def told(self):
+        counts = ", ".join(f"{count:,} {what}" for what, count in self.counts.items() if count)
+        if self.planted:
+            counts += f"{', ' if counts else ''}{self.found} of {self.planted} planted errors found"
+        return f"{counts}; {self.failed} failed"
+
+
+def small(check):
+    for name in check.scenarios(build.MODEL):
+        check.explore(build.MODEL, name)
+
+
+def races(check):
+    for name in check.scenarios(build.MODEL):
+        if name not in TOO_LARGE_FOR_RACES:
+            check.explore(build.MODEL, name, "--races")
+
+
+def true(check, some=None):
+    check.check_orders()
+    in_model = check.scenarios(build.MODEL)
+    lacking = [it for it in check.scenarios(build.TRUE) if it not in in_model]
+    for name in some or [*SMALL_FOR_TRUE, *lacking]:
+        check.explore(build.TRUE, name)
+    for name in some or RACES_FOR_TRUE:
+        if name in RACES_FOR_TRUE:
+            check.explore(build.TRUE, name, "--races")
+
+
+def large(check):
+    for name in COMPLETE:
+        check.explore(build.MODEL, name, "--states", "80000000")
+    for name in check.scenarios(build.MODEL, "--list-large"):
+        if name not in COMPLETE:
+            check.explore(build.MODEL, name, "--preempt", "1" if name in ONE_PREEMPTION else "2", "--rounds", "1")
+            check.explore(build.MODEL, name, "--random", "100000", "--seed", check.seed)
+            check.explore(build.TRUE, name, "--random", "10000", "--seed", check.seed)
+
+
+def planted(check, names=()):
+    for mutant in mutants.read(names):
+        check.plant(mutant)
+
+
+def gate(check):
+    small(check)
+    races(check)
+    true(check, TRUE_IN_GATE)
+    planted(check, IN_GATE)
+
+
+def read_arguments(words):
+    """The suites, the mutants that are named, and the seed."""
+    seed = "0"
+    if words[:1] == ["--seed"] and len(words) > 1:
+        seed, words = words[1], words[2:]
+    names = words[1:] if words[:1] == ["mutants"] else []
+    suites = words[:1] if names else words or ["small", "races", "true"]
+    if not seed.isdigit() or set(suites) - set(SUITES):
+        sys.exit(__doc__)
+    return suites, names, seed
+
+
+def main():
+    suites, names, seed = read_arguments(sys.argv[1:])
+    with tempfile.TemporaryDirectory() as made:
+        check = Check(made, seed)
+        try:
+            for suite in suites:
+                if suite == "mutants":
+                    planted(check, names)
+                else:
+                    {"small": small, "races": races, "true": true, "large": large, "gate": gate}[suite](check)
+        except (build.Failed, mutants.Stale) as why:
+            print(f"FAILED {why}")
+            check.failed += 1
+        print(f"schedules: {check.told()}")
+    return 1 if check.failed else 0
+
+
+if __name__ == "__main__":
+    sys.exit(main())

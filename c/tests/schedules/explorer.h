@@ -1,0 +1,145 @@
+/*
+ * The explorer: it runs the threads of a scenario as coroutines, one step at a time, and tries
+ * every order of their steps. README.md says how. This is what its parts share: the engine, the
+ * kernel as the explored code sees it, the model of the library, and the scenarios.
+ */
+#ifndef EXPLORER_H
+#define EXPLORER_H
+
+#include <stdbool.h>
+#include <stddef.h>
+#include <stdint.h>
+
+#ifdef __cplusplus
+extern "C" {
+#endif
+
+#ifndef STACK_SIZE
+#define STACK_SIZE 8192
+#endif
+
+enum { MAX_THREADS = 4, HEAP_SIZE = 131072, MAX_EVENTS = 8, MAX_TAGS = 64 };
+
+/* What a thread is about to do when it has stopped. */
+enum kind {
+	OP_LOAD, /* atomic, as the next two */
+	OP_STORE,
+	OP_CHANGE, /* read and write in one step */
+	OP_READ, /* not atomic; only with --races */
+	OP_WRITE,
+	OP_LOCK,
+	OP_FUTEX_WAIT,
+	OP_ASLEEP,
+	OP_FUTEX_WAKE,
+	OP_EVENT_WRITE,
+	OP_EVENT_CLOSE,
+	OP_POLL,
+	OP_JOIN, /* waits for the end of another thread */
+	OP_LIBRARY, /* a step of the library, or of its model */
+	OP_LOCAL, /* a choice that no other thread can see */
+};
+
+/* How a step goes on. Numbers below these are the alternatives of a choice. */
+enum { ALT_CANCEL = 10, ALT_TIMEOUT, ALT_SIGNAL, ALT_SPURIOUS };
+
+struct cleanup {
+	void (*routine)(void *argument);
+	void *argument;
+	struct cleanup *previous;
+};
+
+struct thread {
+	/* where its registers are, on its stack */
+	void *sp;
+	/* of the step that comes next: what it touches, and the code that makes it */
+	uintptr_t address;
+	uintptr_t pc;
+	struct cleanup *cleanups;
+	/* its errno */
+	int error;
+	uint8_t size;
+	uint8_t kind;
+	/* the alternatives of the step, and the one that was chosen */
+	uint8_t choices;
+	uint8_t chosen;
+	bool is_done;
+	bool is_woken;
+	/* whether a cancel acts at once: the cancellation type */
+	bool is_async;
+	bool may_be_cancelled;
+	bool was_cancelled;
+	/* its sleep may time out, and its deadline has passed */
+	bool has_limit;
+	bool is_late;
+	/* has just got a lock, and makes the next step at once */
+	bool runs_on;
+	/* sleeps that may still end for no reason */
+	uint8_t signals;
+};
+
+struct event {
+	uint32_t count;
+	bool is_open;
+};
+
+/* What the scenario keeps about itself, and so is part of a state. */
+struct notes {
+	/* 1 + the thread that holds it, by tag */
+	uint8_t holder[MAX_TAGS];
+	/* the tag that one thread hands over to another */
+	uint32_t handed;
+	/* of each place's wait: bell_rules.c */
+	uint64_t turn[2 * MAX_THREADS];
+	/* the places that were listed when the thread last looked after a clear, and still wait */
+	uint64_t listed[MAX_THREADS];
+	/* it is in a clear */
+	bool clears[MAX_THREADS];
+	/* the threads that have begun to drain it, and have not ended that unless they were cancelled */
+	uint32_t drains;
+	/* a thread has closed the pool */
+	bool is_closed;
+};
+
+struct world {
+	struct thread thread[MAX_THREADS];
+	struct event event[MAX_EVENTS];
+	struct notes notes;
+	uint32_t threads;
+	uint32_t heap_used;
+	/* with a limit of preemptions alone: the thread that ran last, and how many there were */
+	uint8_t last;
+	uint8_t preempted;
+};
+
+extern struct world *const world;
+/* the thread that runs, or -1 outside of all */
+extern int current;
+extern bool finds_races;
+
+/* Stops before a step, and returns the alternative that was chosen. */
+int pause_before(enum kind kind, const volatile void *address, size_t size, int choices, void *pc);
+/* A choice of the scenario: 0 to n - 1. */
+int choose(int n);
+/* Reports a fault of what is explored. It does not return to a thread. */
+void fault(const char *format, ...) __attribute__((format(printf, 1, 2)));
+/* Tells what the step did, if the schedule is printed. */
+void tell_step(const char *format, ...) __attribute__((format(printf, 1, 2)));
+/* Ends the thread that runs. */
+void end_thread(void) __attribute__((noreturn));
+
+/* The memory of what is explored. It is never used again once it is freed. */
+void *take_memory(size_t size);
+void give_memory(void *start);
+void *renew_memory(void *start, size_t size);
+bool is_in_heap(const volatile void *address);
+bool is_freed(const volatile void *address);
+/* How many allocations were not freed. */
+uint32_t count_allocations(void);
+
+#define PC __builtin_return_address(0)
+
+#ifdef __cplusplus
+}
+#endif
+
+#endif

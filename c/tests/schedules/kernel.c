@@ -1,0 +1,169 @@
+/*
+ * The C library as the explored code sees it: cancels, mutexes, clocks, and memory. Each call that
+ * another thread can see stops before it acts, so that the explorer may let another thread go
+ * first. names.txt says which call each function takes the place of.
+ */
+#include "kernel.h"
+
+#include "scenario.h"
+
+#include <string.h>
+
+static int own_errno;
+
+static struct thread *self(void)
+{
+	return &world->thread[current];
+}
+
+int *kernel_errno(void)
+{
+	return current < 0 ? &own_errno : &self()->error;
+}
+
+/*
+ * Memory
+ */
+
+void *kernel_calloc(size_t count, size_t size)
+{
+	return take_memory(count * size);
+}
+
+void *kernel_realloc(void *start, size_t size)
+{
+	return renew_memory(start, size);
+}
+
+/*
+ * Cancels
+ */
+
+/* The thread's handlers run, the latest first, on its own stack, and then it ends. */
+void cancel_thread(void)
+{
+	struct thread *me = self();
+
+	tell_step("is cancelled");
+	me->is_async = false;
+	me->may_be_cancelled = false;
+	me->was_cancelled = true;
+	while (me->cleanups) {
+		struct cleanup *last = me->cleanups;
+
+		me->cleanups = last->previous;
+		last->routine(last->argument);
+	}
+	end_thread();
+}
+
+static void may_be_cancelled_here(void *pc)
+{
+	if (self()->is_async && self()->may_be_cancelled &&
+	    pause_before(OP_LOCAL, NULL, 0, 1, pc) == ALT_CANCEL)
+		cancel_thread();
+}
+
+int kernel_setcanceltype(int type, int *former)
+{
+	if (current < 0) {
+		*former = PTHREAD_CANCEL_DEFERRED;
+		return 0;
+	}
+	may_be_cancelled_here(PC);
+	*former = self()->is_async ? PTHREAD_CANCEL_ASYNCHRONOUS : PTHREAD_CANCEL_DEFERRED;
+	self()->is_async = type == PTHREAD_CANCEL_ASYNCHRONOUS;
+	may_be_cancelled_here(PC);
+	return 0;
+}
+
+void kernel_push_cleanup(struct cleanup *cleanup)
+{
+	if (current < 0)
+		return;
+	cleanup->previous = self()->cleanups;
+	self()->cleanups = cleanup;
+}
+
+void kernel_pop_cleanup(struct cleanup *cleanup, int runs)
+{
+	if (current < 0)
+		return;
+	self()->cleanups = cleanup->previous;
+	if (runs)
+		cleanup->routine(cleanup->argument);
+}
+
+/*
+ * Mutexes. The first word is 0, or 1 + the thread that has it, or DESTROYED.
+ *
+ * An unlock is no stop: whatever another thread does between the last step of a section and its
+ * unlock it could do after the unlock, as it can't have the lock. So too a lock is one step with
+ * the first one after it.
+ */
+enum { DESTROYED = 99 };
+
+static int *owner_of(pthread_mutex_t *mutex)
+{
+	return (int *)(void *)mutex;
+}
+
+int kernel_mutex_init(pthread_mutex_t *mutex, const pthread_mutexattr_t *attributes)
+{
+	(void)attributes;
+	memset(mutex, 0, sizeof(*mutex));
+	return 0;
+}
+
+int kernel_mutex_destroy(pthread_mutex_t *mutex)
+{
+	if (is_freed(mutex) || *owner_of(mutex) != 0)
+		fault("a mutex is destroyed that somebody has");
+	*owner_of(mutex) = DESTROYED;
+	return 0;
+}
+
+int kernel_mutex_lock(pthread_mutex_t *mutex)
+{
+	if (current < 0)
+		return 0;
+	if (*owner_of(mutex) == current + 1)
+		fault("a thread locks what it has locked");
+	if (is_freed(mutex) || *owner_of(mutex) == DESTROYED)
+		fault("a thread locks a mutex that is no more");
+	pause_before(OP_LOCK, mutex, sizeof(*mutex), 1, PC);
+	*owner_of(mutex) = current + 1;
+	self()->runs_on = !finds_races;
+	tell_step("locks %s", name_of((uintptr_t)mutex));
+	return 0;
+}
+
+int kernel_mutex_unlock(pthread_mutex_t *mutex)
+{
+	if (current < 0)
+		return 0;
+	if (*owner_of(mutex) != current + 1)
+		fault("a thread unlocks what it has not locked");
+	*owner_of(mutex) = 0;
+	self()->runs_on = false;
+	tell_step("unlocks %s", name_of((uintptr_t)mutex));
+	return 0;
+}
+
+/*
+ * Clocks. The deadline of each thread is 100 s and 500 ns, and it may have passed at any call.
+ */
+int kernel_clock_gettime(clockid_t clock, struct timespec *now)
+{
+	const struct timespec times[] = { { 100, 499 }, { 100, 500 }, { 101, 0 } };
+	int at = 1;
+
+	(void)clock;
+	if (current >= 0 && !self()->is_late) {
+		at = pause_before(OP_LOCAL, NULL, 0, 3, PC);
+		self()->is_late = at > 0;
+		tell_step(at ? "the deadline has passed" : "the deadline has not passed");
+	}
+	*now = times[at];
+	return 0;
+}

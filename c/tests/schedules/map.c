@@ -1,0 +1,620 @@
+/*
+ * A model of the proved library: the calls that c/tags.h declares, with the library's atomic steps
+ * where another thread can see them. docs/DESIGN.md and the crates tag_core, tag_search, wake_book
+ * and tag_cache say what they are.
+ *
+ *  a get    passes over its first word, which is any, as with any hint, and as long as it finds
+ *           nothing sweeps that word and passes again, up to four times; then it visits the other
+ *           words once each. A pass is a load, and a claim for each clear bit until one is won. A
+ *           sweep is a load of the cleared set, a swap of it, and a subtraction from the word
+ *  a clear  sets the tag aside in one step, and loads the number of active waiters
+ *  prepare  raises that number, and enters a group: here one step
+ *  finish   leaves the group and lowers the number: one step, or TAGS_AGAIN
+ *  a cache  a clear loads the number of active waiters first, and keeps the tag if it is 0
+ *
+ * Left out: slots, posts, reserved tags, round robin, grants (each clear answers 0), the limits of a
+ * hand's life. Reports through a hand. Joins, reports, resizes and closes are not atomic: each checks that it has the pool's
+ * handle for itself, as the library needs.
+ */
+#define TAGS_LIBRARY
+#include "tags.h"
+
+#include "programs.h"
+#include "scenario.h"
+
+#include <string.h>
+
+enum { WORDS = 4, HANDS = MAX_THREADS + 1 };
+
+struct member {
+	struct map *map;
+	/* by tag; kept ones are not held */
+	uint64_t held;
+	uint64_t kept;
+	/* what its latest sweep freed */
+	uint64_t swept;
+	uint32_t number;
+	bool is_out;
+	bool is_in_group;
+	/* a finish of this stay answered TAGS_AGAIN */
+	bool was_refused;
+	bool is_spent;
+};
+
+struct map {
+	uint64_t word[WORDS];
+	uint64_t aside[WORDS];
+	uint32_t active;
+	bool is_one_per_word;
+	uint32_t depth, words, width;
+	uint32_t cache;
+	bool keeps_while_holding;
+	/* the handle is in use */
+	bool is_in_call;
+	uint32_t hands;
+	uint64_t got, back;
+	struct member member[HANDS];
+};
+
+static void stop(const volatile void *address, const char *what)
+{
+	pause_before(OP_LIBRARY, address, sizeof(uint64_t), 1, PC);
+	tell_step("map: %s", what);
+}
+
+static struct map *map_of(const struct tags_pool *pool)
+{
+	return pool->object;
+}
+
+static struct member *member_of(const struct tags_hand *hand)
+{
+	return hand->object;
+}
+
+static uint32_t count(uint64_t tags)
+{
+	return (uint32_t)__builtin_popcountll(tags);
+}
+
+/* The first step that uses the handle, and the end of its use. Two at once are a fault. */
+static void use_handle(struct map *map, const char *what)
+{
+	stop(map, what);
+	if (map->is_in_call)
+		fault("two calls use the pool's handle at once");
+	map->is_in_call = true;
+	stop(map, what);
+	map->is_in_call = false;
+}
+
+static uint64_t bits_of(const struct map *map, uint32_t word)
+{
+	uint32_t first = word * map->width;
+	uint32_t n = map->depth - first < map->width ? map->depth - first : map->width;
+
+	return n == 64 ? ~UINT64_C(0) : (UINT64_C(1) << n) - 1;
+}
+
+/*
+ * Pools and hands
+ */
+
+/* All tags are free. */
+static void set_size(struct map *map, uint32_t total)
+{
+	map->depth = total;
+	map->width = map->is_one_per_word ? 1 : total;
+	map->words = map->is_one_per_word ? total : 1;
+	memset(map->word, 0, sizeof(map->word));
+	memset(map->aside, 0, sizeof(map->aside));
+}
+
+int32_t tags_library_open_cached(struct tags_pool *pool, const struct tags_options *options,
+				 uint32_t cache, uint32_t keeping)
+{
+	struct map *map = take_memory(sizeof(*map));
+
+	map->is_one_per_word = options->shift == 0;
+	set_size(map, options->total);
+	map->cache = cache;
+	map->keeps_while_holding = keeping != 0;
+	map->hands = options->hands;
+	for (uint32_t i = 0; i < map->hands; i++)
+		map->member[i] = (struct member){ .map = map, .number = i };
+	pool->full = 1;
+	pool->object = map;
+	return TAGS_OK;
+}
+
+static bool is_any_out(const struct map *map)
+{
+	for (uint32_t i = 0; i < map->hands; i++)
+		if (map->member[i].is_out)
+			return true;
+	return false;
+}
+
+int32_t tags_library_resize(struct tags_pool *pool, uint32_t total)
+{
+	struct map *map = map_of(pool);
+
+	use_handle(map, "resize");
+	if (is_any_out(map))
+		return TAGS_HANDS_OUT;
+	set_size(map, total);
+	return TAGS_OK;
+}
+
+int32_t tags_library_join(struct tags_pool *pool, struct tags_hand *hand, uint32_t flags)
+{
+	struct map *map = map_of(pool);
+
+	(void)flags;
+	use_handle(map, "join");
+	for (uint32_t i = 0; i < map->hands; i++) {
+		if (map->member[i].is_out)
+			continue;
+		map->member[i].is_out = true;
+		hand->full = 1;
+		hand->object = &map->member[i];
+		return TAGS_OK;
+	}
+	return TAGS_NO_HAND;
+}
+
+/* The last step of a leave is the one by which a close finds the hand. */
+int32_t tags_library_leave(struct tags_hand *hand)
+{
+	struct member *member = member_of(hand);
+
+	stop(member, "leave");
+	if (member->kept)
+		fault("a hand leaves that keeps tags");
+	memset(hand, 0, sizeof(*hand));
+	member->is_out = false;
+	return TAGS_OK;
+}
+
+int32_t tags_library_close(struct tags_pool *pool, struct tags_sums *sums)
+{
+	struct map *map = map_of(pool);
+
+	use_handle(map, "close");
+	memset(sums, 0, sizeof(*sums));
+	if (is_any_out(map))
+		return TAGS_HANDS_OUT;
+	for (uint32_t i = 0; i < map->hands; i++)
+		sums->held += count(map->member[i].held);
+	sums->got = map->got;
+	sums->back = map->back;
+	if (map->active)
+		fault("%u hands are in a wait group at the end", map->active);
+	pool->full = 0;
+	pool->object = NULL;
+	give_memory(map);
+	return TAGS_OK;
+}
+
+/*
+ * Gets
+ */
+
+/* One pass over these bits of a word: claims clear ones until one is won. Returns its place or -1. */
+static int pass(struct map *map, uint32_t word, uint64_t bits)
+{
+	uint64_t found;
+
+	stop(&map->word[word], "looks at a word");
+	found = map->word[word];
+	tell_step("map:   it is %lx", (unsigned long)found);
+	for (int place = 0; bits >> place & 1; place++) {
+		if (found >> place & 1)
+			continue;
+		stop(&map->word[word], "claims a bit");
+		found = map->word[word];
+		map->word[word] |= UINT64_C(1) << place;
+		if (!(found >> place & 1))
+			return place;
+	}
+	return -1;
+}
+
+/* Returns how many tags it freed. */
+static uint32_t sweep(struct member *member, uint32_t word)
+{
+	struct map *map = member->map;
+	uint64_t mask;
+
+	stop(&map->aside[word], "looks at a cleared set");
+	if (!map->aside[word])
+		return 0;
+	stop(&map->aside[word], "sweeps: swaps a cleared set");
+	mask = map->aside[word];
+	map->aside[word] = 0;
+	if (!mask)
+		return 0;
+	stop(&map->word[word], "sweeps: subtracts from a word");
+	map->word[word] &= ~mask;
+	member->swept = mask << (word * map->width);
+	return count(mask);
+}
+
+/* A sweep of a full word, as part of a get in one step. */
+static void sweep_whole(struct member *member, uint32_t word, uint64_t *left)
+{
+	struct map *map = member->map;
+
+	if (map->word[word] != bits_of(map, word) || !map->aside[word])
+		return;
+	*left += count(map->aside[word]);
+	member->swept = map->aside[word] << (word * map->width);
+	map->word[word] &= ~map->aside[word];
+	map->aside[word] = 0;
+}
+
+/* A get in one step, for scenarios that are too large otherwise. */
+static int32_t get_whole(struct member *member, uint64_t *left)
+{
+	struct map *map = member->map;
+
+	stop(map->word, "gets in one step");
+	for (uint32_t word = 0; word < map->words; word++) {
+		sweep_whole(member, word, left);
+		if (map->word[word] != bits_of(map, word)) {
+			int place = __builtin_ctzll(~map->word[word]);
+
+			map->word[word] |= UINT64_C(1) << place;
+			return (int32_t)(word * map->width) + place;
+		}
+	}
+	return TAGS_NO_TAG;
+}
+
+/* The part of a word's bits that a get of this depth may use. */
+static uint64_t share_of(const struct map *map, uint32_t word, uint32_t depth)
+{
+	uint32_t first = word * map->width;
+	uint32_t end = first + count(bits_of(map, word));
+	uint32_t limit = depth * end / map->depth - depth * first / map->depth;
+
+	return bits_of(map, word) & ((UINT64_C(1) << limit) - 1);
+}
+
+/* Visits the words from this one on, which is the one of the hint and has more turns. */
+static int32_t search(struct member *member, uint32_t first, uint32_t depth, uint64_t *left)
+{
+	struct map *map = member->map;
+
+	for (uint32_t i = 0; i < map->words; i++) {
+		uint32_t word = (first + i) % map->words;
+		int turns = i == 0 && scenario->turns ? scenario->turns : 1;
+		int place = pass(map, word, share_of(map, word, depth));
+
+		for (; place < 0 && turns > 0; turns--) {
+			*left += sweep(member, word);
+			place = pass(map, word, share_of(map, word, depth));
+		}
+		if (place >= 0)
+			return (int32_t)(word * map->width) + place;
+	}
+	return TAGS_NO_TAG;
+}
+
+/* What was won of the latest sweep comes off what all sweeps freed. */
+static void win(struct member *member, uint64_t tags, uint64_t *left)
+{
+	uint64_t own = count(member->swept & tags);
+
+	*left = *left > own ? *left - own : 0;
+	member->swept = 0;
+	member->held |= tags;
+	member->map->got += count(tags);
+	tell_step("map:   won %lx, left free %lu", (unsigned long)tags, (unsigned long)*left);
+}
+
+/*
+ * What a hand got is what decides, and in a wait it gets nothing; but that of a future may get tags
+ * for others meanwhile.
+ */
+static bool is_spent(struct member *member)
+{
+	bool may_change = !member->is_in_group || scenario->program[0] == task;
+
+	if (scenario->limited && member->number == 0 && !member->is_spent && may_change)
+		member->is_spent = choose(2);
+	return member->is_spent;
+}
+
+/* A hint may be in any word. */
+static int32_t search_all(struct member *member, uint64_t *left)
+{
+	const struct map *map = member->map;
+	int first = map->words > 1 ? choose((int)map->words) : 0;
+
+	return search(member, (uint32_t)first, map->depth, left);
+}
+
+static int32_t get_kept(struct member *member)
+{
+	int32_t tag = __builtin_ctzll(member->kept);
+
+	member->kept &= member->kept - 1;
+	member->held |= UINT64_C(1) << tag;
+	return tag;
+}
+
+int32_t tags_library_get(struct tags_hand *hand, uint64_t *left)
+{
+	struct member *member = member_of(hand);
+	int32_t tag;
+
+	*left = 0;
+	if (is_spent(member))
+		return TAGS_SPENT;
+	if (member->kept)
+		return get_kept(member);
+	tag = scenario->whole ? get_whole(member, left) : search_all(member, left);
+	win(member, tag < 0 ? 0 : UINT64_C(1) << tag, left);
+	return tag;
+}
+
+int32_t tags_library_get_shallow(struct tags_hand *hand, uint32_t depth, uint64_t *left)
+{
+	struct member *member = member_of(hand);
+	int32_t tag;
+
+	*left = 0;
+	tag = search(member, 0, depth, left);
+	win(member, tag < 0 ? 0 : UINT64_C(1) << tag, left);
+	return tag;
+}
+
+/* Claims the run of places that begins at the first free one. Returns what was won of it. */
+static uint64_t claim_run(struct map *map, uint32_t word, uint64_t run, int *place)
+{
+	uint64_t found;
+
+	stop(&map->word[word], "looks at a word for a run");
+	found = map->word[word] | ~bits_of(map, word);
+	if (!~found)
+		return 0;
+	*place = __builtin_ctzll(~found);
+	run <<= *place;
+	if ((run & bits_of(map, word)) != run)
+		return 0;
+	stop(&map->word[word], "claims a run");
+	found = map->word[word];
+	map->word[word] |= run;
+	return run & ~found;
+}
+
+int32_t tags_library_get_batch(struct tags_hand *hand, uint32_t n, uint64_t *won, uint64_t *left)
+{
+	struct member *member = member_of(hand);
+	struct map *map = member->map;
+	int place = 0;
+
+	*left = 0;
+	for (uint32_t word = 0; word < map->words; word++) {
+		uint64_t tags;
+
+		*left += sweep(member, word);
+		tags = claim_run(map, word, (UINT64_C(1) << n) - 1, &place);
+		if (!tags)
+			continue;
+		*won = tags >> place;
+		win(member, tags << (word * map->width), left);
+		return (int32_t)(word * map->width) + place;
+	}
+	win(member, 0, left);
+	return TAGS_NO_TAG;
+}
+
+/*
+ * Gives
+ */
+
+uint64_t map_keeps(const void *object)
+{
+	return object ? ((const struct member *)object)->kept : 0;
+}
+
+static uint32_t look_active(struct map *map)
+{
+	stop(&map->active, "looks at the active count");
+	return map->active;
+}
+
+/* Gives tags back by one step for each word. */
+static void give(struct member *member, uint64_t tags)
+{
+	struct map *map = member->map;
+
+	for (uint32_t word = 0; word < map->words; word++) {
+		uint64_t bits = tags >> (word * map->width) & bits_of(map, word);
+
+		if (!bits)
+			continue;
+		stop(&map->word[word], "gives tags back");
+		map->word[word] &= ~bits;
+	}
+	map->back += count(tags);
+	look_active(map);
+}
+
+static void flush(struct member *member)
+{
+	uint64_t kept = member->kept;
+
+	member->kept = 0;
+	if (kept)
+		give(member, kept);
+}
+
+static void set_aside(struct member *member, uint32_t tag)
+{
+	struct map *map = member->map;
+	uint32_t word = tag / map->width;
+
+	stop(&map->aside[word], "sets a tag aside");
+	map->aside[word] |= UINT64_C(1) << (tag % map->width);
+	map->back++;
+	look_active(map);
+}
+
+/* Keeps the tag of this bit if nobody waits. Otherwise all kept tags go back. */
+static bool keep(struct member *member, uint64_t bit)
+{
+	struct map *map = member->map;
+	bool may_keep = look_active(map) == 0 && (!map->keeps_while_holding || member->held != bit);
+
+	if (!may_keep || count(member->kept) == map->cache)
+		flush(member);
+	if (may_keep)
+		member->kept |= bit;
+	return may_keep;
+}
+
+int32_t tags_library_clear(struct tags_hand *hand, uint32_t tag)
+{
+	struct member *member = member_of(hand);
+	uint64_t bit = UINT64_C(1) << tag;
+	bool is_kept;
+
+	if (tag >= member->map->depth)
+		return TAGS_NO_SUCH_TAG;
+	if (!(member->held & bit))
+		return TAGS_NOT_HELD;
+	is_kept = member->map->cache > 0 && keep(member, bit);
+	member->held &= ~bit;
+	if (!is_kept)
+		set_aside(member, tag);
+	return 0;
+}
+
+int32_t tags_library_clear_mask(struct tags_hand *hand, uint32_t first, uint64_t mask)
+{
+	struct member *member = member_of(hand);
+	uint64_t tags = mask << first;
+
+	if (!mask)
+		return TAGS_BAD_COUNT;
+	if ((member->held & tags) != tags)
+		return TAGS_NOT_HELD;
+	if (member->map->cache > 0 && look_active(member->map) > 0)
+		flush(member);
+	member->held &= ~tags;
+	give(member, tags);
+	return 0;
+}
+
+int32_t tags_library_clear_batch(struct tags_hand *hand, const uint32_t *tags, size_t count_)
+{
+	uint64_t mask = 0;
+
+	for (size_t i = 0; i < count_; i++)
+		mask |= UINT64_C(1) << tags[i];
+	return tags_library_clear_mask(hand, 0, mask);
+}
+
+int32_t tags_library_flush(struct tags_hand *hand)
+{
+	flush(member_of(hand));
+	return 0;
+}
+
+/*
+ * Wait groups
+ */
+
+int32_t tags_library_prepare(struct tags_hand *hand)
+{
+	struct member *member = member_of(hand);
+
+	if (member->is_in_group)
+		return TAGS_WAITING;
+	flush(member);
+	stop(&member->map->active, "enters a wait group");
+	member->map->active++;
+	member->is_in_group = true;
+	member->was_refused = false;
+	return 0;
+}
+
+int32_t tags_library_finish(struct tags_hand *hand)
+{
+	struct member *member = member_of(hand);
+
+	if (!member->is_in_group)
+		return TAGS_NOT_WAITING;
+	if (scenario->again && !member->was_refused && choose(2)) {
+		member->was_refused = true;
+		return TAGS_AGAIN;
+	}
+	stop(&member->map->active, "leaves its wait group");
+	member->map->active--;
+	member->is_in_group = false;
+	return 0;
+}
+
+/*
+ * Reports
+ */
+
+int32_t tags_library_pool_busy(struct tags_pool *pool, uint64_t *into, size_t words)
+{
+	struct map *map = map_of(pool);
+	int32_t busy = 0;
+
+	if (!map)
+		return TAGS_BAD_HANDLE;
+	use_handle(map, "report");
+	memset(into, 0, words * sizeof(*into));
+	for (uint32_t word = 0; word < map->words; word++) {
+		uint64_t bits = map->word[word] & ~map->aside[word] & bits_of(map, word);
+
+		*into |= bits << (word * map->width);
+		busy += (int32_t)count(bits);
+	}
+	return busy;
+}
+
+int32_t tags_library_pool_show(struct tags_pool *pool, uint32_t kind, struct tags_sizes *sizes)
+{
+	struct map *map = map_of(pool);
+
+	memset(sizes, 0, sizeof(*sizes));
+	if (!map)
+		return TAGS_BAD_HANDLE;
+	use_handle(map, "report");
+	sizes->bits_per_word = map->width;
+	for (uint32_t word = 0; kind == TAGS_ORDINARY && word < map->words; word++)
+		sizes->busy += count(map->word[word] & ~map->aside[word] & bits_of(map, word));
+	return TAGS_OK;
+}
+
+int32_t tags_library_pool_wakes(struct tags_pool *pool, struct tags_counts *counts)
+{
+	use_handle(map_of(pool), "report");
+	memset(counts, 0, sizeof(*counts));
+	counts->active = map_of(pool)->active;
+	return TAGS_OK;
+}
+
+/*
+ * What the model lacks: no scenario over it makes these calls
+ */
+#define LACKS(call, ...) \
+	int32_t call(__VA_ARGS__) \
+	{ \
+		fault("the model has no " #call); \
+		return TAGS_NULL; \
+	}
+
+#pragma GCC diagnostic ignored "-Wunused-parameter"
+LACKS(tags_library_get_reserved, struct tags_hand *hand)
+LACKS(tags_library_post, struct tags_hand *hand, uint32_t tag)
+LACKS(tags_library_take, struct tags_hand *hand, uint32_t tag)
+LACKS(tags_library_write, struct tags_hand *hand, uint32_t tag, uint64_t value, uint64_t *former)
+LACKS(tags_library_read_clear, struct tags_hand *hand, uint32_t tag, uint64_t *value)

@@ -1,0 +1,78 @@
+/*
+ * The programs of the threads. Each makes public calls of tags.h, but for futures, which make
+ * those of the Rust crate.
+ */
+#ifndef PROGRAMS_H
+#define PROGRAMS_H
+
+#include <stdbool.h>
+#include <stdint.h>
+
+#ifdef __cplusplus
+extern "C" {
+#endif
+
+/* gets.c: threads that sleep for a tag, or never wait */
+void sleeper(int me);
+void timed(int me);
+void getter(int me);
+void pair(int me);
+void batcher(int me);
+void shallow(int me);
+void heir(int me);
+void preparer(int me);
+
+/* loops.c: event loops */
+void listener(int me);
+void quitter(int me);
+void leaver(int me);
+void changer(int me);
+void switcher(int me);
+
+/* futures.c */
+void task(int me);
+void dropper(int me);
+void make_futures(void);
+
+/* slots.c: posts, slots and reserved tags */
+void poster(int me);
+void taker(int me);
+void reserver(int me);
+
+/* lives.c: joins, leaves, and what happens to a whole pool */
+void stopper(int me);
+void joiner(int me);
+void goer(int me);
+void reporter(int me);
+void resizer(int me);
+void closer(int me);
+void late_reporter(int me);
+void resumer(int me);
+/* gates */
+void hirer(int me);
+void timed_hirer(int me);
+void drainer(int me);
+void timed_drainer(int me);
+/* Whether the thread drains the pool, or waits for a hand. */
+bool drains(uint32_t thread);
+bool hires(uint32_t thread);
+/* Whether a thread stops the pool. */
+bool has_stop(void);
+
+/* plus.cpp: C++ and its coroutines; where the library itself is explored */
+#define PLUS __attribute__((weak))
+PLUS void plus_open(void);
+PLUS void plus_close(void);
+PLUS void plus_sleeper(int me);
+PLUS void plus_loop(int me);
+PLUS void plus_quitter(int me);
+PLUS void plus_leaver(int me);
+PLUS void plus_joiner(int me);
+PLUS void plus_closer(int me);
+PLUS void plus_stopper(int me);
+
+#ifdef __cplusplus
+}
+#endif
+
+#endif

@@ -1,0 +1,132 @@
+/*
+ * What must hold, told by public calls of tags.h alone.
+ */
+#include "tags.h"
+
+#include "programs.h"
+#include "scenario.h"
+
+#include <errno.h>
+
+void check_state(void)
+{
+	if (!is_closed())
+		check_bell();
+}
+
+/* Ordinary tags that are free. */
+static uint32_t count_free(void)
+{
+	uint64_t busy[1] = { 0 };
+
+	if (tags_pool_busy(pool, busy, 1) < 0) {
+		fault("a report was refused");
+		return 0;
+	}
+	return scenario->tags - scenario->reserved -
+	       (uint32_t)__builtin_popcountll(busy[0] >> scenario->reserved);
+}
+
+bool is_asleep(const struct thread *thread)
+{
+	return !thread->is_done && (thread->kind == OP_ASLEEP || thread->kind == OP_POLL);
+}
+
+/* Waits for what another thread was to hand over: no wait for a tag. */
+static bool waits_for_a_thread(uint32_t i)
+{
+	return world->thread[i].kind == OP_POLL && scenario->program[i] == taker;
+}
+
+static uint32_t count_at_gate(bool (*does)(uint32_t thread))
+{
+	uint32_t n = 0;
+
+	for (uint32_t i = 0; i < world->threads; i++)
+		n += is_at_gate(&world->thread[i]) && does(i);
+	return n;
+}
+
+static uint32_t count_asleep(void)
+{
+	uint32_t n = 0;
+
+	for (uint32_t i = 0; i < world->threads; i++)
+		n += is_asleep(&world->thread[i]) && !waits_for_a_thread(i) && !is_at_gate(&world->thread[i]);
+	return n;
+}
+
+static void check_locks(void)
+{
+	for (uint32_t i = 0; i < world->threads; i++)
+		if (!world->thread[i].is_done && world->thread[i].kind == OP_LOCK)
+			fault("thread %u waits for a lock for ever", i);
+}
+
+/* No thread can go on unless a deadline passes, a signal comes or a thread is cancelled. */
+void check_quiet(void)
+{
+	uint32_t asleep = count_asleep();
+	uint32_t draining = count_at_gate(drains);
+
+	check_locks();
+	if (is_closed()) {
+		if (asleep > 0)
+			fault("%u wait though the pool was closed", asleep);
+		return;
+	}
+	if (asleep > 0 && count_free() > 0)
+		fault("%u wait beside a free tag", asleep);
+	if (draining > 0 && count_free() == scenario->tags - scenario->reserved)
+		fault("%u wait for all tags though they are back", draining);
+	check_quiet_bell(asleep, draining);
+	check_quiet_gate(count_at_gate(hires), draining);
+}
+
+/* All hands leave, and the pool is closed. */
+static void close_pool(void)
+{
+	struct tags_counts counts;
+	struct tags_sums sums;
+	uint64_t held = scenario->taken;
+
+	for (uint32_t i = 0; i <= world->threads; i++)
+		if (hands[i]->full)
+			EXPECT(TAGS_OK, tags_leave(hands[i]));
+	check_closed_bell();
+	for (int i = 0; i < MAX_TAGS; i++)
+		held += world->notes.holder[i] != 0;
+	EXPECT(TAGS_OK, tags_pool_wakes(pool, &counts));
+	if (counts.active != 0)
+		fault("%lu hands are in a wait group at the end", (unsigned long)counts.active);
+	EXPECT(TAGS_OK, tags_close(pool, &sums));
+	if (sums.got != sums.back + sums.held + sums.posted || sums.held != held)
+		fault("the sums don't balance: %lu got, %lu back, %lu held, not %lu", (unsigned long)sums.got,
+		      (unsigned long)sums.back, (unsigned long)sums.held, (unsigned long)held);
+	world->notes.is_closed = true;
+}
+
+static void check_memory(void)
+{
+	if (count_allocations() > own_allocations)
+		fault("%u allocations were not freed", count_allocations() - own_allocations);
+}
+
+void check_end(void)
+{
+	uint32_t done = 0;
+
+	check_quiet();
+	for (uint32_t i = 0; i < world->threads; i++) {
+		done += world->thread[i].is_done;
+		if (world->thread[i].is_done && !is_closed() && !scenario->close)
+			check_idle_place(i);
+	}
+	if (done < world->threads)
+		return;
+	if (scenario->close)
+		scenario->close();
+	else if (!is_closed())
+		close_pool();
+	check_memory();
+}

@@ -1,0 +1,154 @@
+/*
+ * What a scenario is, and what its parts share: the table, the programs of its threads, and the
+ * rules that are checked.
+ */
+#ifndef SCENARIO_H
+#define SCENARIO_H
+
+#include "explorer.h"
+
+#ifdef __cplusplus
+extern "C" {
+#endif
+
+struct tags_hand;
+struct tags_pool;
+
+struct scenario {
+	const char *name;
+	const char *what;
+	/* of the pool, as in struct tags_options */
+	uint32_t tags;
+	uint32_t reserved;
+	uint32_t cache;
+	uint32_t flags;
+	/* the tags that nobody gives back: an extra hand holds them */
+	uint32_t taken;
+	/* the tags that the pool had before it was resized; 0 if it was not */
+	uint32_t former_tags;
+	/* what each thread does, and how often at most */
+	void (*program[MAX_THREADS])(int me);
+	uint8_t rounds[MAX_THREADS];
+	/* whoever holds a tag may hold it for ever */
+	bool forever;
+	/* the threads that may be cancelled, as a mask */
+	uint8_t cancels;
+	/* the sleeps of each thread that may end for no reason */
+	uint8_t signals;
+	/* with the model: a get is one step */
+	bool whole;
+	/* with the model: the turns of a get in its first word */
+	uint8_t turns;
+	/* with the model: a tags_library_finish() of each stay may answer TAGS_AGAIN */
+	bool again;
+	/* with the model: the gets of the first hand may be refused from some time on */
+	bool limited;
+	/* takes what the model lacks, so it is explored over the library alone */
+	bool needs_library;
+	/* too large to be explored completely, or not in the minutes of the gate */
+	bool is_large;
+	/* make and end the pool of programs in C++, in place of set_up() and the end in rules.c */
+	void (*open)(void);
+	void (*close)(void);
+};
+
+extern const struct scenario scenarios[];
+extern const struct scenario *scenario;
+/* each thread makes at most so many rounds */
+extern int most_rounds;
+
+const char *name_of_program(int thread);
+
+/*
+ * stage.c: the pool of a scenario, which the programs share
+ */
+extern struct tags_pool *pool;
+/* one for each thread, and one that holds what nobody gives back */
+extern struct tags_hand *hands[MAX_THREADS + 1];
+
+/* Makes the pool and its hands, outside of all threads. */
+void set_up(void);
+bool is_closed(void);
+/* Memory of the scenario's own, which is not freed at the end; and how much of it there is. */
+void *take_own(size_t size);
+extern uint32_t own_allocations;
+bool has_program(void (*program)(int me));
+/* Notes who has a tag. */
+void take_tag(int me, int32_t tag);
+void drop_tag(int32_t tag);
+/* Gives a tag back. */
+void clear_tag(int me, int32_t tag);
+/* Ends a round with what a wait returned. Returns whether the thread goes on. */
+bool use_tag(int me, int32_t tag);
+/* Ends a program. A thread that keeps tags gives them back before it goes idle, or is busy for ever. */
+void end_program(int me);
+/* A wait may end so only where a thread stops the pool. */
+void may_be_stopped(int32_t answer);
+bool holds_for_ever(void);
+/* Whether the thread makes another round. */
+bool goes_on(int me, int round);
+
+void open_event(int event);
+void close_event(int event);
+/* poll() and read() */
+void wait_event(int event);
+
+/* Runs a call of the library, and checks that it keeps errno. */
+#define CALL(expression) \
+	({ \
+		int32_t answer_; \
+		errno = 4711; \
+		answer_ = (expression); \
+		if (errno != 4711) \
+			fault("%s changed errno", #expression); \
+		answer_; \
+	})
+
+/* Runs a call that has to return this. */
+#define EXPECT(answer, expression) \
+	({ \
+		int32_t got_ = CALL(expression); \
+		if (got_ != (answer)) \
+			fault("%s returned %d", #expression, (int)got_); \
+	})
+
+/*
+ * rules.c: what must hold in each state; where no thread can go on unless a deadline passes, a
+ * signal comes or a thread is cancelled; and at the end
+ */
+void check_state(void);
+void check_quiet(void);
+void check_end(void);
+/* Whether a thread waits: it sleeps, or polls an eventfd. */
+bool is_asleep(const struct thread *thread);
+
+/*
+ * bell_rules.c: what must hold inside c/bell.c, and the names of its words. Nothing else knows
+ * how that is made.
+ */
+void find_bell(void);
+void check_bell(void);
+void check_quiet_bell(uint32_t asleep, uint32_t drains);
+/* What must hold of threads that wait for a hand, and whether a thread sleeps at a gate. */
+void check_quiet_gate(uint32_t hirers, uint32_t drains);
+bool is_at_gate(const struct thread *thread);
+void check_closed_bell(void);
+void check_idle_place(uint32_t thread);
+/* Whether the word tells that a hand is in a call: it is written by whoever uses the hand. */
+bool is_of_hand(const volatile void *address);
+/* Called before each atomic load. */
+void before_load(const volatile void *address);
+/* Whether this thread has the bell's lock. */
+bool has_lock(int thread);
+const char *name_of(uintptr_t address);
+
+/*
+ * map.c alone: the tags that a hand keeps
+ */
+__attribute__((weak)) uint64_t map_keeps(const void *object);
+
+#ifdef __cplusplus
+}
+#endif
+
+#endif

@@ -1,0 +1,90 @@
+/*
+ * Programs that write slots, post tags and take them, and that use reserved tags.
+ */
+#include "tags.h"
+
+#include "programs.h"
+#include "scenario.h"
+
+#include <errno.h>
+
+/* The event by which a poster tells a taker that it has posted the tag in notes.handed. */
+enum { HANDED = MAX_EVENTS - 1 };
+
+/* What thread i writes in a slot. */
+static uint64_t value_of(int me)
+{
+	return 0x1000 + (uint64_t)me;
+}
+
+static void hand_over(int me, int32_t tag)
+{
+	EXPECT(TAGS_OK, tags_post(hands[me], (uint32_t)tag));
+	EXPECT(TAGS_NOT_HELD, tags_post(hands[me], (uint32_t)tag));
+	pause_before(OP_EVENT_WRITE, &world->event[HANDED], sizeof(struct event), 1, PC);
+	tell_step("hands tag %d over", (int)tag);
+	world->notes.handed = (uint32_t)tag;
+	world->event[HANDED].count++;
+}
+
+/* Gets a second tag if there is one, and gives it back: with a cache it may keep that. */
+static void use_another(int me)
+{
+	int32_t other = CALL(tags_get(hands[me]));
+
+	if (other == TAGS_NO_TAG)
+		return;
+	take_tag(me, other);
+	clear_tag(me, other);
+}
+
+/* Gets a tag, writes its slot, and posts it for a taker. */
+void poster(int me)
+{
+	uint64_t former;
+	int32_t tag = CALL(tags_get_blocking(hands[me]));
+
+	take_tag(me, tag);
+	use_another(me);
+	EXPECT(TAGS_OK, tags_write(hands[me], (uint32_t)tag, value_of(me), &former));
+	drop_tag(tag);
+	hand_over(me, tag);
+	end_program(me);
+}
+
+/* Takes what was posted, which has its slot, and gives it back. */
+void taker(int me)
+{
+	uint64_t value = 0;
+	uint32_t tag;
+
+	wait_event(HANDED);
+	tag = world->notes.handed;
+	EXPECT(TAGS_OK, tags_take(hands[me], tag));
+	EXPECT(TAGS_NOT_POSTED, tags_take(hands[me], tag));
+	take_tag(me, (int32_t)tag);
+	if (holds_for_ever())
+		return;
+	drop_tag((int32_t)tag);
+	if (CALL(tags_read_clear(hands[me], tag, &value)) < 0)
+		fault("a clear was refused");
+	if (value != value_of(0))
+		fault("the slot of tag %u has %lx", tag, (unsigned long)value);
+	end_program(me);
+}
+
+/* Takes reserved tags, which nobody waits for, and never waits. */
+void reserver(int me)
+{
+	for (int round = 0; goes_on(me, round); round++) {
+		int32_t tag = CALL(tags_get_reserved(hands[me]));
+
+		if (tag == TAGS_NO_TAG)
+			continue;
+		if (tag >= (int32_t)scenario->reserved)
+			fault("tag %d is not reserved", (int)tag);
+		if (!use_tag(me, tag))
+			return;
+	}
+	end_program(me);
+}
