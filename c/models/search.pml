@@ -1,12 +1,12 @@
 /*
- * The words of the tags, and a get: crates/tag_core and crates/tag_search, step by step. bell.pml and groups.pml include it.
+ * The words of the tags, and a get: crates/tag_core and crates/tag_search, step by step, for groups.pml.
  *
  * Each atomic operation is one step, and all are sequentially consistent. WORDS words (1 or 2) of PLACES tags (1 to 3).
  * A get is the plain one, which begins with any word, as with any hint. Its first word has TURNS turns, the other one.
  * WHOLE_GET makes a get one step, so that it never falls into another's sweep: for settings that are too large otherwise.
  * Left out: the width of words, round robin, slots, reserved tags, the limits of a caller's life.
  *
- * Whoever includes it defines look_after(), which looks for those who wait, after a get that left `left` tags free.
+ * groups.pml defines look_after(), which looks for those who wait, after a get that left `left` tags free.
  */
 #define NONE 100
 #define REFUSED 101
@@ -119,16 +119,13 @@ inline count_left(won) {
 #if MUTANT == 33
   left = 0;                                                                /* mutant 33: does not look */
 #endif
-#if MUTANT == 35
-  swept = won;                                                             /* mutant 35: counts a win that was freed elsewhere */
-#endif
   d_step { left = (left > COUNT((swept & won)) -> left - COUNT((swept & won)) : 0); swept = 0 }
 #if MUTANT == 34
   d_step { if :: left > 1 -> left = 1 :: else fi }                         /* mutant 34: looks for one, whatever is left */
 #endif
 }
 
-/* A get as a program calls it: on_map.rt: get; then tag_queue: look_after, or tags.h: tags_swept. */
+/* A get as a program calls it: on_map.rt: get; then tag_queue: look_after. */
 inline get() {
   search();
   count_left((tag == NONE -> 0 : 1 << tag));
