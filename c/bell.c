@@ -25,7 +25,6 @@
 #define _GNU_SOURCE
 #include "bell.h"
 
-#include <linux/futex.h>
 #include <stdlib.h>
 #include <sys/syscall.h>
 #include <unistd.h>
@@ -39,14 +38,14 @@ struct bell *tags_library_make_bell(uint32_t hands)
 	if (!bell)
 		return NULL;
 	pthread_mutex_init(&bell->lock, NULL);
-	pthread_mutex_init(&bell->handle, NULL);
+	/* binds syscall() now, in a program that binds when it calls: see blocking.c */
+	syscall(SYS_getpid);
 	bell->vacant = ~UINT64_C(0) >> (TAGS_MAX_HANDS - hands);
 	return bell;
 }
 
 void tags_library_free_bell(struct bell *bell)
 {
-	pthread_mutex_destroy(&bell->handle);
 	pthread_mutex_destroy(&bell->lock);
 	free(bell);
 }
@@ -144,23 +143,25 @@ static bool wake_first(struct bell *bell, uint32_t most)
 	}
 	pthread_mutex_unlock(&bell->lock);
 	if (first)
-		syscall(SYS_futex, &first->state, FUTEX_WAKE_PRIVATE, 1, NULL, NULL, 0);
+		syscall(SYS_futex, &first->state, TAGS_FUTEX_WAKE, 1, NULL, NULL, 0);
 	return first != NULL;
 }
 
 /*
  * The number that an eventfd takes is added to its count. If that is full, it has been
- * told. This is no cancellation point, as write() would be.
+ * told. Returns whether it could be told: one that was closed can't. This is no
+ * cancellation point, as write() would be.
  */
-static void notify(int descriptor)
+static bool notify(int descriptor)
 {
 	const uint64_t one = 1;
 
-	syscall(SYS_write, descriptor, &one, sizeof(one));
+	return syscall(SYS_write, descriptor, &one, sizeof(one)) == sizeof(one) ||
+	       errno == EAGAIN || errno == EINTR;
 }
 
 /*
- * Tells the first listener. An eventfd is told with the lock: once a hand is struck, the
+ * Tells the first listener that can be told. An eventfd is told with the lock: once a hand is struck, the
  * program may close it. What others call may do anything, such as give a tag back.
  */
 static bool tell_first(struct bell *bell)
@@ -170,14 +171,14 @@ static bool tell_first(struct bell *bell)
 	void *whom = NULL;
 
 	pthread_mutex_lock(&bell->lock);
-	first = bell->listeners.first;
-	if (first) {
+	do {
+		first = bell->listeners.first;
+		if (!first)
+			break;
 		tell = first->tell;
 		whom = first->whom;
 		take_out(bell, first, TAGS_TOLD);
-		if (!tell)
-			notify(first->descriptor);
-	}
+	} while (!tell && !notify(first->descriptor));
 	pthread_mutex_unlock(&bell->lock);
 	if (tell)
 		tell(whom);
@@ -205,6 +206,7 @@ static void ring(struct bell *bell, uint64_t freed)
 		freed = bell->depth;
 	tags_library_wake(bell, freed);
 	tell(bell, freed);
+	tags_library_open_gate(&bell->waits);
 	errno = kept;
 }
 
@@ -249,19 +251,37 @@ void tags_library_stop(struct tags_waits *waits)
 		;
 	while (tell_first(bell))
 		;
+	tags_library_open_gate(waits);
 	errno = kept;
+}
+
+void tags_library_resume(struct tags_waits *waits)
+{
+	struct bell *bell = tags_bell_of(waits);
+
+	pthread_mutex_lock(&bell->lock);
+	tags_store(&bell->waits.stopped, 0);
+	pthread_mutex_unlock(&bell->lock);
 }
 
 /*
  * Futures of other languages
  */
 
-int32_t tags_library_listen(struct tags_waits *waits, struct tags_waiter *waiter)
+size_t tags_library_waiter_size(void)
+{
+	return sizeof(struct tags_waiter);
+}
+
+int32_t tags_library_listen(struct tags_waits *waits, struct tags_waiter *waiter,
+			    void (*call)(void *whom), void *whom)
 {
 	struct bell *bell = tags_bell_of(waits);
 
 	if (bell->depth == 0)
 		return TAGS_NO_SUCH_TAG;
+	waiter->tell = call;
+	waiter->whom = whom;
 	return tags_library_enlist(bell, &bell->listeners, waiter) ? TAGS_OK : TAGS_STOPPED;
 }
 
@@ -281,7 +301,7 @@ void *tags_library_renew(struct tags_waits *waits, struct tags_waiter *waiter, v
 	return former;
 }
 
-int32_t tags_library_unlist(struct tags_waits *waits, struct tags_waiter *waiter)
+void *tags_library_unlist(struct tags_waits *waits, struct tags_waiter *waiter)
 {
-	return tags_library_strike(tags_bell_of(waits), waiter);
+	return tags_library_strike(tags_bell_of(waits), waiter) ? NULL : waiter->whom;
 }

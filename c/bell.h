@@ -13,6 +13,13 @@
 #include <stdbool.h>
 #include <stddef.h>
 
+/*
+ * Of <linux/futex.h>, which some C libraries don't find: its operations on memory that no other
+ * process has, of which the wait names the bits of its waker.
+ */
+enum { TAGS_FUTEX_WAKE = 1 | 128, TAGS_FUTEX_WAIT = 9 | 128, TAGS_FUTEX_REALTIME = 256 };
+#define TAGS_FUTEX_ANY UINT32_MAX
+
 /* A waiter is idle; or it is listed; or it was told of a tag, which removed it from its list. */
 enum { TAGS_IDLE, TAGS_LISTED, TAGS_TOLD };
 
@@ -50,8 +57,6 @@ struct bell {
 	/* sleepers that were told and have not begun to try again */
 	uint32_t waking;
 	pthread_mutex_t lock;
-	/* guards the pool's handle; taken before @lock */
-	pthread_mutex_t handle;
 	/* the waits that have begun */
 	uint64_t turns;
 	struct tags_list sleepers;
@@ -115,21 +120,38 @@ void tags_library_wake(struct bell *bell, uint64_t freed);
  */
 bool tags_library_cancel(struct tags_hand *hand);
 
+/* Calls that use a pool's handle at once take turns. */
+void tags_library_lock_handle(const struct tags_pool *pool);
+void tags_library_unlock_handle(const struct tags_pool *pool);
+/* Of a pool's handle, with its lock: its bell, or NULL if it has none, and whether it was stopped. */
+struct tags_waits *tags_library_waits_of(const struct tags_pool *pool);
+bool tags_library_is_stopped(const struct tags_pool *pool);
+/* Something of a pool came back: who waits at its gate looks again. */
+void tags_library_open_gate(const struct tags_waits *waits);
+
 #pragma GCC visibility pop
+
+#pragma GCC visibility push(default)
 
 /* Tells as many listeners as tags became free, while there are any. */
 void tags_library_tell(struct tags_waits *waits, uint64_t freed);
-/* Ends all waits, and lets no other begin. */
+/* Ends all waits, and lets no other begin; lets them begin again. */
 void tags_library_stop(struct tags_waits *waits);
+void tags_library_resume(struct tags_waits *waits);
 
 /*
- * Futures of other languages: listeners with @tell and @whom set. Whoever tells one owns
- * what @whom points to from then on. tags_library_renew() replaces it, and returns the
- * former one while the future is listed, or NULL once it was told.
+ * Futures of other languages: listeners in memory of their own, of this size, aligned as a
+ * pointer and all 0 before the first wait. @tell is called with @whom, and whoever tells a
+ * future owns what that points to from then on. tags_library_renew() replaces it, and returns
+ * the former one while the future is listed, or NULL once it was told.
  */
-int32_t tags_library_listen(struct tags_waits *waits, struct tags_waiter *waiter);
+size_t tags_library_waiter_size(void);
+int32_t tags_library_listen(struct tags_waits *waits, struct tags_waiter *waiter,
+			    void (*tell)(void *whom), void *whom);
 void *tags_library_renew(struct tags_waits *waits, struct tags_waiter *waiter, void *whom);
-/* Returns 1 if it was told before, as tags_library_strike() does. */
-int32_t tags_library_unlist(struct tags_waits *waits, struct tags_waiter *waiter);
+/* Returns @whom, or NULL if it was told before; then whoever told it relies on a try. */
+void *tags_library_unlist(struct tags_waits *waits, struct tags_waiter *waiter);
+
+#pragma GCC visibility pop
 
 #endif

@@ -9,7 +9,6 @@
 #define _GNU_SOURCE
 #include "bell.h"
 
-#include <linux/futex.h>
 #include <sys/syscall.h>
 #include <time.h>
 #include <unistd.h>
@@ -71,17 +70,20 @@ static void abandon(void *argument)
 	if (get_up(hand))
 		pass_on(hand);
 	hand->place->turn = 0;
+	__atomic_store_n(&hand->in_call, 0, __ATOMIC_RELAXED);
 }
 
 /*
  * Until the hand was told, or until the limit. The kernel looks at the state before it lets
- * the thread sleep. The system call alone acts on a cancel: it can't be cut off halfway.
+ * the thread sleep. The system call alone acts on a cancel: it can't be cut off halfway. Nor
+ * can the loader, which would keep its lock: both functions that are called between were bound
+ * before, syscall() when the bell was made, and the other by the call that lets cancels in.
  */
 static void sleep_until_told(struct tags_hand *hand, const struct limit *limit)
 {
 	const uint32_t *state = &hand->place->state;
 	const bool is_real = limit->end && limit->clock == CLOCK_REALTIME;
-	const int how = FUTEX_WAIT_BITSET_PRIVATE | (is_real ? FUTEX_CLOCK_REALTIME : 0);
+	const int how = TAGS_FUTEX_WAIT | (is_real ? TAGS_FUTEX_REALTIME : 0);
 	long status;
 	int type;
 
@@ -89,7 +91,7 @@ static void sleep_until_told(struct tags_hand *hand, const struct limit *limit)
 	do {
 		pthread_setcanceltype(PTHREAD_CANCEL_ASYNCHRONOUS, &type);
 		status = syscall(SYS_futex, state, how, TAGS_LISTED, limit->end, NULL,
-				 FUTEX_BITSET_MATCH_ANY);
+				 TAGS_FUTEX_ANY);
 		pthread_setcanceltype(type, &type);
 	} while (tags_load(state) == TAGS_LISTED && (status == 0 || errno == EINTR));
 	pthread_cleanup_pop(0);
@@ -142,16 +144,15 @@ int32_t tags_library_wait(struct tags_hand *hand)
 	return wait_for_tag(hand, &none);
 }
 
-int32_t tags_get_timed(struct tags_hand *hand, int32_t clock, const struct timespec *deadline)
+int32_t tags_library_get_timed(struct tags_hand *hand, int32_t clock,
+			       const struct timespec *deadline)
 {
 	const struct limit limit = { clock, deadline };
 	int32_t tag;
 
-	if (!hand || !deadline)
-		return TAGS_NULL;
 	if (!is_sound(&limit))
 		return TAGS_BAD_TIME;
-	if (tags_is_stopped(hand))
+	if (tags_detail_is_stopped(hand))
 		return TAGS_STOPPED;
 	tag = tags_get(hand);
 	return tag == TAGS_NO_TAG ? wait_for_tag(hand, &limit) : tag;

@@ -58,19 +58,17 @@ static int32_t get_or_listen(struct tags_hand *hand, int descriptor)
 	return tag;
 }
 
-int32_t tags_get_async(struct tags_hand *hand, int descriptor)
+int32_t tags_library_get_async(struct tags_hand *hand, int descriptor)
 {
 	bool was_told;
 	int32_t tag;
 
-	if (!hand)
-		return TAGS_NULL;
 	if (!hand->place)
 		return TAGS_BAD_HANDLE;
 	if (descriptor < 0)
 		return TAGS_BAD_EVENT;
 	was_told = stop_listening(hand);
-	tag = tags_is_stopped(hand) ? (int32_t)TAGS_STOPPED : get_or_listen(hand, descriptor);
+	tag = tags_detail_is_stopped(hand) ? (int32_t)TAGS_STOPPED : get_or_listen(hand, descriptor);
 	if (tag != TAGS_NO_TAG)
 		hand->place->turn = 0;
 	if (tag < 0 && tag != TAGS_NO_TAG && was_told)
@@ -88,10 +86,8 @@ bool tags_library_cancel(struct tags_hand *hand)
 	return true;
 }
 
-int32_t tags_cancel(struct tags_hand *hand)
+int32_t tags_library_cancel_wait(struct tags_hand *hand)
 {
-	if (!hand)
-		return TAGS_NULL;
 	if (!hand->place)
 		return TAGS_BAD_HANDLE;
 	return tags_library_cancel(hand) ? TAGS_OK : TAGS_NOT_WAITING;

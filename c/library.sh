@@ -1,6 +1,7 @@
 #!/usr/bin/env bash
-# library.sh build [--prove]: makes out/libtags.a beside this file: crates/tag_c, with what of the library is C.
-# library.sh install [--prove] PREFIX: makes it, and puts it, tags.h, tags.hpp, tags.pc and CMake package files below the prefix.
+# library.sh build [--prove]: makes the library in out/ beside this file, static and shared: crates/tag_c, with what of it is C.
+# library.sh install [--prove] PREFIX: makes it, and puts it, tags.h, tags.hpp, tags.pc, CMake package files and, with python3, the
+# man pages below the prefix.
 # library.sh uninstall PREFIX: removes them.
 # library.sh crate FOLDER: makes a copy of the Rust crate that has what it makes the library of, for `cargo package`.
 # library.sh generate [FOLDER]: proves crates/tag_c and makes generated/, or FOLDER, of it, for x86-64 and 64-bit ARM.
@@ -19,7 +20,7 @@ AR=${AR:-${tools}ar}
 export LC_ALL=C
 
 usage() {
-  sed -n '2,12s/^# //p' "$0" >&2
+  sed -n '2,13s/^# //p' "$0" >&2
   exit 2
 }
 
@@ -32,9 +33,9 @@ fail() {
   exit 1
 }
 
-version() {
-  sed -n 's/^#define TAGS_VERSION_M[A-Z]* //p' "$here/tags.h" | paste -sd .
-}
+# The version of tags.h. Each 0.x has another interface, and so a library of another name.
+version=$(sed -n 's/^#define TAGS_VERSION_MAJOR //p' "$here/tags.h").$(sed -n 's/^#define TAGS_VERSION_MINOR //p' "$here/tags.h")
+soname=libtags.so.$version
 
 # Stops unless the first word of each argument is a command.
 need() {
@@ -136,8 +137,14 @@ choose() {
   fi
 }
 
+# Flags of the C files for a processor: as the assembly, they may run with a shadow stack, where the compiler can mark that.
+marks() {
+  local mark=-fcf-protection=return
+  [[ $($CC -dumpmachine) == x86_64* ]] && $CC $mark -x c -c /dev/null -o /dev/null 2> /dev/null && echo $mark || :
+}
+
 build() {
-  local file
+  local file mark
   need "$CC" "$AR" sha256sum
   choose
   mkdir -p "$out" || fail "$out can't be written: nothing was made"
@@ -148,12 +155,18 @@ build() {
   else
     $CC -c "$code" -o "$making/tag_c.o"
   fi
+  mark=$(marks)
   for file in "$here"/*.c; do
-    $CC -std=c99 -O2 -fPIC -fno-plt -Wall -Wextra -Wpedantic -c "$file" -o "$making/$(basename "$file" .c).o"
+    # shellcheck disable=SC2086
+    $CC -std=c99 -O2 -fPIC -fno-plt $mark -Wall -Wextra -Wpedantic -c "$file" -o "$making/$(basename "$file" .c).o"
   done
   $AR rcsD "$making/libtags.a" "$making"/*.o
+  # The library calls its own exports directly, and not through the table by which others find them.
+  $CC -shared "$making"/*.o -o "$making/$soname" -pthread -Wl,-soname,"$soname" -Wl,--version-script="$here/tags.map" \
+    -Wl,-Bsymbolic-functions -Wl,-z,relro,-z,now,-z,defs
+  mv "$making/$soname" "$out/$soname"
   mv "$making/libtags.a" "$out/libtags.a"
-  say "made $out/libtags.a: it $rests"
+  say "made $out/libtags.a and $soname: it $rests"
 }
 
 # Sets the folders of an install as it will be found, and where it is put now.
@@ -169,17 +182,36 @@ folders() {
   esac
   include=${DESTDIR:-}$prefix/include
   lib=${DESTDIR:-}$libdir
+  man=${DESTDIR:-}$prefix/share/man/man3
+  # The files of an install, and a page for each call.
+  files=("$include/tags.h" "$include/tags.hpp" "$lib/libtags.a" "$lib/$soname" "$lib/pkgconfig/tags.pc"
+    "$lib/cmake/tags/tagsConfig.cmake" "$lib/cmake/tags/tagsConfigVersion.cmake")
+  pages=("$man/tags.3")
+  local call
+  for call in $(sed -n 's/^ \* \(tags_[a-z_]*\)() - .*/\1/p' "$here/tags.h"); do
+    pages+=("$man/$call.3")
+  done
+}
+
+# What a program is told of where the shared library is: nothing, if the loader looks there.
+rpath() {
+  case "$libdir" in
+    /lib | /lib/* | /lib64 | /usr/lib | /usr/lib/* | /usr/lib64 | /usr/local/lib | /usr/local/lib/*) ;;
+    *) echo ' -Wl,-rpath,"${libdir}"' ;;
+  esac
+}
+
+# A text as sed puts it in place of another.
+quoted() {
+  printf %s "$1" | sed 's/[|&\\]/\\&/g'
 }
 
 # Fills in one of the files that say where the library is.
 filled() {
-  sed -e "s|@PREFIX@|$prefix|" -e "s|@LIBDIR@|$libdir|" -e "s|@VERSION@|$(version)|" \
-    -e "s|@INCLUDE@|$(realpath -ms --relative-to="$libdir/cmake/tags" "$prefix/include")|" "$1"
-}
-
-# The files of an install.
-placed() {
-  echo "$include/tags.h" "$include/tags.hpp" "$lib/libtags.a" "$lib/pkgconfig/tags.pc" "$lib/cmake/tags"/tagsConfig{,Version}.cmake
+  local to
+  to=$(realpath -ms --relative-to="$libdir/cmake/tags" "$prefix/include")
+  sed -e "s|@PREFIX@|$(quoted "$prefix")|" -e "s|@LIBDIR@|$(quoted "$libdir")|" -e "s|@VERSION@|$version|" \
+    -e "s|@RPATH@|$(quoted "$(rpath)")|" -e "s|@INCLUDE@|$(quoted "$to")|" "$1"
 }
 
 # Writes the files beside their places, which only then get their names: all of them, or none.
@@ -190,33 +222,49 @@ put() {
     cp "$here/tags.h" "$include/tags.h.new" &&
     cp "$here/tags.hpp" "$include/tags.hpp.new" &&
     cp "$out/libtags.a" "$lib/libtags.a.new" &&
+    cp "$out/$soname" "$lib/$soname.new" &&
     filled "$here/tags.pc.in" > "$lib/pkgconfig/tags.pc.new" &&
     filled "$here/package/tagsConfig.cmake.in" > "$lib/cmake/tags/tagsConfig.cmake.new" &&
     filled "$here/package/tagsConfigVersion.cmake.in" > "$lib/cmake/tags/tagsConfigVersion.cmake.new"; then
-    for file in $(placed); do
+    for file in "${files[@]}"; do
       chmod 644 "$file.new"
       mv "$file.new" "$file"
     done
+    ln -sfn "$soname" "$lib/libtags.so"
   else
-    for file in $(placed); do
+    for file in "${files[@]}"; do
       rm -f "$file.new"
     done
     fail "nothing was installed: $include and $lib have to be folders that can be written"
   fi
 }
 
+# The man pages are made of tags.h by a script; without python3 there are none.
+put_pages() {
+  local page
+  if ! python3 "$here/package/manual.py" "$making/man" 2> /dev/null; then
+    say "no man pages: python3 is not here, or can't make them"
+    return
+  fi
+  mkdir -p "$man" || fail "there are no man pages: $man has to be a folder that can be written"
+  for page in "${pages[@]}"; do
+    cp "$making/man/${page##*/}" "$page"
+    chmod 644 "$page"
+  done
+}
+
 install_to() {
   build
   put "$1"
+  put_pages
   say "done: set PKG_CONFIG_PATH=$libdir/pkgconfig for pkg-config, or CMAKE_PREFIX_PATH=$prefix for CMake"
 }
 
 uninstall_from() {
   folders "$1"
-  # shellcheck disable=SC2046
-  rm -f $(placed)
+  rm -f "${files[@]}" "${pages[@]}" "$lib/libtags.so"
   # Folders that nothing else is in.
-  rmdir "$lib/cmake/tags" "$lib/cmake" "$lib/pkgconfig" 2> /dev/null || :
+  rmdir "$lib/cmake/tags" "$lib/cmake" "$lib/pkgconfig" "$man" "${man%/*}" 2> /dev/null || :
 }
 
 prove=

@@ -5,31 +5,29 @@
 #include "bell.h"
 
 /*
- * What a call does inside is hidden from the thread sanitizer, as some move a hand by a
- * copy that it would see.
+ * What a call does inside is hidden from the thread sanitizer, if the program brings it: some
+ * move a hand by a copy that it would see, and it sees none of the steps that order copies.
  */
-#ifdef TAGS_SANITIZED
-void AnnotateIgnoreReadsBegin(const char *file, int line);
-void AnnotateIgnoreReadsEnd(const char *file, int line);
-void AnnotateIgnoreWritesBegin(const char *file, int line);
-void AnnotateIgnoreWritesEnd(const char *file, int line);
-#endif
+__attribute__((weak)) void AnnotateIgnoreReadsBegin(const char *file, int line);
+__attribute__((weak)) void AnnotateIgnoreReadsEnd(const char *file, int line);
+__attribute__((weak)) void AnnotateIgnoreWritesBegin(const char *file, int line);
+__attribute__((weak)) void AnnotateIgnoreWritesEnd(const char *file, int line);
 
-static int32_t unseen(int32_t status)
+static void begin_hidden(void)
 {
-#ifdef TAGS_SANITIZED
-	AnnotateIgnoreWritesEnd(__FILE__, __LINE__);
-	AnnotateIgnoreReadsEnd(__FILE__, __LINE__);
-#endif
-	return status;
-}
-
-static void unsee(void)
-{
-#ifdef TAGS_SANITIZED
+	if (!AnnotateIgnoreReadsBegin || !AnnotateIgnoreWritesBegin)
+		return;
 	AnnotateIgnoreReadsBegin(__FILE__, __LINE__);
 	AnnotateIgnoreWritesBegin(__FILE__, __LINE__);
-#endif
+}
+
+static int32_t end_hidden(int32_t status)
+{
+	if (AnnotateIgnoreReadsEnd && AnnotateIgnoreWritesEnd) {
+		AnnotateIgnoreWritesEnd(__FILE__, __LINE__);
+		AnnotateIgnoreReadsEnd(__FILE__, __LINE__);
+	}
+	return status;
 }
 
 /*
@@ -55,19 +53,31 @@ static void give_up_place(struct bell *bell, const struct tags_waiter *place)
 }
 
 /*
- * Joins and reports may use a pool's handle at once, so they take turns. An empty handle
- * has no bell, and is refused.
+ * Calls that use a pool's handle at once take turns. The lock is found by the handle's address,
+ * and outlives the pool: a report beside tags_close() finds the pool open, or its handle empty.
+ * No code of the program's is called with it.
  */
-static void lock_handle(struct tags_pool *pool)
+#define FOUR_LOCKS \
+	PTHREAD_MUTEX_INITIALIZER, PTHREAD_MUTEX_INITIALIZER, PTHREAD_MUTEX_INITIALIZER, \
+		PTHREAD_MUTEX_INITIALIZER
+
+static pthread_mutex_t locks[16] = { FOUR_LOCKS, FOUR_LOCKS, FOUR_LOCKS, FOUR_LOCKS };
+
+static pthread_mutex_t *lock_of(const struct tags_pool *pool)
 {
-	if (pool->waits)
-		pthread_mutex_lock(&tags_bell_of(pool->waits)->handle);
+	const uintptr_t at = (uintptr_t)pool / sizeof(*pool);
+
+	return &locks[(at ^ at >> 4 ^ at >> 8) % 16];
 }
 
-static void unlock_handle(struct tags_pool *pool)
+void tags_library_lock_handle(const struct tags_pool *pool)
 {
-	if (pool->waits)
-		pthread_mutex_unlock(&tags_bell_of(pool->waits)->handle);
+	pthread_mutex_lock(lock_of(pool));
+}
+
+void tags_library_unlock_handle(const struct tags_pool *pool)
+{
+	pthread_mutex_unlock(lock_of(pool));
 }
 
 /* Whether the options allow the shift. One that is too large passes: the library refuses it. */
@@ -93,9 +103,10 @@ static struct tags_options asked_for(const struct tags_options *options)
 }
 
 /* Gives a pool its bell, or closes it again. */
-static int32_t hang_bell(struct tags_pool *pool, const struct tags_options *options)
+static int32_t add_bell(struct tags_pool *pool, const struct tags_options *options)
 {
 	struct bell *bell = tags_library_make_bell(options->hands);
+	struct tags_sizes sizes = { 0, 0, 0, 0, 0 };
 	struct tags_sums unused;
 
 	if (!bell) {
@@ -105,25 +116,34 @@ static int32_t hang_bell(struct tags_pool *pool, const struct tags_options *opti
 	bell->depth = options->total - options->reserved;
 	bell->reserved = options->reserved;
 	bell->is_cached = options->cache > 0;
+	tags_library_pool_show(pool, TAGS_ORDINARY, &sizes);
+	bell->waits.batch = sizes.bits_per_word > 0 ? sizes.bits_per_word : 1;
 	pool->waits = &bell->waits;
 	return TAGS_OK;
 }
 
+static int32_t open_locked(struct tags_pool *pool, const struct tags_options *options)
+{
+	const struct tags_options asked = asked_for(options);
+	int32_t status;
+
+	if (!pool->full && asked.flags <= TAGS_ROUND_ROBIN && !knows_shift(options))
+		return TAGS_BAD_SHIFT;
+	status = tags_library_open_cached(pool, &asked, options->cache,
+					  (options->flags & TAGS_KEEP_WHILE_HOLDING) != 0);
+	return status == TAGS_OK ? add_bell(pool, options) : status;
+}
+
 int32_t tags_open(struct tags_pool *pool, const struct tags_options *options)
 {
-	struct tags_options asked;
 	int kept = errno;
 	int32_t status;
 
 	if (!pool || !options)
 		return TAGS_NULL;
-	asked = asked_for(options);
-	if (!pool->full && asked.flags <= TAGS_ROUND_ROBIN && !knows_shift(options))
-		return TAGS_BAD_SHIFT;
-	status = tags_library_open_cached(pool, &asked, options->cache,
-					  (options->flags & TAGS_KEEP_WHILE_HOLDING) != 0);
-	if (status == TAGS_OK)
-		status = hang_bell(pool, options);
+	tags_library_lock_handle(pool);
+	status = open_locked(pool, options);
+	tags_library_unlock_handle(pool);
 	errno = kept;
 	return status;
 }
@@ -137,26 +157,26 @@ int32_t tags_join(struct tags_pool *pool, struct tags_hand *hand, uint32_t flags
 		return TAGS_NULL;
 	if (&pool->full == &hand->full)
 		return hand->full ? TAGS_NOT_EMPTY : TAGS_BAD_HANDLE;
-	lock_handle(pool);
-	unsee();
-	status = unseen(tags_library_join(pool, hand, flags));
-	unlock_handle(pool);
-	TAGS_SEES(TAGS_MAX_TOTAL);
+	TAGS_DETAIL_MARK(hand);
+	tags_library_lock_handle(pool);
+	begin_hidden();
+	status = end_hidden(tags_library_join(pool, hand, flags));
 	if (status == TAGS_OK) {
 		hand->waits = pool->waits;
 		hand->place = take_place(tags_bell_of(pool->waits));
 	}
+	tags_library_unlock_handle(pool);
+	TAGS_DETAIL_SEES(TAGS_MAX_TOTAL);
 	errno = kept;
 	return status;
 }
 
-int32_t tags_leave(struct tags_hand *hand)
+int32_t tags_library_return_hand(struct tags_hand *hand)
 {
+	const struct tags_waits *waits = hand->waits;
 	int kept = errno;
 	int32_t status;
 
-	if (!hand)
-		return TAGS_NULL;
 	if (!hand->place)
 		return TAGS_BAD_HANDLE;
 	tags_library_cancel(hand);
@@ -164,9 +184,10 @@ int32_t tags_leave(struct tags_hand *hand)
 	give_up_place(tags_bell_of(hand->waits), hand->place);
 	hand->waits = NULL;
 	hand->place = NULL;
-	TAGS_SHOWS(TAGS_MAX_TOTAL);
-	unsee();
-	status = unseen(tags_library_leave(hand));
+	TAGS_DETAIL_SHOWS(TAGS_MAX_TOTAL);
+	begin_hidden();
+	status = end_hidden(tags_library_leave(hand));
+	tags_library_open_gate(waits);
 	errno = kept;
 	return status;
 }
@@ -178,14 +199,16 @@ int32_t tags_resize(struct tags_pool *pool, uint32_t total)
 
 	if (!pool)
 		return TAGS_NULL;
-	unsee();
-	status = unseen(tags_library_resize(pool, total));
-	TAGS_SEES(TAGS_MAX_TOTAL);
+	tags_library_lock_handle(pool);
+	begin_hidden();
+	status = end_hidden(tags_library_resize(pool, total));
 	if (status == TAGS_OK) {
 		struct bell *bell = tags_bell_of(pool->waits);
 
 		bell->depth = total - bell->reserved;
 	}
+	tags_library_unlock_handle(pool);
+	TAGS_DETAIL_SEES(TAGS_MAX_TOTAL);
 	errno = kept;
 	return status;
 }
@@ -197,13 +220,15 @@ int32_t tags_close(struct tags_pool *pool, struct tags_sums *sums)
 
 	if (!pool || !sums)
 		return TAGS_NULL;
-	unsee();
-	status = tags_filled(unseen(tags_library_close(pool, sums)), sums, sizeof(*sums));
-	TAGS_SEES(TAGS_MAX_TOTAL);
+	tags_library_lock_handle(pool);
+	begin_hidden();
+	status = tags_detail_filled(end_hidden(tags_library_close(pool, sums)), sums, sizeof(*sums));
 	if (status == TAGS_OK || status == TAGS_HAND_LOST) {
 		tags_library_free_bell(tags_bell_of(pool->waits));
 		pool->waits = NULL;
 	}
+	tags_library_unlock_handle(pool);
+	TAGS_DETAIL_SEES(TAGS_MAX_TOTAL);
 	errno = kept;
 	return status;
 }
@@ -218,42 +243,32 @@ int32_t tags_stop(struct tags_pool *pool)
 	return TAGS_OK;
 }
 
-/*
- * Reports
- */
-
-int32_t tags_pool_busy(struct tags_pool *pool, uint64_t *into, size_t words)
+int32_t tags_resume(struct tags_pool *pool)
 {
-	int32_t status;
-
-	if (!pool || !into)
+	if (!pool)
 		return TAGS_NULL;
-	lock_handle(pool);
-	status = tags_library_pool_busy(pool, into, words);
-	unlock_handle(pool);
-	return tags_filled(status, into, words * sizeof(*into));
+	if (!pool->waits || pool->place)
+		return TAGS_BAD_HANDLE;
+	tags_library_resume(pool->waits);
+	return TAGS_OK;
 }
 
-int32_t tags_pool_show(struct tags_pool *pool, uint32_t kind, struct tags_sizes *sizes)
+struct tags_waits *tags_library_waits_of(const struct tags_pool *pool)
 {
-	int32_t status;
+	struct tags_waits *waits;
 
-	if (!pool || !sizes)
-		return TAGS_NULL;
-	lock_handle(pool);
-	status = tags_library_pool_show(pool, kind, sizes);
-	unlock_handle(pool);
-	return tags_filled(status, sizes, sizeof(*sizes));
+	tags_library_lock_handle(pool);
+	waits = pool->place ? NULL : pool->waits;
+	tags_library_unlock_handle(pool);
+	return waits;
 }
 
-int32_t tags_pool_wakes(struct tags_pool *pool, struct tags_counts *counts)
+bool tags_library_is_stopped(const struct tags_pool *pool)
 {
-	int32_t status;
+	bool is_stopped;
 
-	if (!pool || !counts)
-		return TAGS_NULL;
-	lock_handle(pool);
-	status = tags_library_pool_wakes(pool, counts);
-	unlock_handle(pool);
-	return tags_filled(status, counts, sizeof(*counts));
+	tags_library_lock_handle(pool);
+	is_stopped = pool->waits && tags_load(&pool->waits->stopped) > 0;
+	tags_library_unlock_handle(pool);
+	return is_stopped;
 }

@@ -10,28 +10,37 @@
  * The library is proved: under every schedule of the threads no tag and no slot
  * ever has two holders, no call changes what another hand holds, and the sums
  * that tags_close() fills in balance. What is C in it, above all how those who wait
- * for a tag are woken, is tested and model-checked, not proved.
+ * for a tag are woken, is not proved: it is explored under every schedule of a few
+ * threads, and tested.
  *
  * Threads
- *   A handle is a struct tags_pool or a struct tags_hand. Only one call at a time
- *   may use it. It may move to another thread, if a mutex, pthread_join() or the
- *   like orders the two. The handle of a pool may be in any number of tags_join(),
- *   tags_stop() and reports at once. Different handles of one pool may be used at once, on
- *   any threads. Only tags_get_blocking() and tags_get_timed() block, and only
- *   tags_open(), tags_join() and tags_resize() allocate memory. Make no call from a
- *   signal handler, or in the forked child of a process with threads.
- *   Only the two calls that block are cancellation points, and only while they
- *   sleep: see tags_get_blocking(). Let no thread that has the cancellation type
+ *   A handle is a struct tags_pool or a struct tags_hand. A hand is in one call at a time.
+ *   It may move to another thread, if a mutex, pthread_join() or the like orders the two.
+ *   The handle of a pool may be in any number of calls at once, which take turns; but let
+ *   tags_stop(), tags_resume() and tags_drain() run beside neither tags_open() nor
+ *   tags_close(). A call beside tags_close() finds the pool open, or its handle empty.
+ *   Different handles of one pool may be used at once, on any threads. Only
+ *   tags_get_blocking(), tags_join_blocking(), tags_drain() and their timed forms sleep until
+ *   there is what they wait for. Any other call may wait for a lock, but only while another
+ *   call uses a pool's handle or changes the list of those who wait; and a call that
+ *   notifies an eventfd blocks on one that is full and not non-blocking. Only tags_open(),
+ *   tags_resize() and what joins allocate memory. Make no call from a signal handler, or in
+ *   the forked child of a process with threads.
+ *   A program that is compiled with the macro TAGS_CHECKED_HANDS ends, with a sentence, if a
+ *   call finds its hand in another call; the thread sanitizer reports that without it.
+ *   Only the calls that sleep are cancellation points, and only while they do:
+ *   see tags_get_blocking(). Let no thread that has the cancellation type
  *   PTHREAD_CANCEL_ASYNCHRONOUS make a call. Each call keeps errno.
  *
  * Waiting
  *   A thread sleeps in tags_get_blocking() or tags_get_timed() until it gets a tag; an
  *   event loop is notified by an eventfd, see tags_get_async(). Every call that makes
  *   ordinary tags free looks whether anybody waits, and tells as many as there are
- *   tags for. So nobody waits while a tag is free that no other thread is about to
- *   get. A thread must not sleep for a tag while it holds those that others wait for,
- *   nor be idle while it keeps them (see Caches). tags_stop() ends all waits. A program
- *   that sleeps by means of its own enters a wait group: see tags_prepare().
+ *   tags for; in a pool with a cache it may tell up to 64 more. So nobody waits while a
+ *   tag is free that no other thread is about to get. A thread must not sleep for a tag
+ *   while it holds those that others wait for, nor be idle while it keeps them (see
+ *   Caches). tags_stop() ends all waits. A program that sleeps by means of its own enters
+ *   a wait group: see tags_prepare().
  *
  * Caches
  *   In a pool with a cache, each hand keeps some of the ordinary tags that it gives
@@ -44,6 +53,11 @@
  *   the last tag that a hand got gives back all that it keeps, so a hand that keeps tags
  *   always has such a call to come. If threads wait for tags, set that flag, or give the
  *   pool at least 8 ordinary tags more than all its hands together may keep.
+ *
+ * Memory
+ *   A tag orders what its holders do. What a hand wrote before it gave a tag back or posted
+ *   it, to the slot or to memory of the program's such as an array with the tag as the index,
+ *   is seen by the hand that next gets or takes that tag.
  *
  * Arguments
  *   Each pointer must be NULL or point to an object of its type that overlaps no
@@ -68,25 +82,30 @@
 extern "C" {
 #endif
 
+/* The exports stay visible where a project hides what it doesn't name. */
+#ifdef __GNUC__
+#pragma GCC visibility push(default)
+#endif
+
 /** the version of this header */
 #define TAGS_VERSION_MAJOR 0
 #define TAGS_VERSION_MINOR 3
 
 /* Programs get the calls inline. The library defines both macros to export them, too. */
-#ifndef TAGS_CALL
-#define TAGS_CALL static inline
+#ifndef TAGS_DETAIL_CALL
+#define TAGS_DETAIL_CALL static inline
 #ifdef __GNUC__
-#define TAGS_CHECKED static inline __attribute__((warn_unused_result))
+#define TAGS_DETAIL_CHECKED static inline __attribute__((warn_unused_result))
 #else
-#define TAGS_CHECKED static inline
+#define TAGS_DETAIL_CHECKED static inline
 #endif
 #endif
 
 /* For a call that is not inline and whose result must not be ignored. */
 #ifdef __GNUC__
-#define TAGS_ANSWER __attribute__((warn_unused_result))
+#define TAGS_DETAIL_ANSWER __attribute__((warn_unused_result))
 #else
-#define TAGS_ANSWER
+#define TAGS_DETAIL_ANSWER
 #endif
 
 struct timespec;
@@ -107,7 +126,7 @@ enum tags_status {
 	TAGS_NOT_HELD = -3,
 	/** the tag is not posted, or another hand took it first */
 	TAGS_NOT_POSTED = -4,
-	/** a batch of 0 tags, or of more than the call allows, or an empty mask */
+	/** a batch of 0 tags, a list of more than TAGS_MAX_BATCH, or an empty mask */
 	TAGS_BAD_COUNT = -5,
 	/** a depth of 0, or one below the pool's min_shallow */
 	TAGS_TOO_SHALLOW = -6,
@@ -136,7 +155,7 @@ enum tags_status {
 	/** an unknown flag */
 	TAGS_BAD_FLAG = -18,
 	/** the pool has no room for the hand that leaves; this should never happen */
-	TAGS_NO_BERTH = -19,
+	TAGS_NO_ROOM = -19,
 	/** a hand was missing when the pool was closed or resized; this should never happen */
 	TAGS_HAND_LOST = -20,
 	/** out of memory */
@@ -149,10 +168,6 @@ enum tags_status {
 	TAGS_SHIFT_TOO_LARGE = -24,
 	/** 0 hands, or more than TAGS_MAX_HANDS */
 	TAGS_BAD_HAND_COUNT = -25,
-	/** a limit above 2^48 tags per hand; no call of this header sets one */
-	TAGS_LIFE_TOO_LONG = -26,
-	/** a limit above 2^56 completions per hand; no call of this header sets one */
-	TAGS_CAP_TOO_LARGE = -27,
 	/** a pointer is NULL */
 	TAGS_NULL = -28,
 	/** tags of the pool are held or posted */
@@ -194,6 +209,8 @@ struct tags_waits {
 	uint32_t waiting;
 	/** @stopped: 1 once tags_stop() was called */
 	uint32_t stopped;
+	/** @batch: the most tags that tags_get_batch() returns */
+	uint32_t batch;
 };
 
 /** struct tags_pool - a handle for a pool; it is empty if all its bytes are 0 */
@@ -202,8 +219,10 @@ struct tags_pool {
 	uint64_t full;
 	void *object;
 	struct tags_waits *waits;
-	/** @place: unused; both kinds of handles have the same fields */
+	/* unused; both kinds of handles have the same fields */
 	struct tags_waiter *place;
+	uint32_t in_call;
+	uint32_t mark;
 };
 
 /** struct tags_hand - a handle for a hand; it is empty if all its bytes are 0 */
@@ -213,6 +232,10 @@ struct tags_hand {
 	void *object;
 	struct tags_waits *waits;
 	struct tags_waiter *place;
+	/* 1 in a call that was compiled with TAGS_CHECKED_HANDS */
+	uint32_t in_call;
+	/* what each call writes under the thread sanitizer; always 0 */
+	uint32_t mark;
 };
 
 /** struct tags_grants - how many waiters a clear granted a wakeup */
@@ -227,8 +250,14 @@ struct tags_grants {
 #define TAGS_EMPTY {}
 #else
 /** initializer of an empty handle */
-#define TAGS_EMPTY { 0, 0, 0, 0 }
+#define TAGS_EMPTY { 0, 0, 0, 0, 0, 0 }
 #endif
+
+/**
+ * What @call returned, for a call that only a mistake of the program can have refused, such as a
+ * clear of a tag that was cleared before. Then it prints the call and the reason, and aborts.
+ */
+#define TAGS_MUST(call) tags_detail_must((call), #call)
 
 /** initializer of options: no tags and no hands, and the defaults for the rest */
 #define TAGS_OPTIONS_INIT { 0, 0, 0, 0, 0, 0, 0 }
@@ -367,7 +396,6 @@ int32_t tags_library_clear_mask_granted(struct tags_hand *hand, uint32_t first, 
 				       struct tags_grants *grants);
 int32_t tags_library_flush(struct tags_hand *hand);
 int32_t tags_library_flush_granted(struct tags_hand *hand, struct tags_grants *grants);
-int32_t tags_library_is_cached(struct tags_hand *hand);
 int32_t tags_library_get_write(struct tags_hand *hand, uint64_t value, uint64_t *left);
 int32_t tags_library_read_clear(struct tags_hand *hand, uint32_t tag, uint64_t *value);
 int32_t tags_library_read(struct tags_hand *hand, uint32_t tag, uint64_t *value);
@@ -391,6 +419,14 @@ int32_t tags_library_finish(struct tags_hand *hand);
 void tags_library_ring(struct tags_waits *waits, uint64_t freed);
 void tags_library_ring_kept(struct tags_hand *hand, uint64_t freed);
 int32_t tags_library_wait(struct tags_hand *hand);
+int32_t tags_library_get_timed(struct tags_hand *hand, int32_t clock,
+			       const struct timespec *deadline);
+int32_t tags_library_get_async(struct tags_hand *hand, int descriptor);
+int32_t tags_library_cancel_wait(struct tags_hand *hand);
+int32_t tags_library_return_hand(struct tags_hand *hand);
+/* End the program: a hand is in two calls, or a call of TAGS_MUST() was refused. */
+void tags_library_end_shared(void);
+void tags_library_end_refused(int32_t status, const char *call);
 
 /*
  * The thread sanitizer can't see the atomic steps of the library, which is not built with
@@ -399,30 +435,30 @@ int32_t tags_library_wait(struct tags_hand *hand);
  * the library report them if the program brings the sanitizer's functions.
  */
 #if defined __SANITIZE_THREAD__
-#define TAGS_SANITIZED 1
+#define TAGS_DETAIL_SANITIZED 1
 #elif defined __has_feature
 #if __has_feature(thread_sanitizer)
-#define TAGS_SANITIZED 1
+#define TAGS_DETAIL_SANITIZED 1
 #endif
 #endif
 
-#if defined TAGS_SANITIZED || defined TAGS_LIBRARY
+#if defined TAGS_DETAIL_SANITIZED || defined TAGS_LIBRARY
 /* an address for each tag, and one for hands */
 extern char tags_library_order[TAGS_MAX_TOTAL + 1];
 #ifdef TAGS_LIBRARY
 __attribute__((weak)) void __tsan_acquire(void *address);
 __attribute__((weak)) void __tsan_release(void *address);
-#define TAGS_SEES(at) (__tsan_acquire ? __tsan_acquire(&tags_library_order[at]) : (void)0)
-#define TAGS_SHOWS(at) (__tsan_release ? __tsan_release(&tags_library_order[at]) : (void)0)
+#define TAGS_DETAIL_SEES(at) (__tsan_acquire ? __tsan_acquire(&tags_library_order[at]) : (void)0)
+#define TAGS_DETAIL_SHOWS(at) (__tsan_release ? __tsan_release(&tags_library_order[at]) : (void)0)
 #else
 void __tsan_acquire(void *address);
 void __tsan_release(void *address);
-#define TAGS_SEES(at) __tsan_acquire(&tags_library_order[at])
-#define TAGS_SHOWS(at) __tsan_release(&tags_library_order[at])
+#define TAGS_DETAIL_SEES(at) __tsan_acquire(&tags_library_order[at])
+#define TAGS_DETAIL_SHOWS(at) __tsan_release(&tags_library_order[at])
 #endif
 #else
-#define TAGS_SEES(at) ((void)0)
-#define TAGS_SHOWS(at) ((void)0)
+#define TAGS_DETAIL_SEES(at) ((void)0)
+#define TAGS_DETAIL_SHOWS(at) ((void)0)
 #endif
 
 /*
@@ -431,62 +467,112 @@ void __tsan_release(void *address);
  */
 #if defined __has_feature
 #if __has_feature(memory_sanitizer)
-#define TAGS_MEMORY_SANITIZED 1
+#define TAGS_DETAIL_MEMORY_SANITIZED 1
 #endif
 #endif
 
 #ifdef TAGS_LIBRARY
 __attribute__((weak)) void __msan_unpoison(const volatile void *start, size_t size);
-#define TAGS_FILLED(start, size) (__msan_unpoison ? __msan_unpoison(start, size) : (void)0)
-#elif defined TAGS_MEMORY_SANITIZED
+#define TAGS_DETAIL_FILLED(start, size) (__msan_unpoison ? __msan_unpoison(start, size) : (void)0)
+#elif defined TAGS_DETAIL_MEMORY_SANITIZED
 void __msan_unpoison(const volatile void *start, size_t size);
-#define TAGS_FILLED(start, size) __msan_unpoison(start, size)
+#define TAGS_DETAIL_FILLED(start, size) __msan_unpoison(start, size)
 #else
-#define TAGS_FILLED(start, size) ((void)(start), (void)(size))
+#define TAGS_DETAIL_FILLED(start, size) ((void)(start), (void)(size))
 #endif
 
-static inline int32_t tags_filled(int32_t status, const void *start, size_t size)
+/*
+ * A hand is in one call at a time. Under the thread sanitizer each call writes a field of its
+ * hand, so that two threads on one hand are reported, with both stacks. In a program that is
+ * compiled with TAGS_CHECKED_HANDS, a call that finds its hand in another one ends the program.
+ */
+#ifdef TAGS_LIBRARY
+__attribute__((weak)) void __tsan_write4(void *address);
+#define TAGS_DETAIL_MARK(hand) (__tsan_write4 ? __tsan_write4(&(hand)->mark) : (void)0)
+#elif defined TAGS_DETAIL_SANITIZED
+static inline void tags_detail_mark(struct tags_hand *hand)
 {
-	if (status >= 0)
-		TAGS_FILLED(start, size);
+	volatile uint32_t *mark = &hand->mark;
+
+	*mark = 0;
+}
+#define TAGS_DETAIL_MARK(hand) tags_detail_mark(hand)
+#else
+#define TAGS_DETAIL_MARK(hand) ((void)0)
+#endif
+
+/* Begins a call, and returns its hand: there is none if that is NULL. */
+static inline struct tags_hand *tags_detail_begin(struct tags_hand *hand)
+{
+	if (!hand)
+		return hand;
+	TAGS_DETAIL_MARK(hand);
+#ifdef TAGS_CHECKED_HANDS
+	if (__atomic_exchange_n(&hand->in_call, 1, __ATOMIC_RELAXED))
+		tags_library_end_shared();
+#endif
+	return hand;
+}
+
+static inline int32_t tags_detail_end(struct tags_hand *hand, int32_t status)
+{
+#ifdef TAGS_CHECKED_HANDS
+	__atomic_store_n(&hand->in_call, 0, __ATOMIC_RELAXED);
+#else
+	(void)hand;
+#endif
 	return status;
 }
 
-static inline int32_t tags_granted(int32_t status, const struct tags_grants *grants)
+static inline int32_t tags_detail_filled(int32_t status, const void *start, size_t size)
 {
-	return tags_filled(status, grants, sizeof(*grants));
+	if (status >= 0)
+		TAGS_DETAIL_FILLED(start, size);
+	return status;
 }
 
-static inline int32_t tags_won(int32_t tag)
+/* The same at the end of a call. */
+static inline int32_t tags_detail_told(struct tags_hand *hand, int32_t status, const void *start,
+				       size_t size)
+{
+	return tags_detail_end(hand, tags_detail_filled(status, start, size));
+}
+
+static inline int32_t tags_detail_granted(int32_t status, const struct tags_grants *grants)
+{
+	return tags_detail_filled(status, grants, sizeof(*grants));
+}
+
+static inline int32_t tags_detail_won(int32_t tag)
 {
 	if (tag >= 0)
-		TAGS_SEES(tag);
+		TAGS_DETAIL_SEES(tag);
 	return tag;
 }
 
-static inline void tags_lost(uint32_t tag)
+static inline void tags_detail_lost(uint32_t tag)
 {
 	if (tag < TAGS_MAX_TOTAL)
-		TAGS_SHOWS(tag);
+		TAGS_DETAIL_SHOWS(tag);
 }
 
-static inline void tags_lost_all(const uint32_t *tags, size_t count)
+static inline void tags_detail_lost_all(const uint32_t *tags, size_t count)
 {
-#if defined TAGS_SANITIZED || defined TAGS_LIBRARY
+#if defined TAGS_DETAIL_SANITIZED || defined TAGS_LIBRARY
 	for (size_t i = 0; count <= TAGS_MAX_BATCH && i < count; i++)
-		tags_lost(tags[i]);
+		tags_detail_lost(tags[i]);
 #else
 	(void)tags;
 	(void)count;
 #endif
 }
 
-static inline void tags_lost_mask(uint32_t first, uint64_t mask)
+static inline void tags_detail_lost_mask(uint32_t first, uint64_t mask)
 {
-#if defined TAGS_SANITIZED || defined TAGS_LIBRARY
+#if defined TAGS_DETAIL_SANITIZED || defined TAGS_LIBRARY
 	for (uint32_t i = 0; first < TAGS_MAX_TOTAL && i < 64; i++)
 		if (mask >> i & 1)
-			tags_lost(first + i);
+			tags_detail_lost(first + i);
 #else
 	(void)first;
 	(void)mask;
@@ -495,40 +581,48 @@ static inline void tags_lost_mask(uint32_t first, uint64_t mask)
 
 /*
  * Whoever makes tags free looks afterwards whether anybody waits. The loads below do that.
- * They are sequentially consistent, as is each step of the library on its tags.
+ * They are sequentially consistent, as is each step of the library on its tags. With them a
+ * call ends.
  */
 
 /* After a get that returned @tag, and freed @left tags that it did not take. */
-static inline int32_t tags_swept(struct tags_hand *hand, int32_t tag, uint64_t left)
+static inline int32_t tags_detail_swept(struct tags_hand *hand, int32_t tag, uint64_t left)
 {
 	if (left > 0)
 		tags_library_ring(hand->waits, left);
-	return tags_won(tag);
+	return tags_detail_end(hand, tags_detail_won(tag));
 }
 
 /* After a call that gave @freed tags back, and may have kept others or given kept ones back. */
-static inline int32_t tags_gave(struct tags_hand *hand, int32_t status, uint64_t freed)
+static inline int32_t tags_detail_gave(struct tags_hand *hand, int32_t status, uint64_t freed)
 {
 	if (status >= 0 && __atomic_load_n(&hand->waits->waiting, __ATOMIC_SEQ_CST) > 0)
 		tags_library_ring_kept(hand, freed);
-	return status;
+	return tags_detail_end(hand, status);
 }
 
 /* The same for the tags of a mask, which are counted only if somebody waits. */
-static inline int32_t tags_gave_mask(struct tags_hand *hand, int32_t status, uint64_t mask)
+static inline int32_t tags_detail_gave_mask(struct tags_hand *hand, int32_t status, uint64_t mask)
 {
 	uint64_t freed = 0;
 
 	if (status < 0 || __atomic_load_n(&hand->waits->waiting, __ATOMIC_SEQ_CST) == 0)
-		return status;
+		return tags_detail_end(hand, status);
 	for (; mask; mask &= mask - 1)
 		freed++;
 	tags_library_ring_kept(hand, freed);
+	return tags_detail_end(hand, status);
+}
+
+static inline int32_t tags_detail_must(int32_t status, const char *call)
+{
+	if (status < 0)
+		tags_library_end_refused(status, call);
 	return status;
 }
 
 /* Whether tags_stop() ended the waits of the hand's pool. */
-static inline int tags_is_stopped(const struct tags_hand *hand)
+static inline int tags_detail_is_stopped(const struct tags_hand *hand)
 {
 	return hand->place && __atomic_load_n(&hand->waits->stopped, __ATOMIC_SEQ_CST) > 0;
 }
@@ -542,9 +636,9 @@ static inline int tags_is_stopped(const struct tags_hand *hand)
  * @pool: an empty handle
  * @options: its options
  *
- * All tags are free and all slots are 0. The pool allocates its memory here: about 83
- * bytes for each tag, 130 for each word, and for each hand 2 kilobytes and 8 bytes for each
- * word. tags_join() allocates some 550 bytes more.
+ * All tags are free and all slots are 0. The pool allocates its memory here: about
+ * 8.6 kB, 83 bytes for each tag, 130 for each word, and for each hand 1.9 kB and 8
+ * bytes for each word. tags_join() allocates some 540 bytes more.
  *
  * Return: TAGS_OK. Otherwise the first of TAGS_NOT_EMPTY, TAGS_BAD_FLAG,
  * TAGS_BAD_SHIFT, TAGS_CACHE_TOO_LARGE, TAGS_TOTAL_TOO_LARGE,
@@ -553,7 +647,7 @@ static inline int tags_is_stopped(const struct tags_hand *hand)
  *
  * Since: 0.1
  */
-TAGS_ANSWER int32_t tags_open(struct tags_pool *pool, const struct tags_options *options);
+TAGS_DETAIL_ANSWER int32_t tags_open(struct tags_pool *pool, const struct tags_options *options);
 
 /**
  * tags_join() - fill an empty handle with a hand of a pool
@@ -565,14 +659,54 @@ TAGS_ANSWER int32_t tags_open(struct tags_pool *pool, const struct tags_options 
  * the tags of its own, so that threads seldom meet on one word; with TAGS_STAY, where
  * its last get left off.
  *
- * Threads: several threads may join at once, each with an empty handle of its own.
+ * Threads: several threads may join at once, each with an empty handle of its own, also
+ * beside tags_resize() and tags_close().
  *
  * Return: TAGS_OK. Otherwise the first of TAGS_NOT_EMPTY, TAGS_BAD_HANDLE (of
  * @pool), TAGS_BAD_FLAG and TAGS_NO_HAND that applies, or TAGS_NO_MEMORY.
  *
  * Since: 0.1
  */
-TAGS_ANSWER int32_t tags_join(struct tags_pool *pool, struct tags_hand *hand, uint32_t flags);
+TAGS_DETAIL_ANSWER int32_t tags_join(struct tags_pool *pool, struct tags_hand *hand,
+				     uint32_t flags);
+
+/**
+ * tags_join_blocking() - fill an empty handle with a hand of a pool, and sleep while there is none
+ * @pool: the pool
+ * @hand: an empty handle
+ * @flags: 0, or TAGS_STAY
+ *
+ * As tags_join(), but while all hands are out it sleeps until one leaves. Whoever asks first
+ * then has it: those who sleep have no turns. So a program with more threads than hands needs
+ * no gate of its own. While it sleeps, and only then, it is a cancellation point. tags_stop()
+ * ends the sleep. Sleep for no hand while this thread has one that others wait for.
+ *
+ * Return: TAGS_OK, or TAGS_STOPPED if it would have to sleep and the pool was stopped.
+ * Otherwise as tags_join(), except TAGS_NO_HAND.
+ *
+ * Since: 0.3
+ */
+TAGS_DETAIL_ANSWER int32_t tags_join_blocking(struct tags_pool *pool, struct tags_hand *hand,
+					      uint32_t flags);
+
+/**
+ * tags_join_timed() - fill an empty handle with a hand of a pool, and sleep until a deadline while there is none
+ * @pool: the pool
+ * @hand: an empty handle
+ * @flags: 0, or TAGS_STAY
+ * @clock: CLOCK_MONOTONIC or CLOCK_REALTIME
+ * @deadline: when to give up, by that clock
+ *
+ * If the deadline has passed already, the call tries once or twice.
+ *
+ * Return: TAGS_OK. Otherwise TAGS_BAD_TIME, which is checked first: another clock, or
+ * nanoseconds outside 0 to 999,999,999; TAGS_TIMED_OUT; or as tags_join_blocking().
+ *
+ * Since: 0.3
+ */
+TAGS_DETAIL_ANSWER int32_t tags_join_timed(struct tags_pool *pool, struct tags_hand *hand,
+					   uint32_t flags, int32_t clock,
+					   const struct timespec *deadline);
 
 /**
  * tags_leave() - return a hand to its pool, and empty its handle
@@ -587,7 +721,12 @@ TAGS_ANSWER int32_t tags_join(struct tags_pool *pool, struct tags_hand *hand, ui
  *
  * Since: 0.1
  */
-int32_t tags_leave(struct tags_hand *hand);
+TAGS_DETAIL_CALL int32_t tags_leave(struct tags_hand *hand)
+{
+	if (!tags_detail_begin(hand))
+		return TAGS_NULL;
+	return tags_detail_end(hand, tags_library_return_hand(hand));
+}
 
 /**
  * tags_resize() - change the number of ordinary tags
@@ -599,7 +738,7 @@ int32_t tags_leave(struct tags_hand *hand);
  * options, so tags_close() returns the sums over the whole life of the pool.
  * Afterwards the threads join again.
  *
- * Threads: no other call may use the pool's handle meanwhile.
+ * Threads: a call that uses the pool's handle meanwhile waits for this one.
  *
  * Return: TAGS_OK. Otherwise the first of TAGS_BAD_HANDLE, TAGS_TOTAL_TOO_LARGE,
  * TAGS_RESERVED_TOO_LARGE (@total is below the number of reserved tags),
@@ -609,7 +748,7 @@ int32_t tags_leave(struct tags_hand *hand);
  *
  * Since: 0.1
  */
-TAGS_ANSWER int32_t tags_resize(struct tags_pool *pool, uint32_t total);
+TAGS_DETAIL_ANSWER int32_t tags_resize(struct tags_pool *pool, uint32_t total);
 
 /**
  * tags_stop() - end every wait for a tag, now and from now on
@@ -619,7 +758,8 @@ TAGS_ANSWER int32_t tags_resize(struct tags_pool *pool, uint32_t total);
  * are notified. From now on tags_get_blocking(), tags_get_timed() and tags_get_async()
  * return TAGS_STOPPED, even while a tag is free. A call that was waiting may still
  * return a tag. All other calls work as before, so that tags are given back and hands
- * leave; then tags_close() finds them. A pool stays stopped, also over a tags_resize().
+ * leave; then tags_close() finds them. A pool stays stopped, also over a tags_resize(),
+ * until tags_resume(). Threads that sleep for a hand wake up, too.
  *
  * Threads: this call may run beside any that uses the pool's handle, except tags_open()
  * and tags_close().
@@ -631,15 +771,66 @@ TAGS_ANSWER int32_t tags_resize(struct tags_pool *pool, uint32_t total);
 int32_t tags_stop(struct tags_pool *pool);
 
 /**
+ * tags_resume() - let waits for a tag begin again, after tags_stop()
+ * @pool: the pool
+ *
+ * Waits that the stop has ended stay ended. One that it has woken, but that has not yet looked,
+ * may find the pool resumed and wait on; so resume it once its waits have returned. As
+ * tags_stop(), it runs beside any call but tags_open() and tags_close().
+ *
+ * Return: TAGS_OK, or TAGS_BAD_HANDLE.
+ *
+ * Since: 0.3
+ */
+int32_t tags_resume(struct tags_pool *pool);
+
+/**
+ * tags_drain() - sleep until all tags of a pool are back
+ * @pool: the pool
+ *
+ * For a shutdown, and before a tags_resize(): until no tag of either set is held, posted, or
+ * kept in a cache. Have the threads get no more tags; tags_stop() ends those that wait for one,
+ * and not this call. A hand that keeps tags gives them back with its next clear, by tags_flush()
+ * or when it leaves. Where tags are still got, all of them need not have been back at any one
+ * moment. What was done with a tag before it went back is seen after this call. While it sleeps,
+ * and only then, it is a cancellation point.
+ *
+ * Threads: it may run beside any call that uses the pool's handle, except tags_open() and
+ * tags_close().
+ *
+ * Return: TAGS_OK, or TAGS_BAD_HANDLE.
+ *
+ * Since: 0.3
+ */
+TAGS_DETAIL_ANSWER int32_t tags_drain(struct tags_pool *pool);
+
+/**
+ * tags_drain_timed() - sleep until all tags of a pool are back, or until a deadline
+ * @pool: the pool
+ * @clock: CLOCK_MONOTONIC or CLOCK_REALTIME
+ * @deadline: when to give up, by that clock
+ *
+ * Return: TAGS_OK. Otherwise TAGS_BAD_TIME, which is checked first: another clock, or
+ * nanoseconds outside 0 to 999,999,999; TAGS_TIMED_OUT; or TAGS_BAD_HANDLE.
+ *
+ * Since: 0.3
+ */
+TAGS_DETAIL_ANSWER int32_t tags_drain_timed(struct tags_pool *pool, int32_t clock,
+					    const struct timespec *deadline);
+
+/**
  * tags_close() - close a pool whose hands have all left, and empty its handle
  * @pool: the pool
  * @sums: filled in with the sums over all hands
+ *
+ * Threads: a report or a tags_join() beside this call either comes first, or is refused with
+ * TAGS_BAD_HANDLE. The handle's memory has to stay until they have returned.
  *
  * Return: TAGS_OK, TAGS_BAD_HANDLE, or TAGS_HANDS_OUT.
  *
  * Since: 0.1
  */
-TAGS_ANSWER int32_t tags_close(struct tags_pool *pool, struct tags_sums *sums);
+TAGS_DETAIL_ANSWER int32_t tags_close(struct tags_pool *pool, struct tags_sums *sums);
 
 /*
  * Taking tags
@@ -658,15 +849,15 @@ TAGS_ANSWER int32_t tags_close(struct tags_pool *pool, struct tags_sums *sums);
  *
  * Since: 0.1
  */
-TAGS_CHECKED int32_t tags_get(struct tags_hand *hand)
+TAGS_DETAIL_CHECKED int32_t tags_get(struct tags_hand *hand)
 {
 	uint64_t left = 0;
 	int32_t tag;
 
-	if (!hand)
+	if (!tags_detail_begin(hand))
 		return TAGS_NULL;
 	tag = tags_library_get(hand, &left);
-	return tags_swept(hand, tag, left);
+	return tags_detail_swept(hand, tag, left);
 }
 
 /**
@@ -678,11 +869,11 @@ TAGS_CHECKED int32_t tags_get(struct tags_hand *hand)
  *
  * Since: 0.1
  */
-TAGS_CHECKED int32_t tags_get_reserved(struct tags_hand *hand)
+TAGS_DETAIL_CHECKED int32_t tags_get_reserved(struct tags_hand *hand)
 {
-	if (!hand)
+	if (!tags_detail_begin(hand))
 		return TAGS_NULL;
-	return tags_won(tags_library_get_reserved(hand));
+	return tags_detail_end(hand, tags_detail_won(tags_library_get_reserved(hand)));
 }
 
 /**
@@ -699,21 +890,21 @@ TAGS_CHECKED int32_t tags_get_reserved(struct tags_hand *hand)
  *
  * Since: 0.1
  */
-TAGS_CHECKED int32_t tags_get_shallow(struct tags_hand *hand, uint32_t depth)
+TAGS_DETAIL_CHECKED int32_t tags_get_shallow(struct tags_hand *hand, uint32_t depth)
 {
 	uint64_t left = 0;
 	int32_t tag;
 
-	if (!hand)
+	if (!tags_detail_begin(hand))
 		return TAGS_NULL;
 	tag = tags_library_get_shallow(hand, depth, &left);
-	return tags_swept(hand, tag, left);
+	return tags_detail_swept(hand, tag, left);
 }
 
 /**
  * tags_get_batch() - take up to @n ordinary tags out of a run of @n
  * @hand: the hand that gets the tags
- * @n: how many, from 1 to the number of tags per word
+ * @n: how many, at least 1; more than a word has is as many as it has, see tags_pool_batch()
  * @won: filled in with the mask of the tags won, if any
  *
  * If the call returns the tag t, bit i of the mask is 1 if the hand won the tag t + i.
@@ -722,26 +913,28 @@ TAGS_CHECKED int32_t tags_get_shallow(struct tags_hand *hand, uint32_t depth)
  * TAGS_ROUND_ROBIN there is never a batch.
  *
  * Return: the first tag of the run, or TAGS_NO_TAG. Otherwise TAGS_BAD_HANDLE,
- * TAGS_BAD_COUNT or TAGS_SPENT.
+ * TAGS_BAD_COUNT if @n is 0, or TAGS_SPENT.
  *
  * Since: 0.1
  */
-TAGS_CHECKED int32_t tags_get_batch(struct tags_hand *hand, uint32_t n, uint64_t *won)
+TAGS_DETAIL_CHECKED int32_t tags_get_batch(struct tags_hand *hand, uint32_t n, uint64_t *won)
 {
 	uint64_t left = 0;
 	int32_t first;
 
-	if (!hand || !won)
+	if (!won || !tags_detail_begin(hand))
 		return TAGS_NULL;
-	first = tags_filled(tags_library_get_batch(hand, n, won, &left), won, sizeof(*won));
+	if (hand->waits && n > hand->waits->batch)
+		n = hand->waits->batch;
+	first = tags_detail_filled(tags_library_get_batch(hand, n, won, &left), won, sizeof(*won));
 	if (left > 0)
 		tags_library_ring(hand->waits, left);
-#ifdef TAGS_SANITIZED
+#if defined TAGS_DETAIL_SANITIZED || defined TAGS_LIBRARY
 	for (int32_t i = 0; first >= 0 && i < 64; i++)
 		if (*won >> i & 1)
-			tags_won(first + i);
+			tags_detail_won(first + i);
 #endif
-	return first;
+	return tags_detail_end(hand, first);
 }
 
 /*
@@ -758,18 +951,21 @@ TAGS_CHECKED int32_t tags_get_batch(struct tags_hand *hand, uint32_t n, uint64_t
  * first gives its kept tags back if there is no room for this one. If it finds somebody
  * waiting, or a hand in a wait group, all kept tags go back with this tag.
  *
+ * A refusal is a mistake of the program, most often a request that completed twice, so the
+ * compiler warns if nobody looks: see TAGS_MUST().
+ *
  * Return: how many waiters were granted a wakeup, which is 0 unless some hand
  * is in a wait group. Otherwise TAGS_BAD_HANDLE, TAGS_NO_SUCH_TAG or
  * TAGS_NOT_HELD.
  *
  * Since: 0.1
  */
-TAGS_CALL int32_t tags_clear(struct tags_hand *hand, uint32_t tag)
+TAGS_DETAIL_CHECKED int32_t tags_clear(struct tags_hand *hand, uint32_t tag)
 {
-	if (!hand)
+	if (!tags_detail_begin(hand))
 		return TAGS_NULL;
-	tags_lost(tag);
-	return tags_gave(hand, tags_library_clear(hand, tag), 1);
+	tags_detail_lost(tag);
+	return tags_detail_gave(hand, tags_library_clear(hand, tag), 1);
 }
 
 /**
@@ -787,12 +983,13 @@ TAGS_CALL int32_t tags_clear(struct tags_hand *hand, uint32_t tag)
  *
  * Since: 0.1
  */
-TAGS_CALL int32_t tags_clear_batch(struct tags_hand *hand, const uint32_t *tags, size_t count)
+TAGS_DETAIL_CHECKED int32_t tags_clear_batch(struct tags_hand *hand, const uint32_t *tags,
+					  size_t count)
 {
-	if (!hand || !tags)
+	if (!tags || !tags_detail_begin(hand))
 		return TAGS_NULL;
-	tags_lost_all(tags, count);
-	return tags_gave(hand, tags_library_clear_batch(hand, tags, count), count);
+	tags_detail_lost_all(tags, count);
+	return tags_detail_gave(hand, tags_library_clear_batch(hand, tags, count), count);
 }
 
 /**
@@ -807,14 +1004,15 @@ TAGS_CALL int32_t tags_clear_batch(struct tags_hand *hand, const uint32_t *tags,
  *
  * Since: 0.2
  */
-TAGS_CALL int32_t tags_clear_granted(struct tags_hand *hand, uint32_t tag,
-				     struct tags_grants *grants)
+TAGS_DETAIL_CALL int32_t tags_clear_granted(struct tags_hand *hand, uint32_t tag,
+					    struct tags_grants *grants)
 {
-	if (!hand || !grants)
+	if (!grants || !tags_detail_begin(hand))
 		return TAGS_NULL;
-	tags_lost(tag);
-	return tags_gave(hand, tags_granted(tags_library_clear_granted(hand, tag, grants), grants),
-			 1);
+	tags_detail_lost(tag);
+	return tags_detail_gave(
+		hand, tags_detail_granted(tags_library_clear_granted(hand, tag, grants), grants),
+		1);
 }
 
 /**
@@ -828,16 +1026,17 @@ TAGS_CALL int32_t tags_clear_granted(struct tags_hand *hand, uint32_t tag,
  *
  * Since: 0.2
  */
-TAGS_CALL int32_t tags_clear_batch_granted(struct tags_hand *hand, const uint32_t *tags,
-					   size_t count, struct tags_grants *grants)
+TAGS_DETAIL_CALL int32_t tags_clear_batch_granted(struct tags_hand *hand, const uint32_t *tags,
+						  size_t count, struct tags_grants *grants)
 {
-	if (!hand || !tags || !grants)
+	if (!tags || !grants || !tags_detail_begin(hand))
 		return TAGS_NULL;
-	tags_lost_all(tags, count);
-	return tags_gave(hand,
-			 tags_granted(tags_library_clear_batch_granted(hand, tags, count, grants),
-				      grants),
-			 count);
+	tags_detail_lost_all(tags, count);
+	return tags_detail_gave(
+		hand,
+		tags_detail_granted(tags_library_clear_batch_granted(hand, tags, count, grants),
+				    grants),
+		count);
 }
 
 /**
@@ -854,14 +1053,14 @@ TAGS_CALL int32_t tags_clear_batch_granted(struct tags_hand *hand, const uint32_
  * for an empty mask, TAGS_NO_SUCH_TAG and TAGS_NOT_HELD that applies to any tag of
  * the mask; then no tag is given back.
  *
- * Since: 0.3; tags_clear_run() before
+ * Since: 0.3
  */
-TAGS_CALL int32_t tags_clear_mask(struct tags_hand *hand, uint32_t first, uint64_t mask)
+TAGS_DETAIL_CHECKED int32_t tags_clear_mask(struct tags_hand *hand, uint32_t first, uint64_t mask)
 {
-	if (!hand)
+	if (!tags_detail_begin(hand))
 		return TAGS_NULL;
-	tags_lost_mask(first, mask);
-	return tags_gave_mask(hand, tags_library_clear_mask(hand, first, mask), mask);
+	tags_detail_lost_mask(first, mask);
+	return tags_detail_gave_mask(hand, tags_library_clear_mask(hand, first, mask), mask);
 }
 
 /**
@@ -873,50 +1072,19 @@ TAGS_CALL int32_t tags_clear_mask(struct tags_hand *hand, uint32_t first, uint64
  *
  * Return: as tags_clear_mask().
  *
- * Since: 0.3; tags_clear_run_granted() before
+ * Since: 0.3
  */
-TAGS_CALL int32_t tags_clear_mask_granted(struct tags_hand *hand, uint32_t first, uint64_t mask,
-					  struct tags_grants *grants)
+TAGS_DETAIL_CALL int32_t tags_clear_mask_granted(struct tags_hand *hand, uint32_t first,
+						 uint64_t mask, struct tags_grants *grants)
 {
-	if (!hand || !grants)
+	if (!grants || !tags_detail_begin(hand))
 		return TAGS_NULL;
-	tags_lost_mask(first, mask);
-	return tags_gave_mask(hand,
-			     tags_granted(tags_library_clear_mask_granted(hand, first, mask, grants),
-					  grants),
-			     mask);
-}
-
-/**
- * tags_clear_run() - the former name of tags_clear_mask(), which the next version drops
- * @hand: the hand that holds the tags
- * @first: the tag of bit 0
- * @mask: bit i is 1 if the tag @first + i is given back
- *
- * Return: as tags_clear_mask().
- *
- * Since: 0.2
- */
-TAGS_CALL int32_t tags_clear_run(struct tags_hand *hand, uint32_t first, uint64_t mask)
-{
-	return tags_clear_mask(hand, first, mask);
-}
-
-/**
- * tags_clear_run_granted() - the former name of tags_clear_mask_granted(), which the next version drops
- * @hand: the hand that holds the tags
- * @first: the tag of bit 0
- * @mask: bit i is 1 if the tag @first + i is given back
- * @grants: filled in with how many waiters were granted a wakeup, in each group
- *
- * Return: as tags_clear_mask().
- *
- * Since: 0.2
- */
-TAGS_CALL int32_t tags_clear_run_granted(struct tags_hand *hand, uint32_t first, uint64_t mask,
-					 struct tags_grants *grants)
-{
-	return tags_clear_mask_granted(hand, first, mask, grants);
+	tags_detail_lost_mask(first, mask);
+	return tags_detail_gave_mask(
+		hand,
+		tags_detail_granted(tags_library_clear_mask_granted(hand, first, mask, grants),
+				    grants),
+		mask);
 }
 
 /**
@@ -931,11 +1099,11 @@ TAGS_CALL int32_t tags_clear_run_granted(struct tags_hand *hand, uint32_t first,
  *
  * Since: 0.2
  */
-TAGS_CALL int32_t tags_flush(struct tags_hand *hand)
+TAGS_DETAIL_CALL int32_t tags_flush(struct tags_hand *hand)
 {
-	if (!hand)
+	if (!tags_detail_begin(hand))
 		return TAGS_NULL;
-	return tags_gave(hand, tags_library_flush(hand), 0);
+	return tags_detail_gave(hand, tags_library_flush(hand), 0);
 }
 
 /**
@@ -947,11 +1115,12 @@ TAGS_CALL int32_t tags_flush(struct tags_hand *hand)
  *
  * Since: 0.2
  */
-TAGS_CALL int32_t tags_flush_granted(struct tags_hand *hand, struct tags_grants *grants)
+TAGS_DETAIL_CALL int32_t tags_flush_granted(struct tags_hand *hand, struct tags_grants *grants)
 {
-	if (!hand || !grants)
+	if (!grants || !tags_detail_begin(hand))
 		return TAGS_NULL;
-	return tags_gave(hand, tags_granted(tags_library_flush_granted(hand, grants), grants), 0);
+	return tags_detail_gave(
+		hand, tags_detail_granted(tags_library_flush_granted(hand, grants), grants), 0);
 }
 
 /*
@@ -967,15 +1136,15 @@ TAGS_CALL int32_t tags_flush_granted(struct tags_hand *hand, struct tags_grants 
  *
  * Since: 0.2
  */
-TAGS_CHECKED int32_t tags_get_write(struct tags_hand *hand, uint64_t value)
+TAGS_DETAIL_CHECKED int32_t tags_get_write(struct tags_hand *hand, uint64_t value)
 {
 	uint64_t left = 0;
 	int32_t tag;
 
-	if (!hand)
+	if (!tags_detail_begin(hand))
 		return TAGS_NULL;
 	tag = tags_library_get_write(hand, value, &left);
-	return tags_swept(hand, tag, left);
+	return tags_detail_swept(hand, tag, left);
 }
 
 /**
@@ -988,14 +1157,15 @@ TAGS_CHECKED int32_t tags_get_write(struct tags_hand *hand, uint64_t value)
  *
  * Since: 0.2
  */
-TAGS_CALL int32_t tags_read_clear(struct tags_hand *hand, uint32_t tag, uint64_t *value)
+TAGS_DETAIL_CHECKED int32_t tags_read_clear(struct tags_hand *hand, uint32_t tag, uint64_t *value)
 {
-	if (!hand || !value)
+	if (!value || !tags_detail_begin(hand))
 		return TAGS_NULL;
-	tags_lost(tag);
-	return tags_gave(hand, tags_filled(tags_library_read_clear(hand, tag, value), value,
-					   sizeof(*value)),
-			 1);
+	tags_detail_lost(tag);
+	return tags_detail_gave(hand,
+				tags_detail_filled(tags_library_read_clear(hand, tag, value), value,
+						   sizeof(*value)),
+				1);
 }
 
 /**
@@ -1008,11 +1178,11 @@ TAGS_CALL int32_t tags_read_clear(struct tags_hand *hand, uint32_t tag, uint64_t
  *
  * Since: 0.1
  */
-TAGS_CALL int32_t tags_read(struct tags_hand *hand, uint32_t tag, uint64_t *value)
+TAGS_DETAIL_CALL int32_t tags_read(struct tags_hand *hand, uint32_t tag, uint64_t *value)
 {
-	if (!hand || !value)
+	if (!value || !tags_detail_begin(hand))
 		return TAGS_NULL;
-	return tags_filled(tags_library_read(hand, tag, value), value, sizeof(*value));
+	return tags_detail_told(hand, tags_library_read(hand, tag, value), value, sizeof(*value));
 }
 
 /**
@@ -1026,16 +1196,17 @@ TAGS_CALL int32_t tags_read(struct tags_hand *hand, uint32_t tag, uint64_t *valu
  *
  * Since: 0.1
  */
-TAGS_CALL int32_t tags_write(struct tags_hand *hand, uint32_t tag, uint64_t value,
-			     uint64_t *former)
+TAGS_DETAIL_CALL int32_t tags_write(struct tags_hand *hand, uint32_t tag, uint64_t value,
+				    uint64_t *former)
 {
 	uint64_t unused;
 
-	if (!hand)
+	if (!tags_detail_begin(hand))
 		return TAGS_NULL;
 	if (!former)
 		former = &unused;
-	return tags_filled(tags_library_write(hand, tag, value, former), former, sizeof(*former));
+	return tags_detail_told(hand, tags_library_write(hand, tag, value, former), former,
+				sizeof(*former));
 }
 
 /**
@@ -1052,12 +1223,12 @@ TAGS_CALL int32_t tags_write(struct tags_hand *hand, uint32_t tag, uint64_t valu
  *
  * Since: 0.1
  */
-TAGS_CALL int32_t tags_post(struct tags_hand *hand, uint32_t tag)
+TAGS_DETAIL_CHECKED int32_t tags_post(struct tags_hand *hand, uint32_t tag)
 {
-	if (!hand)
+	if (!tags_detail_begin(hand))
 		return TAGS_NULL;
-	tags_lost(tag);
-	return tags_gave(hand, tags_library_post(hand, tag), 0);
+	tags_detail_lost(tag);
+	return tags_detail_gave(hand, tags_library_post(hand, tag), 0);
 }
 
 /**
@@ -1070,16 +1241,16 @@ TAGS_CALL int32_t tags_post(struct tags_hand *hand, uint32_t tag)
  *
  * Since: 0.1
  */
-TAGS_CHECKED int32_t tags_take(struct tags_hand *hand, uint32_t tag)
+TAGS_DETAIL_CHECKED int32_t tags_take(struct tags_hand *hand, uint32_t tag)
 {
 	int32_t status;
 
-	if (!hand)
+	if (!tags_detail_begin(hand))
 		return TAGS_NULL;
 	status = tags_library_take(hand, tag);
 	if (status == TAGS_OK && tag < TAGS_MAX_TOTAL)
-		TAGS_SEES(tag);
-	return status;
+		TAGS_DETAIL_SEES(tag);
+	return tags_detail_end(hand, status);
 }
 
 /**
@@ -1091,11 +1262,11 @@ TAGS_CHECKED int32_t tags_take(struct tags_hand *hand, uint32_t tag)
  *
  * Since: 0.1
  */
-TAGS_CHECKED int32_t tags_holds(struct tags_hand *hand, uint32_t tag)
+TAGS_DETAIL_CHECKED int32_t tags_holds(struct tags_hand *hand, uint32_t tag)
 {
-	if (!hand)
+	if (!tags_detail_begin(hand))
 		return TAGS_NULL;
-	return tags_library_holds(hand, tag);
+	return tags_detail_end(hand, tags_library_holds(hand, tag));
 }
 
 /*
@@ -1113,11 +1284,12 @@ TAGS_CHECKED int32_t tags_holds(struct tags_hand *hand, uint32_t tag)
  *
  * Since: 0.1
  */
-TAGS_CALL int32_t tags_busy(struct tags_hand *hand, uint64_t *into, size_t words)
+TAGS_DETAIL_CALL int32_t tags_busy(struct tags_hand *hand, uint64_t *into, size_t words)
 {
-	if (!hand || !into)
+	if (!into || !tags_detail_begin(hand))
 		return TAGS_NULL;
-	return tags_filled(tags_library_busy(hand, into, words), into, words * sizeof(*into));
+	return tags_detail_told(hand, tags_library_busy(hand, into, words), into,
+				words * sizeof(*into));
 }
 
 /**
@@ -1130,11 +1302,11 @@ TAGS_CALL int32_t tags_busy(struct tags_hand *hand, uint64_t *into, size_t words
  *
  * Since: 0.1
  */
-TAGS_CALL int32_t tags_show(struct tags_hand *hand, uint32_t kind, struct tags_sizes *sizes)
+TAGS_DETAIL_CALL int32_t tags_show(struct tags_hand *hand, uint32_t kind, struct tags_sizes *sizes)
 {
-	if (!hand || !sizes)
+	if (!sizes || !tags_detail_begin(hand))
 		return TAGS_NULL;
-	return tags_filled(tags_library_show(hand, kind, sizes), sizes, sizeof(*sizes));
+	return tags_detail_told(hand, tags_library_show(hand, kind, sizes), sizes, sizeof(*sizes));
 }
 
 /**
@@ -1146,16 +1318,17 @@ TAGS_CALL int32_t tags_show(struct tags_hand *hand, uint32_t kind, struct tags_s
  *
  * Since: 0.1
  */
-TAGS_CALL int32_t tags_wakes(struct tags_hand *hand, struct tags_counts *counts)
+TAGS_DETAIL_CALL int32_t tags_wakes(struct tags_hand *hand, struct tags_counts *counts)
 {
-	if (!hand || !counts)
+	if (!counts || !tags_detail_begin(hand))
 		return TAGS_NULL;
-	return tags_filled(tags_library_wakes(hand, counts), counts, sizeof(*counts));
+	return tags_detail_told(hand, tags_library_wakes(hand, counts), counts, sizeof(*counts));
 }
 
 /*
- * The same reports without a hand. What they tell is tested, and not proved but for the
- * limits that each call states.
+ * The same reports without a hand, at any time, also while all hands are out and beside
+ * tags_resize() and tags_close(). What they tell is tested, and not proved but for the limits
+ * that each call states.
  */
 
 /**
@@ -1164,7 +1337,7 @@ TAGS_CALL int32_t tags_wakes(struct tags_hand *hand, struct tags_counts *counts)
  * @into: bit t % 64 of into[t / 64] becomes 1 if tag t is busy, every other bit 0
  * @words: length of @into, at least a 64th of the pool's tags, rounded up
  *
- * As tags_busy(), at any time, also while all hands are out.
+ * As tags_busy(), at any time, also while all hands are out or another thread resizes the pool.
  *
  * Return: how many tags are busy, which is how many bits of @into are 1. Otherwise
  * TAGS_BAD_HANDLE or TAGS_TOO_SMALL.
@@ -1179,7 +1352,7 @@ int32_t tags_pool_busy(struct tags_pool *pool, uint64_t *into, size_t words);
  * @kind: TAGS_ORDINARY or TAGS_RESERVED
  * @sizes: filled in; @busy and @cleared are together at most @depth
  *
- * As tags_show(), at any time, also while all hands are out.
+ * As tags_show(), at any time, also while all hands are out or another thread resizes the pool.
  *
  * Return: TAGS_OK. Otherwise TAGS_BAD_HANDLE or TAGS_BAD_KIND.
  *
@@ -1192,7 +1365,7 @@ int32_t tags_pool_show(struct tags_pool *pool, uint32_t kind, struct tags_sizes 
  * @pool: the pool
  * @counts: filled in; @charged is at most @counted, and @index is below 8
  *
- * As tags_wakes(), at any time, also while all hands are out.
+ * As tags_wakes(), at any time, also while all hands are out or another thread resizes the pool.
  *
  * Return: TAGS_OK or TAGS_BAD_HANDLE.
  *
@@ -1200,11 +1373,37 @@ int32_t tags_pool_show(struct tags_pool *pool, uint32_t kind, struct tags_sizes 
  */
 int32_t tags_pool_wakes(struct tags_pool *pool, struct tags_counts *counts);
 
+/**
+ * tags_pool_total() - how many tags a pool has
+ * @pool: the pool
+ *
+ * At any time, also while all hands are out or another thread resizes the pool.
+ *
+ * Return: the number of tags, with the reserved ones, or TAGS_BAD_HANDLE.
+ *
+ * Since: 0.3
+ */
+int32_t tags_pool_total(struct tags_pool *pool);
+
+/**
+ * tags_pool_batch() - the most tags that one tags_get_batch() of a pool returns
+ * @pool: the pool
+ *
+ * That is the number of tags per word, which stays the same over tags_resize().
+ *
+ * Return: the number, 1 to 64, or TAGS_BAD_HANDLE.
+ *
+ * Since: 0.3
+ */
+int32_t tags_pool_batch(struct tags_pool *pool);
+
 /*
  * Waiting for an ordinary tag. Whoever makes tags free tells those who wait, as many as
  * there are tags for: each tag tells one of the threads that sleep and one of the hands
- * that wait for an eventfd, each time the one that has waited longest. That is tested
- * and model-checked, not proved.
+ * that wait for an eventfd, each time the one that has waited longest. In a pool with a
+ * cache a call that gives tags back may tell up to 64 more, though never more than the pool
+ * has tags, since how many kept tags went back is not known. All this is explored under
+ * every schedule of a few threads, and tested, not proved.
  */
 
 /**
@@ -1221,16 +1420,19 @@ int32_t tags_pool_wakes(struct tags_pool *pool, struct tags_counts *counts);
  *
  * Since: 0.1
  */
-TAGS_CHECKED int32_t tags_get_blocking(struct tags_hand *hand)
+TAGS_DETAIL_CHECKED int32_t tags_get_blocking(struct tags_hand *hand)
 {
 	int32_t tag;
 
 	if (!hand)
 		return TAGS_NULL;
-	if (tags_is_stopped(hand))
+	if (tags_detail_is_stopped(hand))
 		return TAGS_STOPPED;
 	tag = tags_get(hand);
-	return tag == TAGS_NO_TAG ? tags_library_wait(hand) : tag;
+	if (tag != TAGS_NO_TAG)
+		return tag;
+	tags_detail_begin(hand);
+	return tags_detail_end(hand, tags_library_wait(hand));
 }
 
 /**
@@ -1248,8 +1450,13 @@ TAGS_CHECKED int32_t tags_get_blocking(struct tags_hand *hand)
  *
  * Since: 0.2
  */
-TAGS_ANSWER int32_t tags_get_timed(struct tags_hand *hand, int32_t clock,
-				   const struct timespec *deadline);
+TAGS_DETAIL_CHECKED int32_t tags_get_timed(struct tags_hand *hand, int32_t clock,
+					   const struct timespec *deadline)
+{
+	if (!deadline || !tags_detail_begin(hand))
+		return TAGS_NULL;
+	return tags_detail_end(hand, tags_library_get_timed(hand, clock, deadline));
+}
 
 /**
  * tags_get_async() - take a free ordinary tag, or be notified by an eventfd when to try again
@@ -1267,7 +1474,8 @@ TAGS_ANSWER int32_t tags_get_timed(struct tags_hand *hand, int32_t clock,
  * soon, or cancel.
  *
  * Once the wait has ended nothing is written to the eventfd, so the program may close it.
- * Make it non-blocking, so that no thread that gives a tag back can block on it.
+ * Make it non-blocking, so that no thread that gives a tag back can block on it. If it was
+ * closed while the hand waits, the next hand is notified in its place.
  *
  * Return: the tag, or TAGS_NO_TAG. Otherwise, with the hand not waiting: TAGS_BAD_HANDLE,
  * TAGS_BAD_EVENT, TAGS_STOPPED, TAGS_SPENT, TAGS_NO_SUCH_TAG if the pool has no
@@ -1275,7 +1483,12 @@ TAGS_ANSWER int32_t tags_get_timed(struct tags_hand *hand, int32_t clock,
  *
  * Since: 0.2
  */
-TAGS_ANSWER int32_t tags_get_async(struct tags_hand *hand, int descriptor);
+TAGS_DETAIL_CHECKED int32_t tags_get_async(struct tags_hand *hand, int descriptor)
+{
+	if (!tags_detail_begin(hand))
+		return TAGS_NULL;
+	return tags_detail_end(hand, tags_library_get_async(hand, descriptor));
+}
 
 /**
  * tags_cancel() - end a wait that tags_get_async() began
@@ -1287,7 +1500,12 @@ TAGS_ANSWER int32_t tags_get_async(struct tags_hand *hand, int descriptor);
  *
  * Since: 0.2
  */
-int32_t tags_cancel(struct tags_hand *hand);
+TAGS_DETAIL_CALL int32_t tags_cancel(struct tags_hand *hand)
+{
+	if (!tags_detail_begin(hand))
+		return TAGS_NULL;
+	return tags_detail_end(hand, tags_library_cancel_wait(hand));
+}
 
 /*
  * Waiting by other means
@@ -1300,19 +1518,19 @@ int32_t tags_cancel(struct tags_hand *hand);
  * From now on each clear of an ordinary tag is counted as a completion. Try
  * tags_get() once more before you sleep: a clear just before may not have been
  * counted. What the hand keeps in a cache goes back first, and those who wait are told.
- * A get can make tags free too, and grants no wakeup for them. So limit your sleep: now
- * and then a tag is free all the while, and nothing ends it. Waits by
- * tags_get_blocking() and tags_get_async() are told of such tags.
+ * A get can make tags free too, and grants no wakeup for them. So limit your sleep, which
+ * nothing else may end although a tag is free. Waits by tags_get_blocking() and
+ * tags_get_async() are told of such tags.
  *
  * Return: the group, below 8. Otherwise TAGS_BAD_HANDLE or TAGS_WAITING.
  *
  * Since: 0.1
  */
-TAGS_CHECKED int32_t tags_prepare(struct tags_hand *hand)
+TAGS_DETAIL_CHECKED int32_t tags_prepare(struct tags_hand *hand)
 {
-	if (!hand)
+	if (!tags_detail_begin(hand))
 		return TAGS_NULL;
-	return tags_gave(hand, tags_library_prepare(hand), 0);
+	return tags_detail_gave(hand, tags_library_prepare(hand), 0);
 }
 
 /**
@@ -1325,11 +1543,11 @@ TAGS_CHECKED int32_t tags_prepare(struct tags_hand *hand)
  *
  * Since: 0.1
  */
-TAGS_CALL int32_t tags_finish(struct tags_hand *hand)
+TAGS_DETAIL_CALL int32_t tags_finish(struct tags_hand *hand)
 {
-	if (!hand)
+	if (!tags_detail_begin(hand))
 		return TAGS_NULL;
-	return tags_library_finish(hand);
+	return tags_detail_end(hand, tags_library_finish(hand));
 }
 
 /*
@@ -1346,6 +1564,10 @@ TAGS_CALL int32_t tags_finish(struct tags_hand *hand)
  * Since: 0.1
  */
 const char *tags_strerror(int32_t status);
+
+#ifdef __GNUC__
+#pragma GCC visibility pop
+#endif
 
 #ifdef __cplusplus
 }

@@ -41,11 +41,11 @@
  *   start of a thread or the like orders the two.
  *
  * Cancellation
- *   get_blocking(), try_get_for() and try_get_until() are cancellation points while they sleep,
- *   and none of the forms that sleep is noexcept. With glibc pthread_cancel() unwinds the
- *   stack: destructors run, so the thread's tags go back and its hand leaves. Code that is
- *   compiled without exceptions runs no destructors then: the tags stay held, and the hand
- *   out. Cancel no thread there; pool::stop() ends its wait.
+ *   What sleeps is a cancellation point while it does: get_blocking(), join_blocking(), drain()
+ *   and the forms of them that begin with try. None of those that sleep is noexcept. With glibc
+ *   pthread_cancel() unwinds the stack: destructors run, so the thread's tags go back and its
+ *   hand leaves. Code that is compiled without exceptions runs no destructors then: the tags
+ *   stay held, and the hand out. Cancel no thread there; pool::stop() ends its wait.
  */
 #ifndef TAGS_HPP
 #define TAGS_HPP
@@ -55,13 +55,13 @@
 #include <atomic>
 #include <cassert>
 #include <chrono>
+#include <climits>
 #include <cstddef>
 #include <cstdint>
 #include <cstdio>
 #include <ctime>
 #include <exception>
 #include <memory>
-#include <mutex>
 #include <new>
 #include <optional>
 #include <string>
@@ -71,6 +71,10 @@
 
 #if defined __cpp_impl_coroutine && __has_include(<coroutine>)
 #include <coroutine>
+#include <unistd.h>
+#if __has_include(<stop_token>)
+#include <stop_token>
+#endif
 #endif
 
 #ifdef __cpp_exceptions
@@ -106,15 +110,13 @@ enum class errc : std::int32_t {
 	bad_kind = TAGS_BAD_KIND,
 	too_small = TAGS_TOO_SMALL,
 	bad_flag = TAGS_BAD_FLAG,
-	no_berth = TAGS_NO_BERTH,
+	no_room = TAGS_NO_ROOM,
 	hand_lost = TAGS_HAND_LOST,
 	no_memory = TAGS_NO_MEMORY,
 	total_too_large = TAGS_TOTAL_TOO_LARGE,
 	reserved_too_large = TAGS_RESERVED_TOO_LARGE,
 	shift_too_large = TAGS_SHIFT_TOO_LARGE,
 	bad_hand_count = TAGS_BAD_HAND_COUNT,
-	life_too_long = TAGS_LIFE_TOO_LONG,
-	cap_too_large = TAGS_CAP_TOO_LARGE,
 	null = TAGS_NULL,
 	in_use = TAGS_IN_USE,
 	hands_wait = TAGS_HANDS_WAIT,
@@ -229,13 +231,18 @@ inline void expect(std::int32_t status) noexcept
 		give_up("a tag was given back by other means than its object");
 }
 
+/// A number that no other pool of the program has; pools may follow each other at one address.
+TAGS_VISIBLE inline std::uint64_t next_pool() noexcept
+{
+	static std::atomic<std::uint64_t> last{0};
+	return last.fetch_add(1, std::memory_order_relaxed) + 1;
+}
+
 /// What a pool shares with its hands. It lives until the pool and all its hands are gone.
 struct opened {
 	tags_pool handle = TAGS_EMPTY;
-	/// Only one call at a time may use the handle, and the sizes change by one of them.
-	std::mutex lock;
-	std::uint32_t total = 0;
 	std::uint32_t reserved = 0;
+	const std::uint64_t number = next_pool();
 	std::atomic<std::uint32_t> owners{1};
 
 	void hold() noexcept { owners.fetch_add(1, std::memory_order_relaxed); }
@@ -257,8 +264,11 @@ struct joined {
 
 	tags_hand handle = TAGS_EMPTY;
 	opened *pool = nullptr;
-	/// The listeners and waits that point to it.
+	/// The listener and the waits that point to it.
 	std::uint32_t users = 0;
+	bool has_listener = false;
+	/// Whether it waits by hand::get_async().
+	bool is_async = false;
 	/// A bit for each tag that the hand holds and for which there is no object.
 	std::uint64_t loose[words] = {};
 
@@ -363,41 +373,107 @@ inline std::timespec moment(std::int64_t since_epoch) noexcept
 	return time;
 }
 
-inline std::int32_t get_timed(joined *hand, std::int32_t clock, std::int64_t since_epoch)
+/// Tries once, and looks at the clock only if that is in vain. `wait(clock, deadline)` is a call of
+/// tags.h with a deadline.
+template <class Wait>
+std::int32_t wait_for(const Wait &wait, std::int64_t time)
 {
-	const std::timespec deadline = moment(since_epoch);
-	return tags_get_timed(raw(hand), clock, &deadline);
-}
-
-/// Tries once, and looks at the clock only if that finds no tag.
-inline std::int32_t get_for(joined *hand, std::int64_t time)
-{
-	const std::int32_t answer = get_timed(hand, CLOCK_MONOTONIC, 0);
+	const std::int32_t answer = wait(CLOCK_MONOTONIC, moment(0));
 	if (answer != TAGS_TIMED_OUT || time <= 0)
 		return answer;
 	const std::int64_t now = nanoseconds(std::chrono::steady_clock::now().time_since_epoch());
-	return get_timed(hand, CLOCK_MONOTONIC, time < longest - now ? now + time : longest);
+	return wait(CLOCK_MONOTONIC, moment(time < longest - now ? now + time : longest));
 }
 
-template <class Clock, class Duration>
-std::int32_t get_until(joined *hand, const std::chrono::time_point<Clock, Duration> &deadline)
+template <class Wait, class Clock, class Duration>
+std::int32_t wait_until(const Wait &wait, const std::chrono::time_point<Clock, Duration> &deadline)
 {
 	const std::int64_t end = nanoseconds(deadline.time_since_epoch());
 	if constexpr (std::is_same_v<Clock, std::chrono::steady_clock>) {
-		return get_timed(hand, CLOCK_MONOTONIC, end);
+		return wait(CLOCK_MONOTONIC, moment(end));
 	} else if constexpr (std::is_same_v<Clock, std::chrono::system_clock>) {
-		return get_timed(hand, CLOCK_REALTIME, end);
+		return wait(CLOCK_REALTIME, moment(end));
 	} else {
 		// Nothing is known of how fast another clock goes, so it is looked at again.
 		for (;;) {
 			const std::int64_t left =
 				difference(nanoseconds(Clock::now().time_since_epoch()), end);
-			const std::int32_t answer = get_for(hand, left);
+			const std::int32_t answer = wait_for(wait, left);
 			if (answer != TAGS_TIMED_OUT || left <= 0)
 				return answer;
 		}
 	}
 }
+
+/// Waits for a tag with this hand.
+struct for_tag {
+	joined *hand;
+
+	std::int32_t operator()(std::int32_t clock, const std::timespec &deadline) const
+	{
+		return tags_get_timed(raw(hand), clock, &deadline);
+	}
+};
+
+/// Waits for a hand of a pool.
+struct for_hand {
+	tags_pool *from;
+	tags_hand *into;
+
+	std::int32_t operator()(std::int32_t clock, const std::timespec &deadline) const
+	{
+		return tags_join_timed(from, into, 0, clock, &deadline);
+	}
+};
+
+/*
+ * The ways to join.
+ */
+struct join_now {
+	std::uint32_t flags;
+
+	std::int32_t operator()(tags_pool *from, tags_hand *into) const noexcept
+	{
+		return tags_join(from, into, flags);
+	}
+};
+
+struct join_asleep {
+	std::int32_t operator()(tags_pool *from, tags_hand *into) const
+	{
+		return tags_join_blocking(from, into, 0);
+	}
+};
+
+template <class Time>
+struct join_for {
+	Time time;
+
+	std::int32_t operator()(tags_pool *from, tags_hand *into) const
+	{
+		return wait_for(for_hand{from, into}, nanoseconds(time));
+	}
+};
+
+template <class Moment>
+struct join_until {
+	Moment deadline;
+
+	std::int32_t operator()(tags_pool *from, tags_hand *into) const
+	{
+		return wait_until(for_hand{from, into}, deadline);
+	}
+};
+
+/// Waits until all tags of a pool are back.
+struct for_all_tags {
+	tags_pool *pool;
+
+	std::int32_t operator()(std::int32_t clock, const std::timespec &deadline) const
+	{
+		return tags_drain_timed(pool, clock, &deadline);
+	}
+};
 
 } // namespace detail
 
@@ -553,7 +629,9 @@ public:
 	}
 
 	/// Offers the tag, with its slot and what lies beside it, to all hands of the pool, and
-	/// returns its number: the first hand that takes it gets it. The object is empty then.
+	/// returns its number: the first hand that takes it gets it. The object is empty then, so
+	/// take a reference to the value beside it before: until the number is passed on nobody
+	/// takes the tag, and the value is this thread's.
 	///
 	/// Errors: bad_handle.
 	std::uint32_t post()
@@ -693,6 +771,12 @@ public:
 		return static_cast<std::size_t>(__builtin_popcountll(mask_));
 	}
 
+	/// Whether the tag with this number is one of them.
+	bool has(std::uint32_t number) const noexcept
+	{
+		return number - first_ < 64 && (mask_ >> (number - first_) & 1) != 0;
+	}
+
 	/// Gives all tags back now. Whoever waits for a tag is told.
 	void clear() noexcept
 	{
@@ -722,6 +806,9 @@ private:
 	{
 		return static_cast<std::uint32_t>(__builtin_ctzll(bits));
 	}
+
+	template <class T>
+	friend class values;
 
 	detail::joined *hand_ = nullptr;
 	std::uint32_t first_ = 0;
@@ -851,11 +938,11 @@ public:
 		return found(state_, tags_get_shallow(raw(), depth));
 	}
 
-	/// Takes up to n ordinary tags out of a run of n, where n is 1 to the number of tags per
-	/// word. The batch can be smaller than n, even while more tags are free. No batch: as from
-	/// get(); and always in a pool with round_robin.
+	/// Takes up to n ordinary tags out of a run of n; if a word has fewer, out of as many as it
+	/// has: see pool::batch_limit(). The batch can be smaller than n, even while more tags are
+	/// free. No batch: as from get(); and always in a pool with round_robin.
 	///
-	/// Errors: bad_handle, bad_count, spent.
+	/// Errors: bad_handle, spent; bad_count for an n of 0.
 	[[nodiscard]] std::optional<batch> get_batch(std::uint32_t n)
 	{
 		std::uint64_t won = 0;
@@ -867,7 +954,7 @@ public:
 
 	/// Takes a free ordinary tag, and sleeps while there is none. Don't sleep while this thread
 	/// holds the tags that others wait for, nor while it keeps them. That a sleeper is woken is
-	/// tested and model-checked, not proved. While it sleeps it is a cancellation point.
+	/// explored and tested, not proved. While it sleeps it is a cancellation point.
 	///
 	/// Errors: bad_handle, spent, stopped; no_such_tag if the pool has no ordinary tag; waiting
 	/// if it would have to sleep and the hand waits already, by a wait, get_async() or a
@@ -887,7 +974,8 @@ public:
 	template <class Rep, class Period>
 	[[nodiscard]] std::optional<tag> try_get_for(const std::chrono::duration<Rep, Period> &time)
 	{
-		return found_in_time(state_, detail::get_for(state_, detail::nanoseconds(time)));
+		return found_in_time(state_, detail::wait_for(detail::for_tag{state_},
+							      detail::nanoseconds(time)));
 	}
 
 	/// Takes a free ordinary tag, and sleeps until this moment while there is none. No tag: the
@@ -901,7 +989,7 @@ public:
 	[[nodiscard]] std::optional<tag>
 	try_get_until(const std::chrono::time_point<Clock, Duration> &deadline)
 	{
-		return found_in_time(state_, detail::get_until(state_, deadline));
+		return found_in_time(state_, detail::wait_until(detail::for_tag{state_}, deadline));
 	}
 
 	/// Takes a free ordinary tag, or has an eventfd of the program's notified of when to try
@@ -1058,15 +1146,15 @@ public:
 	[[nodiscard]] std::optional<tag> try_get_for(const std::chrono::duration<Rep, Period> &time,
 						     std::error_code &ec)
 	{
-		return found_in_time(state_, detail::get_for(state_, detail::nanoseconds(time)),
-				     ec);
+		return found_in_time(
+			state_, detail::wait_for(detail::for_tag{state_}, detail::nanoseconds(time)), ec);
 	}
 
 	template <class Clock, class Duration>
 	[[nodiscard]] std::optional<tag>
 	try_get_until(const std::chrono::time_point<Clock, Duration> &deadline, std::error_code &ec)
 	{
-		return found_in_time(state_, detail::get_until(state_, deadline), ec);
+		return found_in_time(state_, detail::wait_until(detail::for_tag{state_}, deadline), ec);
 	}
 
 	[[nodiscard]] std::optional<tag> get_async(int eventfd, std::error_code &ec) noexcept
@@ -1166,15 +1254,22 @@ private:
 
 	std::int32_t async(int eventfd) noexcept
 	{
-		if (state_ != nullptr && state_->users > 0)
+		if (state_ == nullptr)
+			return TAGS_BAD_HANDLE;
+		if (state_->users > 0)
 			return TAGS_WAITING;
-		return tags_get_async(raw(), eventfd);
+		const std::int32_t answer = tags_get_async(raw(), eventfd);
+		state_->is_async = answer == TAGS_NO_TAG;
+		return answer;
 	}
 
 	std::int32_t try_cancel() noexcept
 	{
-		if (state_ != nullptr && state_->users > 0)
+		if (state_ == nullptr)
+			return TAGS_BAD_HANDLE;
+		if (state_->users > 0)
 			return TAGS_WAITING;
+		state_->is_async = false;
 		return tags_cancel(raw());
 	}
 
@@ -1293,17 +1388,20 @@ public:
 	explicit operator bool() const noexcept { return shared_ != nullptr; }
 
 	/// Number of tags, including the reserved ones; 0 if it is empty.
-	std::uint32_t total() const noexcept { return sized().first; }
+	std::uint32_t total() const noexcept { return counted(tags_pool_total(raw())); }
 
 	/// Number of reserved tags: 0 to reserved() - 1; 0 if it is empty.
-	std::uint32_t reserved() const noexcept { return sized().second; }
-
-	/// For the calls of tags.h: NULL if it is empty. No other thread may call this pool
-	/// meanwhile. Neither resize nor close it by them.
-	tags_pool *native_handle() noexcept
+	std::uint32_t reserved() const noexcept
 	{
-		return shared_ != nullptr ? &shared_->handle : nullptr;
+		return shared_ != nullptr ? shared_->reserved : 0;
 	}
+
+	/// The most tags that one hand::get_batch() returns: as many as a word has, also after a
+	/// resize; 0 if it is empty.
+	std::uint32_t batch_limit() const noexcept { return counted(tags_pool_batch(raw())); }
+
+	/// For the calls of tags.h: NULL if it is empty. Do not close it by them.
+	tags_pool *native_handle() noexcept { return raw(); }
 
 #ifdef TAGS_THROWS
 	/// Opens a pool. All tags are free, and all slots are 0.
@@ -1321,6 +1419,71 @@ public:
 	/// The same, but the hand's next get starts where its last one left off, or at tag 0.
 	[[nodiscard]] hand join_in_place() { return joined_by(TAGS_STAY); }
 
+	/// Returns a hand for one thread, and sleeps while all hands are out. Whoever asks first once
+	/// one has left has it. Don't sleep while this thread has a hand that others wait for. While
+	/// it sleeps it is a cancellation point.
+	///
+	/// Errors: bad_handle, no_memory; stopped if it would have to sleep in a pool that was
+	/// stopped.
+	[[nodiscard]] hand join_blocking()
+	{
+		hand made;
+		detail::check(try_join_by(made, detail::join_asleep{}));
+		return made;
+	}
+
+	/// The same, for at most this long, by std::chrono::steady_clock. No hand: the time is up.
+	///
+	/// Errors: as of join_blocking().
+	template <class Rep, class Period>
+	[[nodiscard]] std::optional<hand> try_join_for(const std::chrono::duration<Rep, Period> &time)
+	{
+		hand made;
+		const detail::join_for<std::chrono::duration<Rep, Period>> join{time};
+		const std::int32_t status = try_join_by(made, join);
+		return joined_in_time(std::move(made), status);
+	}
+
+	/// The same, until this moment of any clock, as of hand::try_get_until().
+	///
+	/// Errors: as of join_blocking().
+	template <class Clock, class Duration>
+	[[nodiscard]] std::optional<hand>
+	try_join_until(const std::chrono::time_point<Clock, Duration> &deadline)
+	{
+		hand made;
+		const detail::join_until<std::chrono::time_point<Clock, Duration>> join{deadline};
+		const std::int32_t status = try_join_by(made, join);
+		return joined_in_time(std::move(made), status);
+	}
+
+	/// Sleeps until all tags are back: none of either set is held, posted, or kept in a cache.
+	/// For a shutdown and before a resize, when threads get no more tags; see tags_drain(). While
+	/// it sleeps it is a cancellation point.
+	///
+	/// Errors: bad_handle.
+	void drain() { detail::check(tags_drain(raw())); }
+
+	/// The same, for at most this long. Returns whether all tags are back.
+	///
+	/// Errors: bad_handle.
+	template <class Rep, class Period>
+	[[nodiscard]] bool try_drain_for(const std::chrono::duration<Rep, Period> &time)
+	{
+		return in_time(detail::wait_for(detail::for_all_tags{raw()},
+						detail::nanoseconds(time)));
+	}
+
+	/// The same, until this moment of any clock. Returns whether all tags are back.
+	///
+	/// Errors: bad_handle.
+	template <class Clock, class Duration>
+	[[nodiscard]] bool
+	try_drain_until(const std::chrono::time_point<Clock, Duration> &deadline)
+	{
+		return in_time(detail::wait_until(detail::for_all_tags{raw()}, deadline));
+	}
+
 	/// Changes the number of tags to this, as many of them reserved as before, once all hands
 	/// have left. The ordinary tags are new, with slots of 0; the reserved tags and the totals
 	/// stay.
@@ -1335,6 +1498,43 @@ public:
 	///
 	/// Errors: bad_handle.
 	void stop() { detail::check(try_stop()); }
+
+	/// Lets waits for a tag begin again after stop(). Waits that it has ended stay ended. One that it has woken, but that
+	/// has not yet looked, may find the pool resumed and wait on.
+	///
+	/// Errors: bad_handle.
+	void resume() { detail::check(tags_resume(raw())); }
+
+	/// Reports which tags of both sets are busy, as hand::busy() does, but without a hand: at
+	/// any time, also while all hands are out or another thread resizes the pool.
+	///
+	/// Errors: bad_handle, too_small.
+	std::uint32_t busy(std::uint64_t *into, std::size_t words) const
+	{
+		const std::int32_t answer = try_busy(into, words);
+		detail::check(answer);
+		return static_cast<std::uint32_t>(answer);
+	}
+
+	/// Reports the sizes of a set of tags, and how many of them are busy, without a hand.
+	///
+	/// Errors: bad_handle.
+	sizes show(kind of) const
+	{
+		sizes made = {};
+		detail::check(tags_pool_show(raw(), static_cast<std::uint32_t>(of), &made));
+		return made;
+	}
+
+	/// Reports the counts of completions and of waiters, without a hand.
+	///
+	/// Errors: bad_handle.
+	counts wakes() const
+	{
+		counts made = {};
+		detail::check(tags_pool_wakes(raw(), &made));
+		return made;
+	}
 
 	/// Closes the pool once all hands have left, and returns its totals: how many tags were
 	/// got and went back, and how many are held by hands that left, or posted. The object is
@@ -1365,12 +1565,83 @@ public:
 		return made;
 	}
 
+	// The forms that sleep are not noexcept, as those of a hand.
+
+	[[nodiscard]] hand join_blocking(std::error_code &ec)
+	{
+		hand made;
+		detail::note(try_join_by(made, detail::join_asleep{}), ec);
+		return made;
+	}
+
+	template <class Rep, class Period>
+	[[nodiscard]] std::optional<hand> try_join_for(const std::chrono::duration<Rep, Period> &time,
+						       std::error_code &ec)
+	{
+		hand made;
+		const detail::join_for<std::chrono::duration<Rep, Period>> join{time};
+		const std::int32_t status = try_join_by(made, join);
+		return joined_in_time(std::move(made), status, ec);
+	}
+
+	template <class Clock, class Duration>
+	[[nodiscard]] std::optional<hand>
+	try_join_until(const std::chrono::time_point<Clock, Duration> &deadline, std::error_code &ec)
+	{
+		hand made;
+		const detail::join_until<std::chrono::time_point<Clock, Duration>> join{deadline};
+		const std::int32_t status = try_join_by(made, join);
+		return joined_in_time(std::move(made), status, ec);
+	}
+
+	void drain(std::error_code &ec) { detail::note(tags_drain(raw()), ec); }
+
+	template <class Rep, class Period>
+	[[nodiscard]] bool try_drain_for(const std::chrono::duration<Rep, Period> &time,
+					 std::error_code &ec)
+	{
+		return in_time(detail::wait_for(detail::for_all_tags{raw()},
+						detail::nanoseconds(time)),
+			       ec);
+	}
+
+	template <class Clock, class Duration>
+	[[nodiscard]] bool
+	try_drain_until(const std::chrono::time_point<Clock, Duration> &deadline, std::error_code &ec)
+	{
+		return in_time(detail::wait_until(detail::for_all_tags{raw()}, deadline), ec);
+	}
+
 	void resize(std::uint32_t total, std::error_code &ec) noexcept
 	{
 		detail::note(try_resize(total), ec);
 	}
 
+	void resume(std::error_code &ec) noexcept { detail::note(tags_resume(raw()), ec); }
+
 	void stop(std::error_code &ec) noexcept { detail::note(try_stop(), ec); }
+
+	std::uint32_t busy(std::uint64_t *into, std::size_t words,
+			   std::error_code &ec) const noexcept
+	{
+		const std::int32_t answer = try_busy(into, words);
+		detail::note(answer, ec);
+		return counted(answer);
+	}
+
+	sizes show(kind of, std::error_code &ec) const noexcept
+	{
+		sizes made = {};
+		detail::note(tags_pool_show(raw(), static_cast<std::uint32_t>(of), &made), ec);
+		return made;
+	}
+
+	counts wakes(std::error_code &ec) const noexcept
+	{
+		counts made = {};
+		detail::note(tags_pool_wakes(raw(), &made), ec);
+		return made;
+	}
 
 	totals close(std::error_code &ec) noexcept
 	{
@@ -1380,8 +1651,6 @@ public:
 	}
 
 private:
-	using locked = std::lock_guard<std::mutex>;
-
 	template <class T>
 	friend class values;
 
@@ -1403,7 +1672,6 @@ private:
 		const std::int32_t status = tags_open(&made->handle, &native);
 		if (status != TAGS_OK)
 			return status;
-		made->total = asked.total;
 		made->reserved = asked.reserved;
 		shared_ = made.release();
 		return TAGS_OK;
@@ -1411,18 +1679,21 @@ private:
 
 	std::int32_t try_join(hand &made, std::uint32_t flags) noexcept
 	{
+		return try_join_by(made, detail::join_now{flags});
+	}
+
+	/// Joins by a call of tags.h. A thread that is cancelled in it unwinds.
+	template <class Join>
+	std::int32_t try_join_by(hand &made, const Join &join)
+	{
 		if (shared_ == nullptr)
 			return TAGS_BAD_HANDLE;
 		std::unique_ptr<detail::joined> state(new (std::nothrow) detail::joined);
 		if (!state)
 			return TAGS_NO_MEMORY;
-		{
-			const locked lock(shared_->lock);
-			const std::int32_t status =
-				tags_join(&shared_->handle, &state->handle, flags);
-			if (status != TAGS_OK)
-				return status;
-		}
+		const std::int32_t status = join(&shared_->handle, &state->handle);
+		if (status != TAGS_OK)
+			return status;
 		shared_->hold();
 		state->pool = shared_;
 		state->find_loose();
@@ -1430,45 +1701,71 @@ private:
 		return TAGS_OK;
 	}
 
+	static std::optional<hand> joined_in_time(hand made, std::int32_t status,
+						  std::error_code &ec) noexcept
+	{
+		if (!in_time(status, ec))
+			return std::nullopt;
+		return std::optional<hand>(std::move(made));
+	}
+
+	/// Whether a wait has ended as it should. That it took too long is no error.
+	static bool in_time(std::int32_t status, std::error_code &ec) noexcept
+	{
+		detail::note(status == TAGS_TIMED_OUT ? TAGS_OK : status, ec);
+		return status >= 0;
+	}
+
+#ifdef TAGS_THROWS
+	static std::optional<hand> joined_in_time(hand made, std::int32_t status)
+	{
+		if (!in_time(status))
+			return std::nullopt;
+		return std::optional<hand>(std::move(made));
+	}
+
+	static bool in_time(std::int32_t status)
+	{
+		if (status != TAGS_TIMED_OUT)
+			detail::check(status);
+		return status >= 0;
+	}
+#endif
+
 	std::int32_t try_resize(std::uint32_t total) noexcept
 	{
-		if (shared_ == nullptr)
-			return TAGS_BAD_HANDLE;
-		const locked lock(shared_->lock);
-		const std::int32_t status = tags_resize(&shared_->handle, total);
-		if (status == TAGS_OK)
-			shared_->total = total;
-		return status;
+		return tags_resize(raw(), total);
 	}
 
 	std::int32_t try_stop() noexcept
 	{
-		if (shared_ == nullptr)
-			return TAGS_BAD_HANDLE;
-		const locked lock(shared_->lock);
-		return tags_stop(&shared_->handle);
+		return tags_stop(raw());
+	}
+
+	std::int32_t try_busy(std::uint64_t *into, std::size_t words) const noexcept
+	{
+		if (shared_ != nullptr && into == nullptr)
+			return TAGS_TOO_SMALL;
+		return tags_pool_busy(raw(), into, words);
 	}
 
 	std::int32_t try_close(totals &sums) noexcept
 	{
-		if (shared_ == nullptr)
-			return TAGS_BAD_HANDLE;
-		std::int32_t status;
-		{
-			const locked lock(shared_->lock);
-			status = tags_close(&shared_->handle, &sums);
-		}
+		const std::int32_t status = tags_close(raw(), &sums);
 		if (status == TAGS_OK)
 			end();
 		return status;
 	}
 
-	std::pair<std::uint32_t, std::uint32_t> sized() const noexcept
+	tags_pool *raw() const noexcept
 	{
-		if (shared_ == nullptr)
-			return {0, 0};
-		const locked lock(shared_->lock);
-		return {shared_->total, shared_->reserved};
+		return shared_ != nullptr ? &shared_->handle : nullptr;
+	}
+
+	/// What a call returned, or 0 of an empty pool.
+	static std::uint32_t counted(std::int32_t answer) noexcept
+	{
+		return answer < 0 ? 0 : static_cast<std::uint32_t>(answer);
 	}
 
 	void end() noexcept
@@ -1523,14 +1820,25 @@ public:
 		detail::check(fill(of, 0, make));
 	}
 
-	/// The value beside a tag.
+	/// The value beside a tag. Everything is checked, always.
 	///
-	/// Errors: no_such_tag if the tag is empty, or one of another pool.
+	/// Errors: no_such_tag if the tag is empty, one of another pool, or not below size(), as
+	/// after pool::resize() without resize().
 	T &at(const tag &held) const
 	{
 		if (!has(held))
 			detail::fail(TAGS_NO_SUCH_TAG);
 		return values_[held.number_];
+	}
+
+	/// The value beside one of the tags of a batch.
+	///
+	/// Errors: no_such_tag as for a tag, or if the batch does not have it.
+	T &at(const batch &held, std::uint32_t number) const
+	{
+		if (!has(held, number))
+			detail::fail(TAGS_NO_SUCH_TAG);
+		return values_[number];
 	}
 
 	/// After pool::resize(): makes new values for the ordinary tags. The reserved tags keep
@@ -1565,6 +1873,13 @@ public:
 		return is_here ? &values_[held.number_] : nullptr;
 	}
 
+	T *at(const batch &held, std::uint32_t number, std::error_code &ec) const noexcept
+	{
+		const bool is_here = has(held, number);
+		detail::note(is_here ? TAGS_OK : TAGS_NO_SUCH_TAG, ec);
+		return is_here ? &values_[number] : nullptr;
+	}
+
 	void resize(const pool &of, std::error_code &ec) { resize(of, &none, ec); }
 
 	template <class Make>
@@ -1573,14 +1888,16 @@ public:
 		detail::note(refill(of, make), ec);
 	}
 
-	/// The value beside a tag of this pool. Nothing is checked but by assert().
+	/// The value beside a tag. It has to be a tag of the pool that the values were made for, and
+	/// below size(): anything else is undefined behaviour, unless assert() is compiled in, which
+	/// then ends the program. at() checks the same without it.
 	T &operator[](const tag &held) const noexcept
 	{
 		assert(has(held));
 		return values_[held.number_];
 	}
 
-	/// How many values there are: the pool's total when they were made.
+	/// How many values there are: the pool's total when they were made or resized.
 	std::size_t size() const noexcept { return to_; }
 
 	void swap(values &other) noexcept
@@ -1596,7 +1913,13 @@ private:
 
 	bool has(const tag &held) const noexcept
 	{
-		return held.hand_ != nullptr && held.hand_->pool == pool_ && held.number_ < to_;
+		return held.hand_ != nullptr && held.hand_->pool->number == pool_ &&
+		       held.number_ < to_;
+	}
+
+	bool has(const batch &held, std::uint32_t number) const noexcept
+	{
+		return held.has(number) && held.hand_->pool->number == pool_ && number < to_;
 	}
 
 	/// Makes the values from this tag on.
@@ -1612,7 +1935,7 @@ private:
 			::operator new(total * sizeof(T), alignment, std::nothrow));
 		if (made.values_ == nullptr)
 			return TAGS_NO_MEMORY;
-		made.pool_ = of.shared_;
+		made.pool_ = of.shared_->number;
 		made.from_ = from;
 		for (made.to_ = from; made.to_ < total; made.to_++)
 			::new (static_cast<void *>(made.values_ + made.to_)) T(make(made.to_));
@@ -1625,7 +1948,7 @@ private:
 	{
 		static_assert(std::is_nothrow_move_constructible_v<T>,
 			      "the values of reserved tags are moved: make a new object instead");
-		if (of.shared_ != nullptr && of.shared_ != pool_)
+		if (of.shared_ != nullptr && of.shared_->number != pool_)
 			return TAGS_NO_SUCH_TAG;
 		values made;
 		const std::int32_t status = made.fill(of, of.reserved(), make);
@@ -1640,8 +1963,8 @@ private:
 		return TAGS_OK;
 	}
 
-	/// The pool, to tell its tags from others; nothing is called on it.
-	const detail::opened *pool_ = nullptr;
+	/// The number of the pool, which tells its tags from others.
+	std::uint64_t pool_ = 0;
 	T *values_ = nullptr;
 	/// Those that have been made: all, except while they are made.
 	std::uint32_t from_ = 0;
@@ -1656,11 +1979,63 @@ private:
 /* for programs to test */
 #define TAGS_HAS_COROUTINES 1
 
+namespace detail {
+
+#ifdef __cpp_lib_jthread
+using stop_token = std::stop_token;
+
+/// Has the event loop look, on whichever thread a stop is requested.
+struct notifier {
+	int eventfd;
+
+	void operator()() const noexcept
+	{
+		const std::uint64_t one = 1;
+		[[maybe_unused]] const auto written = ::write(eventfd, &one, sizeof(one));
+	}
+};
+
+using stop_callback = std::stop_callback<notifier>;
+#else
+struct stop_token {
+	bool stop_requested() const noexcept { return false; }
+};
+#endif
+
+/// When a coroutine waits no longer.
+struct limit {
+	/// By std::chrono::steady_clock; the longest is never.
+	std::int64_t deadline = longest;
+	stop_token token = {};
+
+	static std::int64_t now() noexcept
+	{
+		return nanoseconds(std::chrono::steady_clock::now().time_since_epoch());
+	}
+
+	static std::int64_t after(std::int64_t time) noexcept
+	{
+		const std::int64_t from = now();
+		return time < longest - from ? from + time : longest;
+	}
+
+	bool is_over() const noexcept
+	{
+		return token.stop_requested() || (deadline != longest && now() >= deadline);
+	}
+};
+
+} // namespace detail
+
 /// The coroutines that wait for tags of one hand, in the order in which their waits began:
 /// co_await listener.get() is a tag. It asks this of the program's event loop: when the eventfd
 /// that the listener was made with is readable, read it and call resume(), soon, on each listener
 /// that was made with it. The eventfd stays the program's, which makes it non-blocking and closes
 /// it after the listener.
+///
+/// A hand waits for one listener at a time, since it has one place among those who wait: while it
+/// has a listener, or waits by hand::get_async(), each get() of another one is refused with
+/// waiting. Make a listener for each hand; several may share an eventfd.
 ///
 /// A listener is used by one thread at a time, as its hand is, and coroutines are resumed on the
 /// thread that calls resume(). A coroutine that is destroyed while it waits waits no more: if it
@@ -1707,17 +2082,34 @@ public:
 		{
 			if (listener_->waiting_.is_alone())
 				set(listener_->try_or_wait());
+			if (answer_ == TAGS_NO_TAG && limit_.is_over()) {
+				answer_ = TAGS_TIMED_OUT;
+				listener_->end_wait();
+			}
 			return answer_ != TAGS_NO_TAG;
 		}
 
-		void await_suspend(std::coroutine_handle<> coroutine) noexcept
+		void await_suspend(std::coroutine_handle<> coroutine)
 		{
 			coroutine_ = coroutine;
 			put_before(listener_->waiting_);
+#ifdef __cpp_lib_jthread
+			if (limit_.token.stop_possible())
+				callback_.emplace(limit_.token,
+						  detail::notifier{listener_->eventfd_});
+#endif
 		}
 
 	protected:
-		explicit waiter(listener *from) noexcept : listener_(from) {}
+		waiter(listener *from, detail::limit limit) noexcept
+			: listener_(from), limit_(std::move(limit))
+		{}
+
+		/// What the wait is told as: that it was limited is no error.
+		std::int32_t status() const noexcept
+		{
+			return answer_ == TAGS_TIMED_OUT ? TAGS_OK : answer_;
+		}
 
 		~waiter()
 		{
@@ -1741,7 +2133,11 @@ public:
 		}
 
 		listener *listener_;
+		detail::limit limit_;
 		std::coroutine_handle<> coroutine_;
+#ifdef __cpp_lib_jthread
+		std::optional<detail::stop_callback> callback_;
+#endif
 	};
 
 #ifdef TAGS_THROWS
@@ -1750,14 +2146,16 @@ public:
 	public:
 		tag await_resume()
 		{
-			detail::check(answer_);
+			detail::check(status());
 			return std::move(tag_);
 		}
 
 	private:
 		friend class listener;
 
-		explicit awaiter(listener *from) noexcept : waiter(from) {}
+		awaiter(listener *from, detail::limit limit) noexcept
+			: waiter(from, std::move(limit))
+		{}
 	};
 #endif
 
@@ -1766,53 +2164,146 @@ public:
 	public:
 		tag await_resume() noexcept
 		{
-			detail::note(answer_, code_);
+			detail::note(status(), code_);
 			return std::move(tag_);
 		}
 
 	private:
 		friend class listener;
 
-		awaiter_with_code(listener *from, std::error_code &ec) noexcept
-			: waiter(from), code_(ec)
+		awaiter_with_code(listener *from, detail::limit limit, std::error_code &ec) noexcept
+			: waiter(from, std::move(limit)), code_(ec)
 		{}
 
 		std::error_code &code_;
 	};
 
-	/// The coroutines wait with this hand, and the eventfd is notified.
-	listener(hand &with, int eventfd) noexcept : hand_(with.state_), eventfd_(eventfd)
+	/// The coroutines wait with this hand, and the eventfd is notified. If the hand has a
+	/// listener already, or waits by hand::get_async(), each get() is refused with waiting.
+	listener(hand &with, int eventfd) noexcept
+		: hand_(with.state_), eventfd_(eventfd),
+		  is_second_(hand_ != nullptr && (hand_->has_listener || hand_->is_async))
 	{
-		if (hand_ != nullptr)
-			hand_->users++;
+		if (hand_ == nullptr || is_second_)
+			return;
+		hand_->has_listener = true;
+		hand_->users++;
 	}
 
 	listener(const listener &) = delete;
 	listener &operator=(const listener &) = delete;
 
+	/// Whether each get() is refused with waiting, because the hand waited for another listener
+	/// or by hand::get_async() when this one was made.
+	bool is_refused() const noexcept { return is_second_; }
+
 	~listener()
 	{
 		if (!waiting_.is_alone() || !ready_.is_alone())
 			detail::give_up("a listener was destroyed while a coroutine waits");
-		if (hand_ != nullptr)
-			hand_->users--;
+		if (hand_ == nullptr || is_second_)
+			return;
+		hand_->has_listener = false;
+		hand_->users--;
 	}
 
 #ifdef TAGS_THROWS
 	/// Takes a free ordinary tag when it is awaited, and suspends the coroutine while there is
 	/// none or others wait already.
 	///
-	/// Errors: as of hand::get_async(), except waiting: if the hand waits by prepare().
-	awaiter get() noexcept { return awaiter(this); }
+	/// Errors: as of hand::get_async(), except waiting: if the hand waits by prepare(), or had
+	/// another listener or waited by get_async() when this one was made.
+	///
+	/// With a std::stop_token the tag is empty if a stop was requested, on whichever thread,
+	/// before there was one: the request notifies the eventfd, and the coroutine goes on by the
+	/// next resume().
+	awaiter get(detail::stop_token token = {}) noexcept
+	{
+		return {this, {detail::longest, std::move(token)}};
+	}
+
+	/// The same, for at most this long by std::chrono::steady_clock: the tag is empty if the time
+	/// is up or a stop was requested. The coroutine goes on by the first resume() after that, so
+	/// wait for events no longer than timeout().
+	///
+	/// Errors: as of get().
+	template <class Rep, class Period>
+	awaiter get_for(const std::chrono::duration<Rep, Period> &time,
+			detail::stop_token token = {}) noexcept
+	{
+		const std::int64_t end = detail::limit::after(detail::nanoseconds(time));
+		return {this, {end, std::move(token)}};
+	}
+
+	/// The same, until this moment.
+	///
+	/// Errors: as of get().
+	awaiter get_until(std::chrono::steady_clock::time_point deadline,
+			  detail::stop_token token = {}) noexcept
+	{
+		return {this, {detail::nanoseconds(deadline.time_since_epoch()), std::move(token)}};
+	}
 #endif
 
 	/// The same: ec is set to the error or cleared, and the tag is empty if there is an error.
 	/// ec has to live until the coroutine goes on.
-	awaiter_with_code get(std::error_code &ec) noexcept { return {this, ec}; }
+	awaiter_with_code get(std::error_code &ec) noexcept { return {this, {}, ec}; }
 
-	/// Resumes the coroutines for which there is a tag or an error, in the order of their
-	/// waits. If one of them lets an exception out, it comes out here: call this again for the
-	/// others.
+	awaiter_with_code get(detail::stop_token token, std::error_code &ec) noexcept
+	{
+		return {this, {detail::longest, std::move(token)}, ec};
+	}
+
+	template <class Rep, class Period>
+	awaiter_with_code get_for(const std::chrono::duration<Rep, Period> &time,
+				  std::error_code &ec) noexcept
+	{
+		return get_for(time, {}, ec);
+	}
+
+	template <class Rep, class Period>
+	awaiter_with_code get_for(const std::chrono::duration<Rep, Period> &time,
+				  detail::stop_token token, std::error_code &ec) noexcept
+	{
+		const std::int64_t end = detail::limit::after(detail::nanoseconds(time));
+		return {this, {end, std::move(token)}, ec};
+	}
+
+	awaiter_with_code get_until(std::chrono::steady_clock::time_point deadline,
+				    std::error_code &ec) noexcept
+	{
+		return get_until(deadline, {}, ec);
+	}
+
+	awaiter_with_code get_until(std::chrono::steady_clock::time_point deadline,
+				    detail::stop_token token, std::error_code &ec) noexcept
+	{
+		const std::int64_t end = detail::nanoseconds(deadline.time_since_epoch());
+		return {this, {end, std::move(token)}, ec};
+	}
+
+	/// For poll() and its like: how many milliseconds, rounded up, until resume() has to be called
+	/// for a coroutine whose time is up; -1 if none has a limit in time.
+	int timeout() const noexcept
+	{
+		std::int64_t first = detail::longest;
+		for (const link *at = waiting_.next; at != &waiting_; at = at->next) {
+			const std::int64_t end = static_cast<const waiter *>(at)->limit_.deadline;
+			first = end < first ? end : first;
+		}
+		if (first == detail::longest)
+			return -1;
+		constexpr std::int64_t millisecond = 1000000;
+		const std::int64_t left = detail::difference(detail::limit::now(), first);
+		if (left <= 0)
+			return 0;
+		const std::int64_t rounded = (left + millisecond - 1) / millisecond;
+		return rounded < INT_MAX ? static_cast<int>(rounded) : INT_MAX;
+	}
+
+	/// Resumes the coroutines for which there is a tag or an error, in the order of their waits,
+	/// and then those whose limit has passed. If one of them lets an exception out, it comes out
+	/// here: call this again for the others.
 	void resume()
 	{
 		// All of them are taken out first, so that whatever a coroutine does, the hand
@@ -1826,6 +2317,7 @@ public:
 			first.take_out();
 			first.put_before(ready_);
 		}
+		end_limited();
 		while (!ready_.is_alone()) {
 			waiter &first = static_cast<waiter &>(*ready_.next);
 			first.take_out();
@@ -1834,7 +2326,28 @@ public:
 	}
 
 private:
-	std::int32_t try_or_wait() noexcept { return tags_get_async(detail::raw(hand_), eventfd_); }
+	std::int32_t try_or_wait() noexcept
+	{
+		return is_second_ ? TAGS_WAITING : tags_get_async(detail::raw(hand_), eventfd_);
+	}
+
+	/// Takes out those whose limit has passed.
+	void end_limited() noexcept
+	{
+		bool is_any = false;
+		for (link *at = waiting_.next; at != &waiting_;) {
+			waiter &it = static_cast<waiter &>(*at);
+			at = at->next;
+			if (!it.limit_.is_over())
+				continue;
+			it.set(TAGS_TIMED_OUT);
+			it.take_out();
+			it.put_before(ready_);
+			is_any = true;
+		}
+		if (is_any)
+			end_wait();
+	}
 
 	/// After a waiter was taken out.
 	void end_wait() noexcept
@@ -1845,6 +2358,8 @@ private:
 
 	detail::joined *hand_;
 	int eventfd_;
+	/// Whether the hand waited for another when this one was made.
+	bool is_second_;
 	link waiting_;
 	/// Those that have an answer and were not resumed yet.
 	link ready_;

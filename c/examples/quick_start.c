@@ -18,7 +18,7 @@ static int use_tag(struct tags_hand *hand)
 	tags_write(hand, (uint32_t)tag, 70, &value);
 	tags_read(hand, (uint32_t)tag, &value);
 	printf("tag %d has %d\n", (int)tag, (int)value);
-	tags_clear(hand, (uint32_t)tag);
+	TAGS_MUST(tags_clear(hand, (uint32_t)tag));
 	return 0;
 }
 

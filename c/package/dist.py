@@ -25,7 +25,8 @@ from packing import (  # noqa: E402
     set_date, tarball, version, write,
 )
 
-SONAME = "libtags.so.0"
+# Each 0.x has another interface, and so a library and a package of another name.
+SONAME, RUNTIME = f"libtags.so.{version()}", f"libtags{version()}"
 EXAMPLES = ["quick_start.c", "io_queue.c", "event_loop.c", "copy_file.c", "quick_start.cpp", "io_queue.cpp", "coroutines.cpp"]
 
 
@@ -34,26 +35,16 @@ def build(processor):
     assembly = ran(f"{C}/library.sh", "assembly", processor.gnu).strip()
     known = {**os.environ, "OUT": f"{processor.made}/out", "CROSS_COMPILE": processor.tools}
     subprocess.run([f"{C}/library.sh", "build"], check=True, env=known)
-    library = f"{processor.made}/out/libtags.so"
-    options = [f"-Wl,-soname,{SONAME}", f"-Wl,--version-script={C}/tags.map", "-Wl,-z,relro,-z,now,-z,defs", "-Wl,--no-undefined"]
-    # The library calls its own exports directly, and not through the table by which others find them.
-    options.append("-Wl,-Bsymbolic-functions")
-    whole = ["-Wl,--whole-archive", f"{processor.made}/out/libtags.a", "-Wl,--no-whole-archive"]
-    subprocess.run([processor.tool("gcc"), "-shared", *options, *whole, "-o", library], check=True)
-    subprocess.run([processor.tool("strip"), "--strip-unneeded", library], check=True)
+    subprocess.run([processor.tool("strip"), "--strip-unneeded", f"{processor.made}/out/{SONAME}"], check=True)
     head = dict(re.findall(r"^ \* ([A-Z][a-z ]+): (.*)$", read(assembly).partition("*/")[0], re.M))
     return head["Proved"], head["With"]
 
 
 def put(processor, folder, prefix, libdir):
-    """Puts the static library with its header, tags.pc and CMake files below a folder, and the shared library beside it."""
+    """Puts the libraries with their headers, tags.pc and CMake files below a folder."""
     known = {**os.environ, "OUT": f"{processor.made}/out", "DESTDIR": folder, "LIBDIR": libdir}
     subprocess.run(["bash", "-c", 'umask 022 && exec "$0" put "$1"', f"{C}/library.sh", prefix], check=True, env=known)
-    lib = f"{folder}{prefix}/{libdir}".replace("//", "/")
-    copy(f"{processor.made}/out/libtags.so", f"{lib}/{SONAME}.{version().split('.')[1]}")
-    os.symlink(f"{SONAME}.{version().split('.')[1]}", f"{lib}/{SONAME}")
-    os.symlink(SONAME, f"{lib}/libtags.so")
-    return lib
+    return f"{folder}{prefix}/{libdir}".replace("//", "/")
 
 
 def put_manual(folder):
@@ -74,8 +65,8 @@ lock. The library is proved: no tag and no slot ever has two holders.
 
 
 def make_packages(processor, proved, work):
-    """libtags0 and libtags-dev, as Debian names them."""
-    runtime, dev = f"{work}/libtags0", f"{work}/libtags-dev"
+    """The shared library, as libtags0.3, and libtags-dev, as Debian names them."""
+    runtime, dev = f"{work}/{RUNTIME}", f"{work}/libtags-dev"
     lib = put(processor, dev, "/usr", f"lib/{processor.gnu}")
     os.makedirs(f"{runtime}/usr/lib/{processor.gnu}")
     for name in os.listdir(lib):
@@ -85,14 +76,14 @@ def make_packages(processor, proved, work):
     put_crate(f"{dev}/usr/share/tags/rust")
     for name in EXAMPLES:
         copy(f"{C}/examples/{name}", f"{dev}/usr/share/doc/libtags-dev/examples/{name}")
-    put_documents(f"{runtime}/usr/share/doc/libtags0", "libtags0", processor, proved)
+    put_documents(f"{runtime}/usr/share/doc/{RUNTIME}", RUNTIME, processor, proved)
     put_documents(f"{dev}/usr/share/doc/libtags-dev", "libtags-dev", processor, proved)
-    libc = least_libc(processor, f"{processor.made}/out/libtags.so")
-    scripts = {"shlibs": f"libtags 0 libtags0 (>= {version()})\n", "triggers": "activate-noawait ldconfig\n"}
+    libc = least_libc(processor, f"{processor.made}/out/{SONAME}")
+    scripts = {"shlibs": f"libtags {version()} {RUNTIME} (>= {version()})\n", "triggers": "activate-noawait ldconfig\n"}
     same = {"Multi-Arch": "same"}
     package(
         runtime, processor,
-        fields_of("libtags0", "pool of tags that threads share without a lock", ABOUT, Section="libs", Depends=f"libc6 (>= {libc})", **same),
+        fields_of(RUNTIME, "pool of tags that threads share without a lock", ABOUT, Section="libs", Depends=f"libc6 (>= {libc})", **same),
         scripts,
     )
     more = ABOUT + "\nThis package has the headers for C and C++, the static library and the manual,\nand a Rust crate over it."
@@ -100,7 +91,7 @@ def make_packages(processor, proved, work):
         dev, processor,
         fields_of(
             "libtags-dev", "pool of tags that threads share without a lock (development)", more, Section="libdevel",
-            Depends=f"libtags0 (= {debian(version())}), libc6-dev", Suggests="pkg-config, cmake", **same,
+            Depends=f"{RUNTIME} (= {debian(version())}), libc6-dev", Suggests="pkg-config, cmake", **same,
         ),
         {},
     )
@@ -122,16 +113,20 @@ def make_tarball(processor, proved, work):
     tarball(folder, f"{DIST}/{name}.tar.gz")
 
 
-def can_compile(processor):
-    """Whether its compiler is here, with the headers of a C library."""
+def lacking(processor):
+    """Which of its tools are not here, or the headers of a C library for its compiler."""
+    missing = [it for it in map(processor.tool, ("gcc", "ar", "strip", "objdump")) if not shutil.which(it)]
     command = [processor.tool("gcc"), "-fsyntax-only", "-x", "c", "-"]
     asked = {"input": "#include <stdlib.h>\n", "text": True, "stderr": subprocess.DEVNULL, "check": False}
-    return bool(shutil.which(command[0])) and subprocess.run(command, **asked).returncode == 0
+    if not missing and subprocess.run(command, **asked).returncode:
+        missing.append(f"C library for {command[0]}")
+    return missing
 
 
 def make_library(processor, work):
-    if not can_compile(processor):
-        say(f"there is no {processor.tool('gcc')} with a C library here, so {processor.name} is left out")
+    missing = lacking(processor)
+    if missing:
+        say(f"there is no {', no '.join(missing)} here, so {processor.name} is left out")
         return
     proved = proved_text("tag_c", processor, *build(processor))
     make_packages(processor, proved, work)

@@ -2,7 +2,7 @@
 """generate.py [FOLDER]: makes c/generated, or FOLDER: the crate tag_c as assembly, for each of the two processors.
 
 It is what the kit's clang makes of the crate once it is proved, in a form that every assembler takes: without comments, and with plain
-names in place of quoted ones. The exports get the names by which tags.h calls them, and so do the three functions by which the crate
+names in place of quoted ones. For x86-64 it is marked as fit for shadow stacks. The exports get the names by which tags.h calls them, and so do the three functions by which the crate
 allocates; no other name is visible outside. The first lines of a file say what it is, and have the sums by which c/library.sh knows
 whether it was edited and whether the sources are still those that it was made of. The same sources and kit give the same bytes.
 """
@@ -27,6 +27,20 @@ TEXT = (".ascii", ".asciz", ".string")
 # What is left in quotes: names and flags of sections.
 SECTION = re.compile(r"[\w.-]*")
 QUOTED = re.compile(r'"((?:[^"\\]|\\.)*)"')
+# What is said of the code beside it. Each function of clang's returns to where it was called from, so it may run with a shadow stack.
+# That indirect jumps lead to marked places (IBT; BTI on ARM) is not said, since no place is marked.
+MARKS = {"amd64": """\
+	.section .note.gnu.property,"a",@note
+	.p2align 3
+	.long 4
+	.long 16
+	.long 5
+	.asciz "GNU"
+	.long 0xc0000002
+	.long 4
+	.long 2
+	.long 0
+"""}
 # The names of exports, and those of the functions in heap.c.
 OUTSIDE = re.compile(r"\b(?:tags_(?=\w)|rattle_(?=(?:alloc|realloc|dealloc)\b))")
 
@@ -98,7 +112,7 @@ def body_of(assembly, mark):
 def file_of(processor, made):
     """The whole file, of what build_for.py made."""
     crates = [*crates_below("tag_c"), "tag_c"]
-    body = body_of(read(f"{made}.s"), COMMENT[processor.name])
+    body = body_of(read(f"{made}.s"), COMMENT[processor.name]) + MARKS.get(processor.name, "")
     sources = ran(f"{C}/library.sh", "sum", *crates).strip()
     lines = hashlib.sha256(body.encode()).hexdigest()
     verdict = read(f"{made}.verdict").strip()

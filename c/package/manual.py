@@ -1,8 +1,10 @@
 #!/usr/bin/env python3
 """manual.py FOLDER: writes man pages of section 3, made from the texts of tags.h: tags.3 and one page for each call.
 
-What tags.h says of a call is the page: its summary, its parameters, its paragraphs, and the parts that begin with a word and a colon
-(Threads, Return, Since). Types, macros and constants are in tags.3. The date is SOURCE_DATE_EPOCH, or today.
+What tags.h says of a call is the page: its summary, its paragraphs, its parameters, and the parts that begin with a word and a colon
+(Threads, Return, Since), with what the comment above its part of the header says of all calls there. Each status that it may return
+is explained as the header's enum does, and the example is the shortest function of EXAMPLES that makes the call. Types, macros and
+constants are in tags.3. The date is SOURCE_DATE_EPOCH, or today.
 """
 import os
 import re
@@ -11,6 +13,11 @@ import time
 
 C = os.path.dirname(os.path.dirname(os.path.abspath(__file__)))
 HEADER, EXAMPLE = f"{C}/tags.h", f"{C}/examples/quick_start.c"
+# Where examples of single calls are from: tests run the first, and build and run the others.
+EXAMPLES = ["tests/calls.c", "examples/io_queue.c", "examples/event_loop.c"]
+FUNCTION = re.compile(r"^/\* (?:(?!\*/).)*? \*/\nstatic [^;{}]*?\)\n\{\n.*?^\}\n", re.M | re.S)
+# The comment above a part of the header.
+HEADLINE = re.compile(r"^/\*\n \* ((?:(?!\*/).)*?)\n? ?\*/\n", re.M | re.S)
 DOC = re.compile(r"^/\*\*\n \* (\w+)\(\) - (.*?)\n(.*?)^ \*/\n(.*?)(?:;|\n\{)", re.M | re.S)
 # A comment of one line, or of several.
 TEXT = r"^/\*\*((?:(?!\*/).)*)\*/\n"
@@ -18,10 +25,10 @@ TYPE = re.compile(rf"{TEXT}(enum|struct) (\w+) \{{\n(.*?)^\}};", re.M | re.S)
 MACROS = re.compile(rf"{TEXT}((?:#define TAGS_\w+[^\n]*\n)+)", re.M | re.S)
 CONSTANTS = re.compile(r"^enum \{\n(.*?)^\};", re.M | re.S)
 # Macros of the header that are not for programs.
-PRIVATE = set("TAGS_H TAGS_CALL TAGS_CHECKED TAGS_ANSWER TAGS_SANITIZED TAGS_MEMORY_SANITIZED TAGS_SEES TAGS_SHOWS TAGS_FILLED".split())
+PRIVATE = re.compile(r"TAGS_H$|TAGS_DETAIL_")
 MEMBER = re.compile(r"/\*\*(.*?)\*/\s*([^;,/]+?)\s*[;,]?\s*$", re.M | re.S)
 PART = re.compile(r"^(Threads|Return|Since): ")
-TITLES = {"Threads": "NOTES", "Return": "RETURN VALUE", "Since": "HISTORY"}
+SECTIONS = ["DESCRIPTION", "RETURN VALUE", "ERRORS", "HISTORY", "EXAMPLES", "SEE ALSO"]
 
 
 def unstarred(comment):
@@ -50,7 +57,7 @@ def paragraphs(text):
 
 def prototype(text):
     """The lines of a prototype as a program sees it, without the words of the header's own macros, wrapped between parameters."""
-    whole = re.sub(r"\s+", " ", re.sub(r"\bTAGS_(CALL|CHECKED|ANSWER)\b", "", text)).strip() + ";"
+    whole = re.sub(r"\s+", " ", re.sub(r"\bTAGS_DETAIL_(CALL|CHECKED|ANSWER)\b", "", text)).strip() + ";"
     line = ""
     for it in re.split(r"(?<=,) ", whole):
         if line and len(line) + len(it) > 70:
@@ -61,32 +68,95 @@ def prototype(text):
     yield line
 
 
-def page_of_call(found, version, names):
-    name, summary, text = found[1], found[2], unstarred(found[3])
-    lines = [*head(name, version, summary), ".SH SYNOPSIS", ".nf", ".B #include <tags.h>", ".PP"]
-    for it in prototype(found[4]):
-        lines.append(re.sub(r"^( *)(.*)$", r"\1\\fB\2\\fR", it))
-    lines += [".fi", ".SH DESCRIPTION"]
-    sections, said = [], False
-    for it in paragraphs(text):
-        part = PART.match(it)
-        if part:
-            rest = it[part.end() :].strip()
-            rest = f"In version {rest} and later." if part[1] == "Since" else rest[0].upper() + rest[1:]
-            sections += [f".SH {TITLES[part[1]]}", roff(rest, name)]
-        elif it.startswith("@"):
-            for parameter, meaning in re.findall(r"^@(\w+): (.*?)(?=^@|\Z)", it, re.M | re.S):
-                lines += [".TP", f".I {parameter}", roff(meaning, name)]
-        elif sections:
-            sections += [".PP", roff(it, name)]
-        else:
-            lines += [".PP", roff(it, name)]
-            said = True
-    if not said and not summary.startswith("whether"):
-        lines += [".PP", f"\\fB{name}\\fR() is called to {roff(summary, name)}."]
-    mentioned = sorted({it for it in re.findall(r"\btags_\w+(?=\()", text) if it in names and it != name})
-    others = "".join(f",\n.BR {it} (3)" for it in mentioned)
-    return "\n".join([*lines, *sections, ".SH SEE ALSO", f".BR tags (3){others}", ""]).replace("\n\n", "\n")
+class Call:
+    """A call of the header: what is said of it, and what it stands among."""
+
+    def __init__(self, found, text):
+        self.name, self.summary, self.prototype = found[1], found[2], found[4]
+        said = paragraphs(unstarred(found[3]))
+        self.prose = [it for it in said if not it.startswith("@") and not PART.match(it)]
+        self.parameters = re.findall(r"^@(\w+): (.*?)(?=^@|\Z)", "\n\n".join(it for it in said if it.startswith("@")), re.M | re.S)
+        self.parts = {PART.match(it)[1]: it[PART.match(it).end() :].strip() for it in said if PART.match(it)}
+        above = [it for it in HEADLINE.finditer(text) if it.start() < found.start()][-1]
+        self.part, _, self.note = unstarred(above[1]).partition(". ")
+        if len(self.part.split()) > 8:  # a sentence, and no title
+            self.note = unstarred(above[1])
+
+    def returns(self, calls):
+        """What it returns, and where that is as another call returns, what that is."""
+        said = self.parts["Return"]
+        other = re.match(r"as (tags_\w+)\(\)\.", said)
+        return f"{said[: other.end() - 1]}: {calls[other[1]].returns(calls)} {said[other.end() :]}".strip() if other else said
+
+    def errors(self, calls, meanings):
+        """The statuses below 0 that it may return, in order."""
+        said = self.parts["Return"]
+        for other in re.findall(r"\b(?:as|as from) (tags_\w+)\(\)", said):
+            said += " " + " ".join(calls[other].errors(calls, meanings))
+        found = ["TAGS_NULL"] if "*" in self.prototype and self.name != "tags_strerror" else []
+        never = re.findall(r"\bexcept (TAGS_\w+)", said)
+        return [*dict.fromkeys(found + [it for it in re.findall(r"TAGS_\w+", said) if it in meanings and it not in never])]
+
+
+def statuses(text):
+    """What the enum of the header says of each status but TAGS_OK."""
+    body = next(it[3] for it in (found.groups("") for found in TYPE.finditer(text)) if it[2] == "tags_status")
+    return {name: meaning for name, meaning in members(body) if name != "TAGS_OK"}
+
+
+def example_of(name):
+    """The shortest function with a comment that makes a call, from the first file that has one."""
+    for file in EXAMPLES:
+        with open(f"{C}/{file}", encoding="utf-8") as source:
+            found = [it[0] for it in FUNCTION.finditer(source.read()) if re.search(rf"\b{name}\(", it[0])]
+        if found:
+            return min(found, key=len)
+    return ""
+
+
+def description(call):
+    """The prose first, and then the arguments."""
+    learn = "learn " if re.match(r"(whether|how many|the most)\b", call.summary) else ""
+    yield f"Call \\fB{call.name}\\fR() to {learn}{roff(call.summary, call.name)}."
+    for it in call.prose:
+        yield from (".PP", roff(it, call.name))
+    yield from (".PP", "Its arguments:" if len(call.parameters) > 1 else "Its argument:")
+    for parameter, meaning in call.parameters:
+        yield from (".TP", f".I {parameter}", roff(meaning, call.name))
+
+
+def outcome(call, calls, meanings):
+    """What a call returns, with each status below 0."""
+    said = call.returns(calls)
+    yield from (".SH RETURN VALUE", roff(said[0].upper() + said[1:], call.name))
+    found = call.errors(calls, meanings)
+    if found:
+        yield from (".PP", "A status is a negative number. A call that is refused has changed nothing.", ".SH ERRORS")
+    for it in found:
+        yield from (".TP", f".B {it}", roff(meanings[it], call.name))
+
+
+def related(call, calls):
+    """The calls that it mentions, and those beside it in the header."""
+    whole = " ".join([call.summary, *call.prose, *call.parts.values(), *(meaning for _, meaning in call.parameters)])
+    mentioned = [it for it in re.findall(r"\btags_\w+(?=\()", whole) if it in calls]
+    beside = [it.name for it in calls.values() if it.part == call.part]
+    return sorted({*mentioned, *beside} - {call.name})
+
+
+def page_of_call(call, version, calls, meanings):
+    lines = [*head(call.name, version, call.summary), ".SH SYNOPSIS", ".nf", ".B #include <tags.h>", ".PP"]
+    lines += [re.sub(r"^( *)(.*)$", r"\1\\fB\2\\fR", it) for it in prototype(call.prototype)]
+    lines += [".fi", ".SH DESCRIPTION", *description(call), *outcome(call, calls, meanings)]
+    notes = [it for it in (call.parts.get("Threads"), call.note) if it]
+    for at, it in enumerate(notes):
+        lines += [".PP" if at else ".SH NOTES", roff(it[0].upper() + it[1:], call.name)]
+    lines += [".SH HISTORY", f"In version {call.parts['Since']} and later."]
+    example = example_of(call.name)
+    if example:
+        lines += [".SH EXAMPLES", ".nf", *listing(example), ".fi"]
+    others = "".join(f",\n.BR {it} (3)" for it in related(call, calls))
+    return "\n".join([*lines, ".SH SEE ALSO", f".BR tags (3){others}", ""])
 
 
 def introduction(text):
@@ -127,7 +197,7 @@ def macros(text):
     """The macros that programs use, with what is said of them; several under one comment stand together."""
     for comment, defined in MACROS.findall(text):
         names = re.findall(r"^#define (\w+)", defined, re.M)
-        if not PRIVATE.issuperset(names):
+        if not all(map(PRIVATE.match, names)):
             yield ", ".join(names), unstarred(comment)
 
 
@@ -160,10 +230,10 @@ def page_of_all(text, version, calls):
 def pages(text):
     """Each page by its name."""
     version = ".".join(re.findall(r"^#define TAGS_VERSION_M\w+ (\d+)", text, re.M))
-    calls = list(DOC.finditer(text))
-    names = {it[1] for it in calls}
-    made = {f"{it[1]}.3": page_of_call(it, version, names) for it in calls}
-    return {"tags.3": page_of_all(text, version, calls), **made}
+    found, meanings = list(DOC.finditer(text)), statuses(text)
+    calls = {it[1]: Call(it, text) for it in found}
+    made = {f"{name}.3": page_of_call(it, version, calls, meanings) for name, it in calls.items()}
+    return {"tags.3": page_of_all(text, version, found), **made}
 
 
 def unnamed(text):
@@ -174,14 +244,23 @@ def unnamed(text):
         if title_of(kind, name) not in whole:
             yield f"{kind} {name}"
     named = set(re.findall(r"\w+", " ".join(re.findall(r"^\.B (.*)$", whole, re.M))))
-    for name in sorted({*re.findall(r"^[ \t]*#[ \t]*define (TAGS_\w+)", text, re.M)} - PRIVATE - named):
+    macros_found = {*re.findall(r"^[ \t]*#[ \t]*define (TAGS_\w+)", text, re.M)}
+    for name in sorted(it for it in macros_found - named if not PRIVATE.match(it)):
         yield name
     for name in sorted({*re.findall(r"^\t(TAGS_\w+)(?: = .*)?,?$", text, re.M)} - named):
         yield name
-    calls = re.findall(r"^(?!static|#|[ \t/*])[\w \t*]*?\b(tags_(?!library_)\w+)\(", text, re.M)
+    calls = re.findall(r"^(?!static|#|[ \t/*])[\w \t*]*?\b(tags_(?!library_|detail_)\w+)\(", text, re.M)
     for name in calls:
         if f"{name}.3" not in found:
             yield f"{name}()"
+
+
+def lacking(text):
+    """Each page of a call without one of its sections; those of calls that refuse nothing have no errors."""
+    for name, page in pages(text).items():
+        for section in SECTIONS if name != "tags.3" else ["EXAMPLES", "SEE ALSO"]:
+            if f".SH {section}\n" not in page and (name, section) != ("tags_strerror.3", "ERRORS"):
+                yield f"{name}: no {section}"
 
 
 def main():

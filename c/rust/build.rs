@@ -1,6 +1,6 @@
 //! Links libtags: the one in the folder that `TAGS_LIB_DIR` names, or else the one that pkg-config finds (`PKG_CONFIG` names another
-//! program for that), of which a shared library is preferred unless `TAGS_STATIC=1`; or else one that it makes of the proved code as
-//! assembly and the rest in C. These files are in `native/` of a crate that was packed, and else in the checkout around the crate. That
+//! program for that), of which a static library is preferred unless `TAGS_STATIC=0`, and is the only choice with `TAGS_STATIC=1`; or
+//! else one that it makes of the proved code as assembly and the rest in C. These files are in `native/` of a crate that was packed, and else in the checkout around the crate. That
 //! takes a C compiler and `ar`: `CC` and `AR` name others, for another target `CC_aarch64_unknown_linux_gnu` and the like. If there is
 //! no library, the build ends with the reason of each place.
 use std::env;
@@ -10,8 +10,8 @@ use std::io::Write;
 use std::path::{Path, PathBuf};
 use std::process::{exit, Command, Stdio};
 
-/// The version of the library that this crate needs.
-const NEEDED: &str = "tags >= 0.3";
+/// The versions of the library that this crate takes: each 0.x has another interface.
+const NEEDED: [&str; 2] = ["tags >= 0.3", "tags < 0.4"];
 
 const HELP: &str = "\
 Install a C compiler and binutils, or the package libtags-dev, or make the library by `c/library.sh install PREFIX` of the repository.
@@ -21,11 +21,10 @@ If pkg-config does not know its place, set PKG_CONFIG_PATH to PREFIX/lib/pkgconf
 type Found = Result<PathBuf, String>;
 
 fn in_folder(folder: &Path) -> Found {
-    let is_static = env::var("TAGS_STATIC").is_ok_and(|it| it == "1");
-    let names: &[&str] = if is_static {
-        &["libtags.a"]
-    } else {
-        &["libtags.so", "libtags.a"]
+    let names: &[&str] = match env::var("TAGS_STATIC").as_deref() {
+        Ok("0") => &["libtags.so", "libtags.a"],
+        Ok("1") => &["libtags.a"],
+        _ => &["libtags.a", "libtags.so"],
     };
     let mut files = names.iter().map(|it| folder.join(it));
     let missing = || format!("{} has no {}", folder.display(), names.join(" and no "));
@@ -46,17 +45,24 @@ fn text(bytes: &[u8]) -> String {
     String::from_utf8_lossy(bytes).trim().to_string()
 }
 
-fn installed() -> Found {
+/// What pkg-config says, or why it does not.
+fn pkg_config(words: &[&str]) -> Result<String, String> {
     let program = env::var("PKG_CONFIG").unwrap_or_else(|_| "pkg-config".into());
     let asked = Command::new(&program)
-        .args(["--print-errors", "--variable=libdir", NEEDED])
+        .arg("--print-errors")
+        .args(words)
         .output();
     let said = asked.map_err(|error| format!("{program} can't be run: {error}"))?;
     if !said.status.success() {
-        let why = text(&said.stderr);
-        return Err(format!("{program} finds no {NEEDED}: {why}"));
+        let (needed, why) = (NEEDED.join(", "), text(&said.stderr));
+        return Err(format!("{program} finds no {needed}: {why}"));
     }
-    in_folder(&below_root(&text(&said.stdout)))
+    Ok(text(&said.stdout))
+}
+
+fn installed() -> Found {
+    pkg_config(&["--exists", NEEDED[0], NEEDED[1]])?;
+    in_folder(&below_root(&pkg_config(&["--variable=libdir", "tags"])?))
 }
 
 /// What Cargo says of the target.

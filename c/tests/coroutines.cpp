@@ -285,6 +285,132 @@ static void refusals()
 	CHECK(found.is_done() && !code);
 }
 
+// A hand waits for one listener: what becomes of another one does not matter to it.
+static void a_second_listener_is_refused()
+{
+	setting it;
+	std::error_code code;
+	event other;
+	{
+		const task first = get(it.listener, it.got);
+		{
+			tags::listener second(it.hand, other.descriptor);
+			task refused = get(second, it.got, code);
+			CHECK(refused.is_done() && code == errc::waiting);
+			second.resume();
+		}
+		it.tag.clear();
+		CHECK(it.told.take() && !other.take());
+		it.listener.resume();
+		CHECK(first.is_done() && it.got.size() == 1);
+	}
+	it.got.clear();
+	REFUSED(errc::waiting, it.hand.get_async(other.descriptor, CODE));
+	// One after the other is as good as one, and a wait without a listener is in its way, too.
+	tags::tag tag = *it.hand.get(failure);
+	tags::hand third = std::move(it.holder);
+	{
+		tags::listener before(third, other.descriptor);
+		CHECK(!before.is_refused() && !it.listener.is_refused());
+	}
+	CHECK(!third.get_async(other.descriptor, failure) && !failure);
+	tags::listener beside(third, it.told.descriptor);
+	CHECK(beside.is_refused());
+	third.cancel(failure);
+	tags::listener after(third, other.descriptor);
+	CHECK(!failure && !after.is_refused());
+	const task last = get(after, it.got);
+	tag.clear();
+	CHECK(other.take());
+	after.resume();
+	CHECK(last.is_done() && it.got.size() == 1);
+	it.got.clear();
+}
+
+template <class Time>
+static task get_for(tags::listener &listener, Time time, int &ended, std::error_code &code)
+{
+	const tags::tag tag = co_await listener.get_for(time, code);
+	ended = tag ? 1 : 2;
+}
+
+// One whose time is up goes on without a tag, and the others wait on.
+static void a_limit_in_time()
+{
+	using std::chrono::hours;
+	using std::chrono::milliseconds;
+	setting it;
+	std::error_code codes[4];
+	int ended[4] = {};
+	CHECK(it.listener.timeout() == -1);
+	const task late = get_for(it.listener, milliseconds(0), ended[0], codes[0]);
+	CHECK(late.is_done() && ended[0] == 2 && !codes[0]);
+	CHECK(it.hand.wakes(failure).active == 0);
+	const task soon = get_for(it.listener, milliseconds(5), ended[1], codes[1]);
+	const task first = get_for(it.listener, hours(1), ended[2], codes[2]);
+	const task second = get_for(it.listener, hours::max(), ended[3], codes[3]);
+	const int left = it.listener.timeout();
+	CHECK(soon.is_done() || (left >= 0 && left <= 5));
+	while (!soon.is_done()) {
+		pollfd look = {it.told.descriptor, POLLIN, 0};
+		CHECK(poll(&look, 1, it.listener.timeout()) == 0);
+		it.listener.resume();
+	}
+	CHECK(ended[1] == 2 && !codes[1] && !first.is_done() && !second.is_done());
+	CHECK(it.listener.timeout() > 3500000 && it.listener.timeout() <= 3600000);
+	it.tag.clear();
+	CHECK(it.told.take());
+	it.listener.resume();
+	it.told.take();
+	it.listener.resume();
+	CHECK(ended[2] == 1 && ended[3] == 1 && it.listener.timeout() == -1);
+	CHECK(it.hand.wakes(failure).active == 0);
+	const tags::tag tag = *it.hand.get(failure);
+	const auto passed = std::chrono::steady_clock::now() - hours(1);
+	const task past = [](tags::listener &listener, std::chrono::steady_clock::time_point end,
+			     int &how, std::error_code &code) -> task {
+		how = co_await listener.get_until(end, code) ? 1 : 2;
+	}(it.listener, passed, ended[0], codes[0]);
+	CHECK(past.is_done() && ended[0] == 2 && !codes[0]);
+}
+
+#ifdef __cpp_lib_jthread
+static task get_unless(tags::listener &listener, std::stop_token token, int &ended,
+		       std::error_code &code)
+{
+	const tags::tag tag = co_await listener.get(token, code);
+	ended = tag ? 1 : 2;
+}
+
+// A stop may be requested on any thread; the coroutine goes on where resume() is called.
+static void a_cancel_by_a_token()
+{
+	setting it;
+	std::error_code codes[3];
+	int ended[3] = {};
+	// Of one in the frame g++ warns, within its own header.
+	const auto source = std::make_unique<std::stop_source>();
+	const auto other = std::make_unique<std::stop_source>();
+	const task first = get_unless(it.listener, source->get_token(), ended[0], codes[0]);
+	const task second = get_unless(it.listener, other->get_token(), ended[1], codes[1]);
+	CHECK(it.listener.timeout() == -1);
+	std::thread thread([&source] { source->request_stop(); });
+	it.told.wait();
+	thread.join();
+	CHECK(!first.is_done());
+	it.listener.resume();
+	CHECK(ended[0] == 2 && !codes[0] && !second.is_done());
+	const task late = get_unless(it.listener, source->get_token(), ended[2], codes[2]);
+	CHECK(late.is_done() && ended[2] == 2 && !codes[2]);
+	it.tag.clear();
+	it.told.wait();
+	it.listener.resume();
+	CHECK(ended[1] == 1 && !codes[1] && it.hand.wakes(failure).active == 0);
+	other->request_stop();
+	CHECK(!it.told.take());
+}
+#endif
+
 static void a_stop_ends_all_waits()
 {
 	setting it;
@@ -417,6 +543,11 @@ int main()
 	who_was_told_and_is_destroyed_passes_it_on();
 	a_coroutine_destroys_another();
 	refusals();
+	a_second_listener_is_refused();
+	a_limit_in_time();
+#ifdef __cpp_lib_jthread
+	a_cancel_by_a_token();
+#endif
 	a_stop_ends_all_waits();
 #ifdef __cpp_exceptions
 	refusals_are_thrown();

@@ -263,6 +263,21 @@ static void reuse_a_descriptor(void)
 		fclose(file);
 }
 
+/* A hand whose eventfd was closed can't be told, so the next one is. */
+static void pass_over_a_closed_descriptor(void)
+{
+	set_up(1, 3);
+	for (int i = 0; i < 3; i++)
+		CHECK(tags_get_async(&hands[i + 1], events[i]) == TAGS_NO_TAG);
+	close(events[0]);
+	CHECK(tags_clear(&hands[0], 0) >= 0);
+	CHECK(told(events[1]) == 1 && told(events[2]) == 0);
+	CHECK(tags_cancel(&hands[1]) == TAGS_OK);
+	CHECK(tags_get_async(&hands[2], events[1]) == 0);
+	CHECK(tags_cancel(&hands[3]) == TAGS_OK);
+	tear_down(3);
+}
+
 /*
  * Whom a tag tells
  */
@@ -552,6 +567,7 @@ int main(int argc, char **argv)
 	cancel_beside_a_clear();
 	leave_while_waiting();
 	reuse_a_descriptor();
+	pass_over_a_closed_descriptor();
 	tell_as_many();
 	keep_turns();
 	run_two_loops();

@@ -88,7 +88,8 @@ static void a_tag_given_back_behind_its_object()
 		tags::pool pool(sized(4, 1), ec);
 		tags::hand hand = pool.join(ec);
 		const tags::tag tag = *hand.get(ec);
-		tags_clear(hand.native_handle(), tag.number());
+		[[maybe_unused]] const std::int32_t status =
+			tags_clear(hand.native_handle(), tag.number());
 	}));
 }
 

@@ -33,7 +33,7 @@ static void errors_have_texts()
 	      tags::category().message(-99) == tags_strerror(-99));
 	const tags::error thrown(errc::not_held);
 	CHECK(thrown.code() == errc::not_held &&
-	      std::string(thrown.what()) == "this hand does not hold the tag");
+	      std::string(thrown.what()) == tags_strerror(TAGS_NOT_HELD));
 }
 
 static void pools_that_do_not_open()
@@ -73,6 +73,9 @@ static void empty_objects()
 	REFUSED(errc::bad_handle, pool.join_in_place(CODE));
 	REFUSED(errc::bad_handle, pool.resize(4, CODE));
 	REFUSED(errc::bad_handle, pool.stop(CODE));
+	REFUSED(errc::bad_handle, pool.busy(&bits, 1, CODE));
+	REFUSED(errc::bad_handle, pool.show(tags::kind::ordinary, CODE));
+	REFUSED(errc::bad_handle, pool.wakes(CODE));
 	REFUSED(errc::bad_handle, pool.close(CODE));
 	REFUSED(errc::bad_handle, hand.leave(CODE));
 	REFUSED(errc::bad_handle, hand.get(CODE));
@@ -141,7 +144,6 @@ static void gets()
 	REFUSED(errc::too_shallow, hand.get_shallow(0, CODE));
 	REFUSED(errc::too_shallow, hand.get_shallow(2, CODE));
 	REFUSED(errc::bad_count, hand.get_batch(0, CODE));
-	REFUSED(errc::bad_count, hand.get_batch(5, CODE));
 	CHECK(hand.show(tags::kind::ordinary, ec).busy == 0);
 	tags::pool reserved(sized(2, 1, 2), ec);
 	hand = reserved.join(ec);

@@ -89,6 +89,8 @@ static void several_at_once()
 		std::optional<tags::tag> first = batch->pop();
 	} // here the first tag goes back, and then the others in one step
 	CHECK(sum == 28 && hand.show(tags::kind::ordinary).busy == 0);
+	const std::optional<tags::batch> most = hand.get_batch(64);
+	CHECK(most && most->size() == pool.batch_limit());
 }
 
 static int event_loop()

@@ -189,8 +189,10 @@ int32_t model_get_batch(struct model *hand, uint32_t n, uint64_t *won)
 	if (!is_hand(hand))
 		return TAGS_BAD_HANDLE;
 	set = &hand->pool->set[TAGS_ORDINARY];
-	if (n == 0 || n > 1u << set->shift)
+	if (n == 0)
 		return TAGS_BAD_COUNT;
+	if (n > 1u << set->shift)
+		n = 1u << set->shift;
 	if (set->round_robin)
 		return TAGS_NO_TAG;
 	from = hint_of(hand, TAGS_ORDINARY);

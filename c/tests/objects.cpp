@@ -154,6 +154,7 @@ static void a_pool_lives_until_its_hands_end()
 		tags::pool pool(sized(4, 1), ec);
 		tags::pool moved(std::move(pool));
 		CHECK(!pool && pool.total() == 0 && pool.reserved() == 0 && moved);
+		CHECK(pool.batch_limit() == 0 && moved.batch_limit() == 1);
 		pool = std::move(moved);
 		tags::pool &itself = pool;
 		pool = std::move(itself);
@@ -322,6 +323,25 @@ static void resizes()
 	CHECK(sums.got == 2 && sums.back == 2);
 }
 
+// A pool tells the same as a hand, while all hands are out.
+static void a_pool_reports_without_a_hand()
+{
+	tags::pool pool(sized(70, 1, 2), ec);
+	tags::hand hand = pool.join(ec);
+	const tags::tag reserved = *hand.get_reserved(ec);
+	const tags::tag tag = get(hand);
+	std::uint64_t found[2] = {7, 7};
+	std::uint64_t wanted[2] = {};
+	CHECK(pool.busy(found, 2, ec) == 2 && !ec && hand.busy(wanted, 2, ec) == 2);
+	CHECK(found[0] == wanted[0] && found[1] == wanted[1]);
+	const tags::sizes sizes = pool.show(tags::kind::ordinary, ec);
+	CHECK(!ec && sizes.depth == 68 && sizes.busy == 1 && sizes.bits_per_word == 16);
+	CHECK(pool.show(tags::kind::reserved, ec).busy == 1 && pool.batch_limit() == 16);
+	CHECK(pool.wakes(ec).active == 0 && !ec);
+	const tags::wait wait = hand.prepare(ec);
+	CHECK(pool.wakes(ec).active == 1 && !ec);
+}
+
 static void options_are_passed_on()
 {
 	tags::options options = sized(6, 1);
@@ -367,6 +387,7 @@ int main()
 	caches();
 	waits_by_other_means();
 	resizes();
+	a_pool_reports_without_a_hand();
 	options_are_passed_on();
 	native_handles();
 	return report();

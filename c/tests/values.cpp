@@ -173,6 +173,62 @@ static void a_value_that_can_not_be_made()
 }
 #endif
 
+// A pool may be opened where another was closed, which has other tags.
+static void a_later_pool_in_the_same_place()
+{
+	tags::pool pool(sized(8, 1), failure);
+	const tags::values<int> values(pool, failure);
+	for (int i = 0; i < 8; i++) {
+		CHECK(pool.close(failure).got == (i > 0) && !failure);
+		pool = tags::pool(sized(8, 1), failure);
+		tags::hand hand = pool.join(failure);
+		const tags::tag tag = *hand.get(failure);
+		CHECK(values.at(tag, failure) == nullptr && failure == errc::no_such_tag);
+	}
+}
+
+// The tags of a batch have values by their numbers.
+static void values_of_a_batch()
+{
+	tags::pool pool(sized(64, 1, 1), failure);
+	tags::pool other(sized(64, 1, 1), failure);
+	const tags::values<std::uint32_t> values(
+		pool, [](std::uint32_t number) { return number; }, failure);
+	const tags::values<std::uint32_t> others(other, failure);
+	tags::hand hand = pool.join(failure);
+	tags::batch batch = *hand.get_batch(4, failure);
+	for (const std::uint32_t number : batch) {
+		CHECK(batch.has(number));
+		CHECK(values.at(batch, number, failure) && *values.at(batch, number, failure) == number);
+		REFUSED(errc::no_such_tag, others.at(batch, number, CODE));
+	}
+	const std::uint32_t first = batch.pop()->number();
+	CHECK(batch.size() == 3 && !batch.has(first) && !batch.has(0) && !batch.has(UINT32_MAX));
+	REFUSED(errc::no_such_tag, values.at(batch, first, CODE));
+	batch.clear();
+	REFUSED(errc::no_such_tag, values.at(batch, first + 1, CODE));
+}
+
+// Of a pool that was resized alone the tags below size() have values, and no others.
+static void a_resize_of_the_pool_alone()
+{
+	tags::pool pool(sized(4, 1), failure);
+	tags::values<long> values(pool, failure);
+	pool.resize(4096, failure);
+	tags::hand hand = pool.join(failure);
+	std::vector<tags::tag> held;
+	while (std::optional<tags::tag> tag = hand.get(failure))
+		held.push_back(std::move(*tag));
+	CHECK(!failure && held.size() == 4096 && values.size() == 4);
+	for (const tags::tag &tag : held) {
+		const long *const value = values.at(tag, failure);
+		CHECK(tag.number() < 4 ? value == &values[tag] && !failure :
+					 value == nullptr && failure == errc::no_such_tag);
+	}
+	values.resize(pool, failure);
+	CHECK(!failure && values.size() == 4096 && values.at(held.back(), failure) != nullptr);
+}
+
 // No value has two users, and each sees what the one before has done.
 static void threads_share_values()
 {
@@ -209,6 +265,9 @@ int main()
 	a_value_stays_and_passes_on();
 	tags_of_other_pools_are_refused();
 	reserved_values_stay_over_a_resize();
+	a_later_pool_in_the_same_place();
+	a_resize_of_the_pool_alone();
+	values_of_a_batch();
 #ifdef __cpp_exceptions
 	a_value_that_can_not_be_made();
 #endif

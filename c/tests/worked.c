@@ -85,6 +85,8 @@ static void run_through_all_calls(void)
 	WANT(tags_pool_busy(&pool, &bits, 1), 2);
 	WANT(bits, 33);
 	WANT(tags_pool_show(&pool, TAGS_ORDINARY, &sizes), TAGS_OK);
+	WANT(tags_pool_batch(&pool), (int32_t)sizes.bits_per_word);
+	WANT(tags_pool_total(&pool), 12);
 	WANT(sizes.depth, 10);
 	WANT(sizes.busy, 1);
 	WANT(sizes.cleared, 1);

@@ -13,6 +13,9 @@ from telling import EXAMPLES, HERE, expected, lacks, makes, out, run, tell, unte
 OLDEST = ["qemu-x86_64", "-cpu", "Opteron_G1"]
 NEWER = 'int main(void) { unsigned long it = 7; __asm__("popcnt %0, %0" : "+r"(it)); return it != 3; }'
 NO_NEWER = r"\b(popcnt|crc32\w?|pinsr[bdq]|pextr[bdq]|ptest|pshufb|v?pcmp[ei]str\w|v[mp][a-z]+|lzcnt)\b"
+with open(f"{os.path.dirname(EXAMPLES)}/tags.h", encoding="utf-8") as header:
+    VERSION = ".".join(re.findall(r"^#define TAGS_VERSION_M\w+ (\d+)", header.read(), re.M))
+SONAME, RUNTIME = f"libtags.so.{VERSION}", f"libtags{VERSION}"
 FLAGS = "-std=c99 -D_DEFAULT_SOURCE -O2 -Wall -Werror".split()
 
 
@@ -73,11 +76,11 @@ def check_shared(target):
     """A soname, the names of the library alone, and nothing needed but libc."""
     library = os.path.realpath(f"{target.lib}/libtags.so")
     dynamic = out([f"{target.tools}readelf", "-d", library])
-    tell(f"{target.name}: soname", "[libtags.so.0]" in dynamic, dynamic)
+    tell(f"{target.name}: soname", f"[{SONAME}]" in dynamic, dynamic)
     tell(f"{target.name}: no text relocations", "TEXTREL" not in dynamic, dynamic)
     tell(f"{target.name}: nothing is needed but libc", needed(target, library) == {"libc.so.6"}, dynamic)
     names = {it.split()[-1].split("@")[0] for it in out([f"{target.tools}nm", "-D", "--defined-only", library]).splitlines()}
-    others = {it for it in names if not it.startswith("tags_")} - {"TAGS_0"}
+    others = {it for it in names if not it.startswith("tags_")} - {f"TAGS_{VERSION}"}
     tell(f"{target.name}: only names of the library are exported", not others, " ".join(others))
     missing = pages(target).keys() - {"tags"} - names
     tell(f"{target.name}: each call with a page is exported", not missing, " ".join(missing))
@@ -103,7 +106,7 @@ def check_c(target):
             if not run(f"build of {what}", [f"{target.tools}gcc", *FLAGS, source, "-o", program, *flags, *options]):
                 continue
             run(what, [*target.runner, program], wanted=expected(name), env=known)
-            links = {"libtags.so.0", "libc.so.6"} if kind == "shared" else set()
+            links = {SONAME, "libc.so.6"} if kind == "shared" else set()
             tell(f"{what}: what it needs", needed(target, program) == links, " ".join(needed(target, program)))
             if is_old:
                 run(f"{what}, on an old processor", [*OLDEST, program], wanted=expected(name), env=known)
@@ -136,9 +139,7 @@ def check_cmake(target, prefix, what):
     shutil.copy(f"{EXAMPLES}/quick_start.c", folder)
     shutil.copy(f"{EXAMPLES}/quick_start.cpp", folder)
     shutil.copy(f"{HERE}/CMakeLists.txt", folder)
-    with open(f"{prefix}/include/tags.h", encoding="utf-8") as file:
-        version = ".".join(re.findall(r"^#define TAGS_VERSION_M\w+ (\d+)", file.read(), re.M))
-    options = [f"-DCMAKE_PREFIX_PATH={prefix}", f"-DWANTED={version}"]
+    options = [f"-DCMAKE_PREFIX_PATH={prefix}", f"-DWANTED={VERSION}"]
     if not target.is_native:
         options += ["-DCMAKE_SYSTEM_NAME=Linux", f"-DCMAKE_C_COMPILER={target.tools}gcc", f"-DCMAKE_CXX_COMPILER={target.tools}g++"]
     kinds = ["shared", "static"]
@@ -229,7 +230,7 @@ def check_archive(target, dist):
 def check(target, dist):
     """All that the packages of one processor hold."""
     has_cmake = not lacks(f"CMake for {target.name} is", "cmake", "make")
-    if install(target, dist, "libtags0", "libtags-dev"):
+    if install(target, dist, RUNTIME, "libtags-dev"):
         check_shared(target)
         check_c(target)
         check_plus(target)

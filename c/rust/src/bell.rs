@@ -2,7 +2,8 @@
 use crate::error::{number, Result};
 use crate::raw::{self, Waiter, Waits};
 use std::ffi::c_void;
-use std::ptr::{null_mut, NonNull};
+use std::mem::size_of;
+use std::ptr::NonNull;
 use std::sync::atomic::Ordering::SeqCst;
 use std::task::Waker;
 
@@ -29,6 +30,12 @@ impl Bell {
     #[inline]
     pub fn is_awaited(&self) -> bool {
         self.waits().waiting.load(SeqCst) > 0
+    }
+
+    /// The most tags of a batch.
+    #[inline]
+    pub fn batch_limit(&self) -> u32 {
+        self.waits().batch
     }
 
     #[inline]
@@ -62,8 +69,8 @@ impl Bell {
 /// cost it that.
 pub(crate) struct Place {
     bell: Bell,
-    /// The library has a pointer to it while it is listed.
-    waiter: NonNull<Waiter>,
+    /// A waiter of the library, which has a pointer to it while it is listed.
+    room: NonNull<[u64]>,
     /// Whether it was listed; it may have been told since.
     is_listed: bool,
 }
@@ -92,12 +99,18 @@ unsafe fn unboxed(waker: *mut c_void) -> Waker {
 
 impl Place {
     pub fn new(bell: Bell) -> Place {
-        let waiter = Box::new(Waiter::new(wake));
+        // SAFETY: the library returns a constant.
+        let size = unsafe { raw::tags_library_waiter_size() };
+        let room = vec![0_u64; size.div_ceil(size_of::<u64>())];
         Place {
             bell,
-            waiter: NonNull::from(Box::leak(waiter)),
+            room: NonNull::from(Box::leak(room.into_boxed_slice())),
             is_listed: false,
         }
+    }
+
+    fn waiter(&self) -> *mut Waiter {
+        self.room.as_ptr().cast()
     }
 
     pub fn is_listed(&self) -> bool {
@@ -106,23 +119,22 @@ impl Place {
 
     /// Lists the future at its turn. It must not be listed.
     pub fn enter(&mut self, waker: Waker) -> Result<()> {
-        let waiter = self.waiter.as_ptr();
-        // SAFETY: while it is not listed, it is this place's alone.
-        unsafe { (*waiter).whom = boxed(waker) };
+        let (waits, whom) = (self.bell.0.as_ptr(), boxed(waker));
         // SAFETY: it stays where it is until it was told or removed.
-        let listed = number(unsafe { raw::tags_library_listen(self.bell.0.as_ptr(), waiter) });
-        self.is_listed = listed.is_ok();
+        let listed = unsafe { raw::tags_library_listen(waits, self.waiter(), wake, whom) };
+        self.is_listed = listed >= 0;
         if !self.is_listed {
-            self.drop_waker();
+            // SAFETY: the library did not take it.
+            drop(unsafe { unboxed(whom) });
         }
-        listed.map(|_| ())
+        number(listed).map(|_| ())
     }
 
     /// Replaces the waker of a listed future, and returns whether it still waits. Otherwise it was told.
     pub fn renew(&mut self, waker: Waker) -> bool {
         let (waits, new) = (self.bell.0.as_ptr(), boxed(waker));
         // SAFETY: the future is listed or was told.
-        let former = unsafe { raw::tags_library_renew(waits, self.waiter.as_ptr(), new) };
+        let former = unsafe { raw::tags_library_renew(waits, self.waiter(), new) };
         self.is_listed = !former.is_null();
         // SAFETY: the former waker is this place's again, or the new one still is.
         drop(unsafe { unboxed(if self.is_listed { former } else { new }) });
@@ -136,19 +148,12 @@ impl Place {
         }
         self.is_listed = false;
         // SAFETY: it is listed or was told.
-        let was_told =
-            unsafe { raw::tags_library_unlist(self.bell.0.as_ptr(), self.waiter.as_ptr()) } == 1;
-        if !was_told {
-            self.drop_waker();
+        let whom = unsafe { raw::tags_library_unlist(self.bell.0.as_ptr(), self.waiter()) };
+        if !whom.is_null() {
+            // SAFETY: nobody was told, so the waker is this place's again.
+            drop(unsafe { unboxed(whom) });
         }
-        was_told
-    }
-
-    /// Drops the waker of a future that is not listed and was not told.
-    fn drop_waker(&mut self) {
-        let waiter = self.waiter.as_ptr();
-        // SAFETY: it is this place's alone.
-        drop(unsafe { unboxed(std::mem::replace(&mut (*waiter).whom, null_mut())) });
+        whom.is_null()
     }
 }
 
@@ -156,7 +161,7 @@ impl Drop for Place {
     fn drop(&mut self) {
         let was_told = self.leave();
         // SAFETY: it came from a box, and the library has no pointer to it any more.
-        drop(unsafe { Box::from_raw(self.waiter.as_ptr()) });
+        drop(unsafe { Box::from_raw(self.room.as_ptr()) });
         self.bell.pass_on(u64::from(was_told));
     }
 }

@@ -19,7 +19,7 @@ pub enum Error {
     NotHeld,
     /// The tag is not posted, or another hand took it first.
     NotPosted,
-    /// A batch of 0 tags, or of more than a word has.
+    /// A batch of 0 tags.
     BadCount,
     /// A depth of 0, or one below the pool's [`min_shallow`](crate::Options::min_shallow).
     TooShallow,

@@ -9,10 +9,6 @@ use std::cell::{Cell, RefCell, UnsafeCell};
 use std::fmt;
 use std::sync::Arc;
 
-/// The status of a get that found no tag, and of a finish that must be repeated.
-const NO_TAG: i32 = -10;
-const AGAIN: i32 = -11;
-
 /// A hand, through which one thread takes tags. It is `Send` but not `Sync`: no two threads can use it at once. Dropping it
 /// returns it to its pool. [`into_shared`](Hand::into_shared) turns it into one that several threads and tasks share, and
 /// whose tags borrow nothing.
@@ -81,7 +77,7 @@ impl<T> Hand<T> {
     /// Returns the tag that a get found, if it found one.
     pub(crate) fn found(answer: i32) -> Result<Option<u32>> {
         match answer {
-            NO_TAG => Ok(None),
+            raw::NO_TAG => Ok(None),
             answer => number(answer).map(Some),
         }
     }
@@ -185,8 +181,8 @@ impl<T> Hand<T> {
         Ok(found?.map(|tag| Tag::new(self, tag)))
     }
 
-    /// Takes up to `n` ordinary tags out of a run of `n`, where `n` is 1 to the number of tags per word. Under round robin
-    /// it always returns `None`.
+    /// Takes up to `n` ordinary tags out of a run of `n`; if a word has fewer, out of as many as it has, which
+    /// [`Pool::batch_limit`](crate::Pool::batch_limit) tells. Under round robin it always returns `None`.
     ///
     /// ```
     /// # use tags::{Options, Pool};
@@ -200,6 +196,7 @@ impl<T> Hand<T> {
     /// ```
     pub fn get_batch(&self, n: u32) -> Result<Option<Batch<'_, T>>> {
         let (mut won, mut left) = (0, 0);
+        let n = n.min(self.shared.bell.batch_limit());
         // SAFETY: as of `raw`.
         let first = unsafe { raw::tags_library_get_batch(self.raw(), n, &mut won, &mut left) };
         if left > 0 {
@@ -256,7 +253,7 @@ impl<T> Hand<T> {
         loop {
             // SAFETY: as of `raw`.
             match unsafe { raw::tags_library_finish(self.raw()) } {
-                AGAIN => {}
+                raw::AGAIN => {}
                 answer => return answer == 1,
             }
         }

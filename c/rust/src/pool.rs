@@ -1,17 +1,19 @@
 //! Pools: opening, joining, resizing and closing.
 use crate::bell::Bell;
-use crate::error::{number, CloseError, Result};
+use crate::error::{number, CloseError, Error, Result};
 use crate::hand::Hand;
 use crate::options::{Counts, Kind, Options, Sizes, Totals};
 use crate::raw::{
-    tags_close, tags_join, tags_open, tags_pool_busy, tags_pool_show, tags_pool_wakes, tags_resize,
-    Handle, MAX_CACHE, MAX_TOTAL, STAY,
+    deadline, tags_close, tags_drain, tags_drain_timed, tags_join, tags_join_blocking,
+    tags_join_timed, tags_open, tags_pool_busy, tags_pool_show, tags_pool_wakes, tags_resize,
+    tags_resume, Handle, CLOCK_MONOTONIC, MAX_CACHE, MAX_TOTAL, STAY, TIMED_OUT,
 };
 use crate::values::Values;
 use std::cell::UnsafeCell;
 use std::fmt;
 use std::ptr::NonNull;
 use std::sync::{Arc, Mutex, MutexGuard, PoisonError};
+use std::time::Duration;
 
 /// Tags that threads share, each thread through a [`Hand`] of its own, with a value of type `T` beside each tag.
 ///
@@ -37,18 +39,29 @@ pub(crate) struct Shared<T> {
     pub bell: Bell,
 }
 
-/// A pool's handle, which may be in one call at a time.
-struct Opened(Mutex<Handle>);
+/// A pool's handle. It may be in any number of calls, which take turns in the library.
+struct Opened {
+    handle: UnsafeCell<Handle>,
+    /// Held over a resize and the change of the values, so that who joins finds those that belong to the tags.
+    resizing: Mutex<()>,
+}
+
+// SAFETY: the library has a lock for each call of a handle.
+unsafe impl Sync for Opened {}
 
 impl Opened {
-    fn handle(&self) -> MutexGuard<'_, Handle> {
-        self.0.lock().unwrap_or_else(PoisonError::into_inner)
+    fn raw(&self) -> *mut Handle {
+        self.handle.get()
+    }
+
+    fn without_resize(&self) -> MutexGuard<'_, ()> {
+        self.resizing.lock().unwrap_or_else(PoisonError::into_inner)
     }
 
     fn close(&self) -> Result<Totals> {
         let mut totals = Totals::default();
-        // SAFETY: the lock reserves the handle for this call.
-        number(unsafe { tags_close(&mut *self.handle(), &mut totals) })?;
+        // SAFETY: the handle lives as long as this.
+        number(unsafe { tags_close(self.raw(), &mut totals) })?;
         Ok(totals)
     }
 }
@@ -126,7 +139,10 @@ impl<T> Pool<T> {
             unreachable!("an open pool has a bell");
         };
         let shared = Shared {
-            opened: Opened(Mutex::new(handle)),
+            opened: Opened {
+                handle: UnsafeCell::new(handle),
+                resizing: Mutex::default(),
+            },
             reserved: options.reserved,
             values: Values::new((0..options.total).map(make)),
             besides: if options.cache > 0 {
@@ -165,11 +181,101 @@ impl<T> Pool<T> {
         self.join_by(STAY)
     }
 
+    /// Returns a hand for one thread, and sleeps while all hands are out. Whoever asks first once one is dropped has it.
+    /// Don't sleep while this thread has a hand that others wait for. [`stop`](Pool::stop) ends the sleep.
+    ///
+    /// ```
+    /// # use tags::{Options, Pool};
+    /// # fn main() -> tags::Result<()> {
+    /// let pool = Pool::open(&Options::new(4, 2))?;
+    /// std::thread::scope(|threads| {
+    ///     for _ in 0..8 {
+    ///         threads.spawn(|| drop(pool.join_blocking().unwrap().get_blocking().unwrap()));
+    ///     }
+    /// });
+    /// assert_eq!(pool.close().unwrap().back, 8);
+    /// # Ok(())
+    /// # }
+    /// ```
+    pub fn join_blocking(&self) -> Result<Hand<T>> {
+        // SAFETY: as of `join_with`.
+        self.join_with(|pool, hand| unsafe { tags_join_blocking(pool, hand, 0) })
+    }
+
+    /// The same, for at most this long. `None` means that the time is up. With a time of 0 it tries once or twice.
+    ///
+    /// ```
+    /// # use std::time::Duration;
+    /// # use tags::{Options, Pool};
+    /// # fn main() -> tags::Result<()> {
+    /// let pool = Pool::open(&Options::new(4, 1))?;
+    /// let hand = pool.join_timeout(Duration::ZERO)?;
+    /// assert!(hand.is_some() && pool.join_timeout(Duration::from_millis(5))?.is_none());
+    /// # Ok(())
+    /// # }
+    /// ```
+    pub fn join_timeout(&self, time: Duration) -> Result<Option<Hand<T>>> {
+        let Some(end) = deadline(time) else {
+            return self.join_blocking().map(Some);
+        };
+        // SAFETY: as of `join_with`.
+        let timed = |pool, hand| unsafe { tags_join_timed(pool, hand, 0, CLOCK_MONOTONIC, &end) };
+        match self.join_with(timed) {
+            Err(Error::Unexpected(TIMED_OUT)) => Ok(None),
+            joined => joined.map(Some),
+        }
+    }
+
     fn join_by(&self, flags: u32) -> Result<Hand<T>> {
+        // SAFETY: as of `join_with`.
+        self.join_with(|pool, hand| unsafe { tags_join(pool, hand, flags) })
+    }
+
+    /// Joins by a call of tags.h. Its pool lives as long as this one, and its hand is local to this function.
+    fn join_with(&self, join: impl FnOnce(*mut Handle, *mut Handle) -> i32) -> Result<Hand<T>> {
         let mut hand = Handle::EMPTY;
-        // SAFETY: the lock reserves the pool's handle for this call, and the other is local to this function.
-        number(unsafe { tags_join(&mut *self.shared.opened.handle(), &mut hand, flags) })?;
+        number(join(self.shared.opened.raw(), &mut hand))?;
+        // A resize before this has replaced the values, and none comes after it while the hand is out.
+        drop(self.shared.opened.without_resize());
         Ok(Hand::new(hand, Arc::clone(&self.shared)))
+    }
+
+    /// Sleeps until all tags are back: none of either set is held, posted, or kept in a cache. For a shutdown and before a
+    /// resize, when threads get no more tags: where they do, all of them need not have been back at any one moment. A hand
+    /// that keeps tags gives them back with its next clear, by a [`flush`](Hand::flush), or when it is dropped. A
+    /// [`stop`](Pool::stop) does not end this.
+    ///
+    /// ```
+    /// # use std::time::Duration;
+    /// # use tags::{Options, Pool};
+    /// # fn main() -> tags::Result<()> {
+    /// let pool = Pool::open(&Options::new(4, 1))?;
+    /// let hand = pool.join()?;
+    /// let tag = hand.get_blocking()?;
+    /// assert!(!pool.drain_timeout(Duration::from_millis(5)));
+    /// drop(tag);
+    /// pool.drain();
+    /// # Ok(())
+    /// # }
+    /// ```
+    pub fn drain(&self) {
+        // SAFETY: the handle lives as long as the pool.
+        Hand::<T>::expect(unsafe { tags_drain(self.shared.opened.raw()) });
+    }
+
+    /// The same, for at most this long. Returns whether all tags are back.
+    #[must_use]
+    pub fn drain_timeout(&self, time: Duration) -> bool {
+        let Some(end) = deadline(time) else {
+            self.drain();
+            return true;
+        };
+        // SAFETY: the handle lives as long as the pool.
+        let answer = unsafe { tags_drain_timed(self.shared.opened.raw(), CLOCK_MONOTONIC, &end) };
+        if answer != TIMED_OUT {
+            Hand::<T>::expect(answer);
+        }
+        answer != TIMED_OUT
     }
 
     /// Like [`resize`](Pool::resize), with new values from `make` for the ordinary tags. The reserved tags keep theirs.
@@ -191,13 +297,13 @@ impl<T> Pool<T> {
         // Of a total that is refused no value is made.
         let end = if total > MAX_TOTAL { reserved } else { total };
         let values = Values::new((reserved..end).map(make));
-        let mut handle = self.shared.opened.handle();
-        // SAFETY: the lock reserves the handle for this call.
-        number(unsafe { tags_resize(&mut *handle, total) })?;
-        // SAFETY: all hands are back, and none joins while this has the lock.
+        let lock = self.shared.opened.without_resize();
+        // SAFETY: the handle lives as long as the pool.
+        number(unsafe { tags_resize(self.shared.opened.raw(), total) })?;
+        // SAFETY: all hands are back, and none that joins is used while this has the lock.
         let former = unsafe { self.shared.values.replace(reserved, values) };
         // A value may use the pool when it is dropped.
-        drop(handle);
+        drop(lock);
         drop(former);
         Ok(())
     }
@@ -226,6 +332,26 @@ impl<T> Pool<T> {
         self.shared.bell.stop();
     }
 
+    /// Lets waits for a tag begin again after [`stop`](Pool::stop). Waits that it has ended stay ended. One that it has
+    /// woken, but that has not yet looked, may find the pool resumed and wait on.
+    ///
+    /// ```
+    /// # use tags::{Error, Options, Pool};
+    /// # fn main() -> tags::Result<()> {
+    /// let pool = Pool::open(&Options::new(1, 1))?;
+    /// let hand = pool.join()?;
+    /// pool.stop();
+    /// assert_eq!(hand.get_blocking().unwrap_err(), Error::Stopped);
+    /// pool.resume();
+    /// assert!(hand.get_blocking().is_ok());
+    /// # Ok(())
+    /// # }
+    /// ```
+    pub fn resume(&self) {
+        // SAFETY: the handle lives as long as the pool.
+        Hand::<T>::expect(unsafe { tags_resume(self.shared.opened.raw()) });
+    }
+
     /// Sets bit `t % 64` of `into[t / 64]` for each busy tag `t`, clears every other bit, and returns how many tags are
     /// busy, as [`Hand::busy`] does. It needs no hand, so it works at any time, also while all hands are out.
     ///
@@ -242,18 +368,34 @@ impl<T> Pool<T> {
     /// # }
     /// ```
     pub fn busy(&self, into: &mut [u64]) -> Result<u32> {
-        let mut handle = self.shared.opened.handle();
-        // SAFETY: the lock reserves the handle for this call, and the length is that of the slice.
-        number(unsafe { tags_pool_busy(&mut *handle, into.as_mut_ptr(), into.len()) })
+        let handle = self.shared.opened.raw();
+        // SAFETY: the handle lives as long as the pool, and the length is that of the slice.
+        number(unsafe { tags_pool_busy(handle, into.as_mut_ptr(), into.len()) })
+    }
+
+    /// Returns the most tags that one [`Hand::get_batch`] takes: as many as a word has, also after a resize.
+    ///
+    /// ```
+    /// # use tags::{Options, Pool};
+    /// # fn main() -> tags::Result<()> {
+    /// let pool = Pool::open(&Options::new(16, 1))?;
+    /// assert_eq!(pool.batch_limit(), 4);
+    /// assert_eq!(pool.join()?.get_batch(8)?.unwrap().numbers().count(), 4);
+    /// # Ok(())
+    /// # }
+    /// ```
+    #[must_use]
+    pub fn batch_limit(&self) -> u32 {
+        self.shared.bell.batch_limit()
     }
 
     /// Returns the sizes of a set of tags, as [`Hand::show`] does, but without a hand.
     #[must_use]
     pub fn show(&self, kind: Kind) -> Sizes {
         let mut sizes = Sizes::default();
-        let mut handle = self.shared.opened.handle();
-        // SAFETY: the lock reserves the handle for this call.
-        Hand::<T>::expect(unsafe { tags_pool_show(&mut *handle, kind as u32, &mut sizes) });
+        let handle = self.shared.opened.raw();
+        // SAFETY: the handle lives as long as the pool.
+        Hand::<T>::expect(unsafe { tags_pool_show(handle, kind as u32, &mut sizes) });
         sizes
     }
 
@@ -273,9 +415,9 @@ impl<T> Pool<T> {
     #[must_use]
     pub fn wakes(&self) -> Counts {
         let mut counts = Counts::default();
-        let mut handle = self.shared.opened.handle();
-        // SAFETY: the lock reserves the handle for this call.
-        Hand::<T>::expect(unsafe { tags_pool_wakes(&mut *handle, &mut counts) });
+        let handle = self.shared.opened.raw();
+        // SAFETY: the handle lives as long as the pool.
+        Hand::<T>::expect(unsafe { tags_pool_wakes(handle, &mut counts) });
         counts
     }
 

@@ -1,6 +1,7 @@
 //! The exports of the library, and the types of tags.h that they take.
 use crate::options::{Counts, Sizes, Totals};
 use std::ffi::{c_char, c_void};
+use std::mem::{offset_of, size_of};
 use std::ptr::null_mut;
 use std::sync::atomic::AtomicU32;
 use std::time::Duration;
@@ -10,6 +11,8 @@ use std::time::Duration;
 pub struct Waits {
     pub waiting: AtomicU32,
     pub stopped: AtomicU32,
+    /// Set when the pool is opened.
+    pub batch: u32,
 }
 
 /// A `struct tags_pool` or a `struct tags_hand`.
@@ -19,6 +22,8 @@ pub struct Handle {
     object: *mut c_void,
     pub waits: *mut Waits,
     place: *mut c_void,
+    in_call: u32,
+    mark: u32,
 }
 
 // SAFETY: the object behind a handle may be sent to any thread, as the library proves, and is in one call at a time.
@@ -30,6 +35,8 @@ impl Handle {
         object: null_mut(),
         waits: null_mut(),
         place: null_mut(),
+        in_call: 0,
+        mark: 0,
     };
 }
 
@@ -45,33 +52,10 @@ pub struct RawOptions {
     pub cache: u32,
 }
 
-/// A `struct tags_waiter`. While it is listed, the library alone uses it.
+/// A `struct tags_waiter`, whose size the library tells. While it is listed, the library alone uses it.
 #[repr(C)]
 pub struct Waiter {
-    state: u32,
-    descriptor: i32,
-    turn: u64,
-    next: *mut Waiter,
-    previous: *mut Waiter,
-    list: *mut c_void,
-    tell: extern "C" fn(*mut c_void),
-    /// What `tell` is called with. Whoever calls it owns it.
-    pub whom: *mut c_void,
-}
-
-impl Waiter {
-    pub fn new(tell: extern "C" fn(*mut c_void)) -> Waiter {
-        Waiter {
-            state: 0,
-            descriptor: -1,
-            turn: 0,
-            next: null_mut(),
-            previous: null_mut(),
-            list: null_mut(),
-            tell,
-            whom: null_mut(),
-        }
-    }
+    private: [u8; 0],
 }
 
 /// A `struct timespec` of a system with 64 bits.
@@ -81,7 +65,23 @@ pub struct Timespec {
     pub nanoseconds: i64,
 }
 
+// As tags.h has them, and as `c/abi/0.3` says.
+const _: () = {
+    assert!(size_of::<Waits>() == 12 && offset_of!(Waits, batch) == 8);
+    assert!(size_of::<Handle>() == 40 && offset_of!(Handle, waits) == 16);
+    assert!(size_of::<RawOptions>() == 28 && offset_of!(RawOptions, cache) == 24);
+    assert!(size_of::<Sizes>() == 20 && offset_of!(Sizes, words) == 16);
+    assert!(size_of::<Counts>() == 32 && offset_of!(Counts, index) == 24);
+    assert!(size_of::<Totals>() == 64 && offset_of!(Totals, used) == 56);
+    assert!(size_of::<Timespec>() == 16);
+};
+
 pub const CLOCK_MONOTONIC: i32 = 1;
+
+// Statuses that are no errors of this crate.
+pub const NO_TAG: i32 = -10;
+pub const AGAIN: i32 = -11;
+pub const TIMED_OUT: i32 = -31;
 
 pub const MAX_TOTAL: u32 = 10_240;
 pub const MAX_CACHE: u32 = 64;
@@ -113,15 +113,32 @@ unsafe extern "C" {
     pub fn tags_library_ring(waits: *mut Waits, freed: u64);
     pub fn tags_library_tell(waits: *mut Waits, freed: u64);
     pub fn tags_library_stop(waits: *mut Waits);
-    pub fn tags_library_listen(waits: *mut Waits, waiter: *mut Waiter) -> i32;
+    pub fn tags_library_waiter_size() -> usize;
+    pub fn tags_library_listen(
+        waits: *mut Waits,
+        waiter: *mut Waiter,
+        tell: extern "C" fn(*mut c_void),
+        whom: *mut c_void,
+    ) -> i32;
     pub fn tags_library_renew(
         waits: *mut Waits,
         waiter: *mut Waiter,
         whom: *mut c_void,
     ) -> *mut c_void;
-    pub fn tags_library_unlist(waits: *mut Waits, waiter: *mut Waiter) -> i32;
+    pub fn tags_library_unlist(waits: *mut Waits, waiter: *mut Waiter) -> *mut c_void;
     pub fn tags_open(pool: *mut Handle, options: *const RawOptions) -> i32;
     pub fn tags_join(pool: *mut Handle, hand: *mut Handle, flags: u32) -> i32;
+    pub fn tags_join_blocking(pool: *mut Handle, hand: *mut Handle, flags: u32) -> i32;
+    pub fn tags_join_timed(
+        pool: *mut Handle,
+        hand: *mut Handle,
+        flags: u32,
+        clock: i32,
+        end: *const Timespec,
+    ) -> i32;
+    pub fn tags_drain(pool: *mut Handle) -> i32;
+    pub fn tags_drain_timed(pool: *mut Handle, clock: i32, end: *const Timespec) -> i32;
+    pub fn tags_resume(pool: *mut Handle) -> i32;
     pub fn tags_leave(hand: *mut Handle) -> i32;
     pub fn tags_resize(pool: *mut Handle, total: u32) -> i32;
     pub fn tags_close(pool: *mut Handle, sums: *mut Totals) -> i32;

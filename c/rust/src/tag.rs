@@ -117,7 +117,7 @@ impl<T> fmt::Debug for Tag<'_, T> {
 pub struct Batch<'a, T = ()> {
     hand: &'a Hand<T>,
     first: u32,
-    /// Bit `i` is 1 if the hand won the tag `first + i`. At least one bit is 1.
+    /// Bit `i` is 1 if the tag `first + i` is one of them.
     won: u64,
 }
 
@@ -132,6 +132,65 @@ impl<'a, T> Batch<'a, T> {
         (0..u64::BITS)
             .filter(move |bit| won >> bit & 1 == 1)
             .map(move |bit| first + bit)
+    }
+
+    /// Returns whether a tag is one of them.
+    #[must_use]
+    pub fn has(&self, number: u32) -> bool {
+        let bit = number.wrapping_sub(self.first);
+        bit < u64::BITS && self.won >> bit & 1 == 1
+    }
+
+    /// Returns the value beside one of the tags, or `None` if that is no tag of the batch.
+    ///
+    /// ```
+    /// # use tags::{Options, Pool};
+    /// # fn main() -> tags::Result<()> {
+    /// let pool = Pool::open_with(&Options::new(16, 1), |number| number * 10)?;
+    /// let hand = pool.join()?;
+    /// let mut batch = hand.get_batch(3)?.unwrap();
+    /// *batch.value_mut(1).unwrap() += 1;
+    /// assert_eq!((batch.value(1), batch.value(3)), (Some(&11), None));
+    /// # Ok(())
+    /// # }
+    /// ```
+    #[must_use]
+    pub fn value(&self, number: u32) -> Option<&T> {
+        // SAFETY: the hand holds the tag, this is its only guard, and it is borrowed as long as the value.
+        self.has(number).then(|| unsafe { &*self.cell(number) })
+    }
+
+    /// Returns the value beside one of the tags, to be changed.
+    #[must_use]
+    pub fn value_mut(&mut self, number: u32) -> Option<&mut T> {
+        // SAFETY: as in `value`, and nothing else borrows the batch.
+        self.has(number).then(|| unsafe { &mut *self.cell(number) })
+    }
+
+    fn cell(&self, number: u32) -> *mut T {
+        // SAFETY: the batch borrows a hand of the pool.
+        let cells = unsafe { self.hand.shared.cells() };
+        cells[number as usize].get()
+    }
+
+    /// Splits the first tag off, which is given back on its own; what is left goes back in one step. `None` means that
+    /// nothing is left.
+    ///
+    /// ```
+    /// # use tags::{Options, Pool};
+    /// # fn main() -> tags::Result<()> {
+    /// let pool = Pool::open(&Options::new(16, 1))?;
+    /// let hand = pool.join()?;
+    /// let mut batch = hand.get_batch(3)?.unwrap();
+    /// let first = batch.pop().unwrap();
+    /// assert!(first.number() == 0 && batch.numbers().eq([1, 2]));
+    /// # Ok(())
+    /// # }
+    /// ```
+    pub fn pop(&mut self) -> Option<Tag<'a, T>> {
+        let number = self.numbers().next()?;
+        self.won &= self.won - 1;
+        Some(Tag::new(self.hand, number))
     }
 
     /// Splits the batch into tags, each of which is given back on its own.
@@ -157,8 +216,10 @@ impl<'a, T> Batch<'a, T> {
 
 impl<T> Drop for Batch<'_, T> {
     fn drop(&mut self) {
-        self.hand.give_mask(self.first, self.won);
-        self.hand.settle();
+        if self.won > 0 {
+            self.hand.give_mask(self.first, self.won);
+            self.hand.settle();
+        }
     }
 }
 

@@ -7,9 +7,6 @@ use crate::tag::Tag;
 use std::fmt;
 use std::time::Duration;
 
-/// The status of a get whose deadline has passed.
-const TIMED_OUT: i32 = -31;
-
 impl<T> Hand<T> {
     /// Takes a free ordinary tag, and sleeps while there is none. Don't sleep while this thread holds the tags that the
     /// others wait for. That a sleeper is woken is tested, not proved. While a [`Wait`] or a future of this hand waits, a
@@ -52,7 +49,7 @@ impl<T> Hand<T> {
         };
         // SAFETY: as of `raw`.
         match unsafe { raw::tags_get_timed(self.raw(), raw::CLOCK_MONOTONIC, &end) } {
-            TIMED_OUT => Ok(None),
+            raw::TIMED_OUT => Ok(None),
             answer => Ok(Some(Tag::new(self, number(answer)?))),
         }
     }
@@ -60,7 +57,7 @@ impl<T> Hand<T> {
     /// Takes a free ordinary tag, and while there is none, waits without blocking a thread: the future is woken when a tag
     /// becomes free. Each tag wakes the future that has waited longest, which keeps its turn if it finds the tag gone; no other
     /// is woken for that tag until this one is polled or dropped, so poll a future soon after it is woken, or drop it. Dropping
-    /// it ends the wait. It works with any runtime, and any number of futures of
+    /// it ends the wait, so a timeout of the runtime is one of the wait, too. It works with any runtime, and any number of futures of
     /// one hand may wait at once. While this hand has a [`Wait`], a future that would have to wait is refused with
     /// [`Waiting`](Error::Waiting).
     ///

@@ -1,0 +1,75 @@
+/*
+ * Reports through a pool's handle, at any time: with the handle's lock, so that no other call
+ * changes what they look at.
+ */
+#include "bell.h"
+
+int32_t tags_pool_busy(struct tags_pool *pool, uint64_t *into, size_t words)
+{
+	int32_t status;
+
+	if (!pool || !into)
+		return TAGS_NULL;
+	tags_library_lock_handle(pool);
+	status = tags_library_pool_busy(pool, into, words);
+	tags_library_unlock_handle(pool);
+	return tags_detail_filled(status, into, words * sizeof(*into));
+}
+
+int32_t tags_pool_show(struct tags_pool *pool, uint32_t kind, struct tags_sizes *sizes)
+{
+	int32_t status;
+
+	if (!pool || !sizes)
+		return TAGS_NULL;
+	tags_library_lock_handle(pool);
+	status = tags_library_pool_show(pool, kind, sizes);
+	tags_library_unlock_handle(pool);
+	return tags_detail_filled(status, sizes, sizeof(*sizes));
+}
+
+int32_t tags_pool_wakes(struct tags_pool *pool, struct tags_counts *counts)
+{
+	int32_t status;
+
+	if (!pool || !counts)
+		return TAGS_NULL;
+	tags_library_lock_handle(pool);
+	status = tags_library_pool_wakes(pool, counts);
+	tags_library_unlock_handle(pool);
+	return tags_detail_filled(status, counts, sizeof(*counts));
+}
+
+/* A number of an open pool, which a resize may change, or a refusal. */
+static int32_t number_of(struct tags_pool *pool, uint32_t (*number)(const struct bell *bell))
+{
+	int32_t answer = TAGS_BAD_HANDLE;
+
+	if (!pool)
+		return TAGS_NULL;
+	tags_library_lock_handle(pool);
+	if (pool->waits && !pool->place)
+		answer = (int32_t)number(tags_bell_of(pool->waits));
+	tags_library_unlock_handle(pool);
+	return answer;
+}
+
+static uint32_t total_of(const struct bell *bell)
+{
+	return bell->reserved + bell->depth;
+}
+
+static uint32_t batch_of(const struct bell *bell)
+{
+	return bell->waits.batch;
+}
+
+int32_t tags_pool_total(struct tags_pool *pool)
+{
+	return number_of(pool, total_of);
+}
+
+int32_t tags_pool_batch(struct tags_pool *pool)
+{
+	return number_of(pool, batch_of);
+}

@@ -1,0 +1,396 @@
+/*
+ * The examples of the man pages, which c/package/manual.py takes from here: each call of
+ * tags.h in a function that shows what it is for. main() runs them all.
+ */
+#include <poll.h>
+#include <stdbool.h>
+#include <stdio.h>
+#include <sys/eventfd.h>
+#include <time.h>
+#include <unistd.h>
+
+#include "../tags.h"
+
+/* Opens a pool of 64 tags, four of them reserved, for up to eight threads. */
+static bool open_pool(struct tags_pool *pool)
+{
+	const struct tags_options options = { .total = 64, .reserved = 4, .hands = 8 };
+	int32_t status = tags_open(pool, &options);
+
+	if (status != TAGS_OK)
+		fprintf(stderr, "tags_open: %s\n", tags_strerror(status));
+	return status == TAGS_OK;
+}
+
+/* Opens a pool whose hands keep up to eight tags that they give back. */
+static bool open_cached_pool(struct tags_pool *pool)
+{
+	struct tags_options options = TAGS_OPTIONS_INIT;
+
+	options.total = 1024;
+	options.hands = 8;
+	options.cache = 8;
+	options.flags = TAGS_KEEP_WHILE_HOLDING;
+	return tags_open(pool, &options) == TAGS_OK;
+}
+
+/* One request: its number is in the slot of its tag until it is done. */
+static bool carry_out(struct tags_hand *hand, uint64_t request)
+{
+	uint64_t found = 0;
+	int32_t tag = tags_get(hand);
+
+	if (tag < 0)
+		return false; /* TAGS_NO_TAG: try again later, or wait */
+	tags_write(hand, (uint32_t)tag, request, NULL);
+	/* the request is in flight, and its completion names the tag */
+	tags_read(hand, (uint32_t)tag, &found);
+	/* only a mistake can have a clear refused: then this ends the program */
+	TAGS_MUST(tags_clear(hand, (uint32_t)tag));
+	return found == request;
+}
+
+/* What a thread does, from its first call to its last. */
+static bool work(struct tags_pool *pool)
+{
+	struct tags_hand hand = TAGS_EMPTY;
+	bool is_done;
+
+	if (tags_join(pool, &hand, 0) != TAGS_OK)
+		return false;
+	is_done = carry_out(&hand, 7);
+	return tags_leave(&hand) == TAGS_OK && is_done;
+}
+
+/* The same request by two calls in place of four. */
+static bool carry_out_by_pairs(struct tags_hand *hand, uint64_t request)
+{
+	uint64_t found = 0;
+	int32_t tag = tags_get_write(hand, request);
+
+	if (tag < 0)
+		return false;
+	/* this gives the tag back, and fills in what was in its slot */
+	return tags_read_clear(hand, (uint32_t)tag, &found) >= 0 && found == request;
+}
+
+/* A request that must go ahead takes a reserved tag, and an ordinary one if none is free. */
+static int32_t get_for_flush(struct tags_hand *hand)
+{
+	int32_t tag = tags_get_reserved(hand);
+
+	return tag == TAGS_NO_TAG ? tags_get_blocking(hand) : tag;
+}
+
+/* Requests of low priority use 16 of the ordinary tags, and leave the others to tags_get(). */
+static int32_t get_for_readahead(struct tags_hand *hand)
+{
+	return tags_get_shallow(hand, 16);
+}
+
+/* Up to eight requests at once. Returns how many there were. */
+static uint32_t carry_out_eight(struct tags_hand *hand)
+{
+	uint32_t requests = 0;
+	uint64_t won = 0;
+	int32_t first = tags_get_batch(hand, 8, &won);
+
+	if (first < 0)
+		return 0;
+	for (uint32_t i = 0; i < 8; i++)
+		if (won >> i & 1)
+			requests++; /* request tag first + i */
+	TAGS_MUST(tags_clear_mask(hand, (uint32_t)first, won));
+	return requests;
+}
+
+/* Gives back the tags of completions that came together. */
+static bool complete_all(struct tags_hand *hand, const uint32_t *completed, size_t count)
+{
+	/* none is given back if one of them can't be */
+	return tags_clear_batch(hand, completed, count) >= 0;
+}
+
+/* One thread offers a tag with its request, and sends the tag's number to another one. */
+static int32_t submit(struct tags_hand *hand, uint64_t request)
+{
+	int32_t tag = tags_get_blocking(hand);
+
+	if (tag < 0)
+		return tag;
+	tags_write(hand, (uint32_t)tag, request, NULL);
+	TAGS_MUST(tags_post(hand, (uint32_t)tag));
+	return tag;
+}
+
+/* The other thread takes the tag, reads the request in its slot, and gives the tag back. */
+static bool complete(struct tags_hand *hand, uint32_t tag, uint64_t *request)
+{
+	if (tags_take(hand, tag) != TAGS_OK)
+		return false; /* another thread was first */
+	tags_read(hand, tag, request);
+	return tags_clear(hand, tag) >= 0;
+}
+
+/* Waits for a tag, but no longer than ten milliseconds. */
+static int32_t get_soon(struct tags_hand *hand)
+{
+	struct timespec end;
+
+	clock_gettime(CLOCK_MONOTONIC, &end);
+	end.tv_nsec += 10000000;
+	if (end.tv_nsec >= 1000000000) {
+		end.tv_sec++;
+		end.tv_nsec -= 1000000000;
+	}
+	return tags_get_timed(hand, CLOCK_MONOTONIC, &end);
+}
+
+/* An event loop waits for a tag by a non-blocking eventfd, and gives up after a second. */
+static int32_t get_in_loop(struct tags_hand *hand, int event)
+{
+	struct pollfd look = { .fd = event, .events = POLLIN };
+	uint64_t told;
+	int32_t tag;
+
+	while ((tag = tags_get_async(hand, event)) == TAGS_NO_TAG) {
+		if (poll(&look, 1, 1000) != 1) {
+			tags_cancel(hand);
+			return TAGS_NO_TAG;
+		}
+		if (read(event, &told, sizeof(told)) != sizeof(told))
+			continue;
+	}
+	return tag;
+}
+
+/* A program that sleeps by means of its own; `nap` has a limit. */
+static int32_t get_with_own_sleep(struct tags_hand *hand, void (*nap)(void))
+{
+	int32_t tag;
+
+	for (;;) {
+		int32_t group = tags_prepare(hand);
+
+		if (group < 0)
+			return group;
+		tag = tags_get(hand);
+		if (tag == TAGS_NO_TAG)
+			nap();
+		while (tags_finish(hand) == TAGS_AGAIN)
+			;
+		if (tag != TAGS_NO_TAG)
+			return tag;
+	}
+}
+
+/* Whoever gives tags back tells such a program whom to wake, group by group. */
+static uint32_t wake_groups(const struct tags_grants *grants)
+{
+	uint32_t woken = 0;
+
+	for (int i = 0; i < TAGS_GROUPS; i++)
+		woken += grants->in_group[i]; /* wake so many of group i */
+	return woken;
+}
+
+/* The calls that give tags back, and tell in which groups they granted wakeups. */
+static uint32_t give_back_and_wake(struct tags_hand *hand, uint32_t tag, const uint32_t pair[2],
+				   uint32_t first, uint64_t mask)
+{
+	struct tags_grants grants = { 0, { 0 } };
+	uint32_t woken = 0;
+
+	if (tags_clear_granted(hand, tag, &grants) >= 0)
+		woken += wake_groups(&grants);
+	if (tags_clear_batch_granted(hand, pair, 2, &grants) >= 0)
+		woken += wake_groups(&grants);
+	if (tags_clear_mask_granted(hand, first, mask, &grants) >= 0)
+		woken += wake_groups(&grants);
+	if (tags_flush_granted(hand, &grants) >= 0)
+		woken += wake_groups(&grants);
+	return woken;
+}
+
+/* A thread that keeps tags gives them back before it sleeps elsewhere. */
+static void rest(struct tags_hand *hand, void (*nap)(void))
+{
+	tags_flush(hand);
+	nap();
+}
+
+/* Prints which tags are busy, and how many this thread holds. */
+static uint32_t count_own(struct tags_hand *hand)
+{
+	uint64_t busy[TAGS_MAX_TOTAL / 64];
+	uint32_t own = 0;
+
+	if (tags_busy(hand, busy, TAGS_MAX_TOTAL / 64) < 0)
+		return 0;
+	for (uint32_t tag = 0; tag < TAGS_MAX_TOTAL; tag++)
+		if (busy[tag / 64] >> tag % 64 & 1)
+			own += tags_holds(hand, tag) == 1;
+	return own;
+}
+
+/* How full the ordinary tags are, in percent, and how many hands wait by tags_prepare(). */
+static uint32_t load_of(struct tags_hand *hand, uint64_t *waiting)
+{
+	struct tags_counts counts = { 0, 0, 0, 0 };
+	struct tags_sizes sizes = { 0, 0, 0, 0, 0 };
+
+	tags_wakes(hand, &counts);
+	*waiting = counts.active;
+	tags_show(hand, TAGS_ORDINARY, &sizes);
+	return sizes.depth > 0 ? 100 * sizes.busy / sizes.depth : 0;
+}
+
+/* What a monitor prints of a pool, without a hand of its own and while others work. */
+static void monitor(struct tags_pool *pool)
+{
+	uint64_t busy[TAGS_MAX_TOTAL / 64];
+	struct tags_counts counts = { 0, 0, 0, 0 };
+	struct tags_sizes sizes = { 0, 0, 0, 0, 0 };
+
+	tags_pool_show(pool, TAGS_ORDINARY, &sizes);
+	tags_pool_wakes(pool, &counts);
+	printf("%d tags, %d in a batch at most\n", tags_pool_total(pool), tags_pool_batch(pool));
+	printf("%d busy, ", tags_pool_busy(pool, busy, TAGS_MAX_TOTAL / 64));
+	printf("%u of them ordinary; %llu hands in wait groups\n", sizes.busy,
+	       (unsigned long long)counts.active);
+}
+
+/* A thread of a program with more threads than hands: it sleeps until a hand is free. */
+static bool join_in_turn(struct tags_pool *pool, struct tags_hand *hand)
+{
+	return tags_join_blocking(pool, hand, 0) == TAGS_OK;
+}
+
+/* A second from now. */
+static struct timespec in_a_second(void)
+{
+	struct timespec end;
+
+	clock_gettime(CLOCK_MONOTONIC, &end);
+	end.tv_sec++;
+	return end;
+}
+
+/* The same for no longer than a second. */
+static bool join_soon(struct tags_pool *pool, struct tags_hand *hand)
+{
+	const struct timespec end = in_a_second();
+
+	return tags_join_timed(pool, hand, 0, CLOCK_MONOTONIC, &end) == TAGS_OK;
+}
+
+/* Ends all waits for a tag, waits until all tags are back, and lets waits begin again. */
+static bool pause_pool(struct tags_pool *pool)
+{
+	tags_stop(pool);
+	if (tags_drain(pool) != TAGS_OK)
+		return false;
+	return tags_resume(pool) == TAGS_OK;
+}
+
+/* Whether all tags are back within a second. */
+static bool is_drained(struct tags_pool *pool)
+{
+	const struct timespec end = in_a_second();
+
+	return tags_drain_timed(pool, CLOCK_MONOTONIC, &end) == TAGS_OK;
+}
+
+/* Changes the number of tags, once all hands have left. */
+static bool grow(struct tags_pool *pool, uint32_t total)
+{
+	int32_t status = tags_resize(pool, total);
+
+	if (status == TAGS_HANDS_OUT || status == TAGS_IN_USE)
+		return false; /* not yet: the pool is as it was */
+	return status == TAGS_OK;
+}
+
+/* Ends all waits, so that threads give back what they hold, and leave. */
+static void shut_down(struct tags_pool *pool)
+{
+	tags_stop(pool);
+	/* join the threads here */
+}
+
+/* Closes a pool whose hands have left. Whatever is still held or posted was leaked. */
+static bool close_pool(struct tags_pool *pool)
+{
+	struct tags_sums sums;
+
+	if (tags_close(pool, &sums) != TAGS_OK)
+		return false;
+	if (sums.held + sums.posted > 0)
+		fprintf(stderr, "%llu tags leaked\n", (unsigned long long)(sums.held + sums.posted));
+	return sums.got == sums.back;
+}
+
+static void nap(void)
+{
+}
+
+static bool runs_with(struct tags_hand *hand, struct tags_hand *other, int event)
+{
+	const struct timespec past = { 0, 0 };
+	uint64_t request = 0;
+	uint64_t waiting = 1;
+	uint64_t won = 0;
+	uint32_t tags[5];
+	int32_t tag;
+
+	for (int i = 0; i < 5; i++)
+		tags[i] = (uint32_t)tags_get(hand);
+	if (!complete_all(hand, tags, 5) || carry_out_eight(hand) != 8 ||
+	    !carry_out_by_pairs(hand, 9))
+		return false;
+	tag = submit(hand, 11);
+	if (tag < 0 || !complete(other, (uint32_t)tag, &request) || request != 11)
+		return false;
+	for (int i = 0; i < 3; i++)
+		tags[i] = (uint32_t)tags_get(hand);
+	tag = tags_get_batch(hand, 2, &won);
+	if (count_own(hand) != 5 || load_of(hand, &waiting) != 100 * 5 / 60 || waiting != 0 ||
+	    give_back_and_wake(hand, tags[0], tags + 1, (uint32_t)tag, won) != 0)
+		return false;
+	rest(hand, nap);
+	for (int i = 0; i < 4; i++)
+		tags[i] = (uint32_t)(i == 0   ? get_for_flush(hand)
+				     : i == 1 ? get_for_readahead(hand)
+				     : i == 2 ? get_soon(hand)
+					      : get_in_loop(hand, event));
+	tags[4] = (uint32_t)get_with_own_sleep(hand, nap);
+	for (int i = 0; i < 5; i++)
+		if (tags_clear(hand, tags[i]) < 0)
+			return false;
+	return tags_get_timed(hand, CLOCK_MONOTONIC, &past) >= 0;
+}
+
+int main(void)
+{
+	struct tags_pool pool = TAGS_EMPTY;
+	struct tags_pool cached = TAGS_EMPTY;
+	struct tags_hand hand = TAGS_EMPTY;
+	struct tags_hand other = TAGS_EMPTY;
+	int event = eventfd(0, EFD_NONBLOCK);
+	bool is_well = open_pool(&pool) && open_cached_pool(&cached) && close_pool(&cached) &&
+		       work(&pool) && join_in_turn(&pool, &hand) && join_soon(&pool, &other) &&
+		       runs_with(&hand, &other, event) && !grow(&pool, 128);
+
+	monitor(&pool);
+	is_well = is_well && tags_clear(&hand, 0) == TAGS_NOT_HELD;
+	for (uint32_t tag = 0; tag < 64; tag++)
+		if (tags_holds(&hand, tag) == 1)
+			TAGS_MUST(tags_clear(&hand, tag));
+	is_well = is_well && pause_pool(&pool) && is_drained(&pool) &&
+		  tags_leave(&hand) == TAGS_OK && tags_leave(&other) == TAGS_OK && grow(&pool, 128);
+	shut_down(&pool);
+	is_well = is_well && close_pool(&pool);
+	close(event);
+	puts(is_well ? "calls: 0 wrong" : "calls: wrong");
+	return !is_well;
+}

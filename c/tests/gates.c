@@ -1,0 +1,311 @@
+/*
+ * Waits for a hand, and for all tags to be back: beside threads that join, leave and use tags,
+ * with limits, and ended by stops and cancels.
+ * gates [ROUNDS]
+ */
+#define _GNU_SOURCE
+#include <errno.h>
+#include <inttypes.h>
+#include <pthread.h>
+#include <stdbool.h>
+#include <stdio.h>
+#include <stdlib.h>
+#include <time.h>
+
+#include <tags.h>
+
+enum { HANDS = 3, THREADS = 12, TOTAL = 8 };
+
+static long rounds = 500;
+static uint64_t wrong;
+static struct tags_pool pool;
+static int inside;
+/* for whoever holds the tag, and for whoever drained the pool */
+static long used[TOTAL + 2];
+static long taken;
+
+static void check(bool is_well, const char *what)
+{
+	if (is_well)
+		return;
+	__atomic_fetch_add(&wrong, 1, __ATOMIC_RELAXED);
+	fprintf(stderr, "wrong: %s\n", what);
+}
+
+#define CHECK(what) check(what, #what)
+
+static void nap(long us)
+{
+	struct timespec time = { us / 1000000, us % 1000000 * 1000 };
+
+	nanosleep(&time, NULL);
+}
+
+static struct timespec from_now(clockid_t clock, long ms)
+{
+	struct timespec time;
+
+	clock_gettime(clock, &time);
+	time.tv_sec += ms / 1000;
+	time.tv_nsec += ms % 1000 * 1000000;
+	time.tv_sec += time.tv_nsec / 1000000000;
+	time.tv_nsec %= 1000000000;
+	return time;
+}
+
+static void open_pool(uint32_t hands, uint32_t cache)
+{
+	const struct tags_options options = {
+		.total = TOTAL,
+		.reserved = 1,
+		.hands = hands,
+		.cache = cache,
+	};
+
+	CHECK(tags_open(&pool, &options) == TAGS_OK);
+}
+
+static void close_pool(void)
+{
+	struct tags_sums sums;
+
+	CHECK(tags_close(&pool, &sums) == TAGS_OK && sums.got == sums.back);
+}
+
+static void leave(struct tags_hand *hand)
+{
+	CHECK(tags_leave(hand) == TAGS_OK);
+}
+
+/*
+ * A hand
+ */
+
+/* Never are more threads inside than there are hands. */
+static void *come_and_go(void *unused)
+{
+	for (long i = 0; i < rounds; i++) {
+		struct tags_hand hand = TAGS_EMPTY;
+		const struct timespec late = from_now(CLOCK_MONOTONIC, 60000);
+
+		if (i % 2)
+			CHECK(tags_join_blocking(&pool, &hand, 0) == TAGS_OK);
+		else
+			CHECK(tags_join_timed(&pool, &hand, 0, CLOCK_MONOTONIC, &late) == TAGS_OK);
+		CHECK(__atomic_add_fetch(&inside, 1, __ATOMIC_SEQ_CST) <= HANDS);
+		if (i % 16 == 0)
+			nap(10);
+		__atomic_sub_fetch(&inside, 1, __ATOMIC_SEQ_CST);
+		leave(&hand);
+	}
+	return unused;
+}
+
+static void more_threads_than_hands(void)
+{
+	pthread_t ids[THREADS];
+
+	open_pool(HANDS, 0);
+	for (int i = 0; i < THREADS; i++)
+		CHECK(pthread_create(&ids[i], NULL, come_and_go, NULL) == 0);
+	for (int i = 0; i < THREADS; i++)
+		pthread_join(ids[i], NULL);
+	close_pool();
+}
+
+static void *join_once(void *status)
+{
+	struct tags_hand hand = TAGS_EMPTY;
+
+	*(int32_t *)status = tags_join_blocking(&pool, &hand, TAGS_STAY);
+	if (*(int32_t *)status == TAGS_OK)
+		leave(&hand);
+	return NULL;
+}
+
+static void limits_of_joins(void)
+{
+	struct tags_hand hand = TAGS_EMPTY, other = TAGS_EMPTY;
+	struct timespec end = { 0, 0 };
+
+	open_pool(1, 0);
+	CHECK(tags_join_timed(&pool, &hand, 0, CLOCK_REALTIME, &end) == TAGS_OK);
+	CHECK(tags_join_timed(&pool, &other, 0, CLOCK_REALTIME, &end) == TAGS_TIMED_OUT);
+	end = from_now(CLOCK_MONOTONIC, 20);
+	errno = 77;
+	CHECK(tags_join_timed(&pool, &other, 0, CLOCK_MONOTONIC, &end) == TAGS_TIMED_OUT);
+	CHECK(errno == 77);
+	end.tv_nsec = 1000000000;
+	CHECK(tags_join_timed(&pool, &other, 0, CLOCK_MONOTONIC, &end) == TAGS_BAD_TIME);
+	CHECK(tags_join_timed(&pool, &other, 0, -1, &end) == TAGS_BAD_TIME);
+	CHECK(tags_join_timed(&pool, &other, 0, CLOCK_MONOTONIC, NULL) == TAGS_NULL);
+	CHECK(tags_join_timed(NULL, &other, 0, CLOCK_MONOTONIC, &end) == TAGS_NULL);
+	CHECK(tags_join_blocking(&pool, NULL, 0) == TAGS_NULL);
+	CHECK(tags_join_blocking(&pool, &hand, 0) == TAGS_NOT_EMPTY);
+	CHECK(tags_join_blocking(&pool, &other, 2) == TAGS_BAD_FLAG);
+	leave(&hand);
+	close_pool();
+	CHECK(tags_join_blocking(&pool, &other, 0) == TAGS_BAD_HANDLE);
+}
+
+static void stops_and_cancels_of_joins(void)
+{
+	struct tags_hand hand = TAGS_EMPTY;
+	int32_t answers[2] = { 1, 1 };
+	pthread_t ids[2];
+	void *result;
+
+	open_pool(1, 0);
+	CHECK(tags_join(&pool, &hand, 0) == TAGS_OK);
+	for (int i = 0; i < 2; i++)
+		CHECK(pthread_create(&ids[i], NULL, join_once, &answers[i]) == 0);
+	nap(2000);
+	pthread_cancel(ids[0]);
+	pthread_join(ids[0], &result);
+	CHECK(result == PTHREAD_CANCELED);
+	CHECK(tags_stop(&pool) == TAGS_OK);
+	pthread_join(ids[1], NULL);
+	CHECK(answers[1] == TAGS_STOPPED);
+	join_once(&answers[0]);
+	CHECK(answers[0] == TAGS_STOPPED);
+	CHECK(tags_resume(&pool) == TAGS_OK);
+	CHECK(pthread_create(&ids[0], NULL, join_once, &answers[0]) == 0);
+	nap(2000);
+	leave(&hand);
+	pthread_join(ids[0], NULL);
+	CHECK(answers[0] == TAGS_OK);
+	close_pool();
+	CHECK(tags_resume(&pool) == TAGS_BAD_HANDLE && tags_resume(NULL) == TAGS_NULL);
+}
+
+/*
+ * All tags
+ */
+
+static void *use_tags(void *held)
+{
+	struct tags_hand hand = TAGS_EMPTY;
+	int32_t tags[3];
+
+	CHECK(tags_join(&pool, &hand, 0) == TAGS_OK);
+	tags[0] = tags_get(&hand);
+	tags[1] = tags_get(&hand);
+	tags[2] = tags_get_reserved(&hand);
+	for (int i = 0; i < 3; i++)
+		if (tags[i] >= 0) {
+			__atomic_add_fetch((int *)held, 1, __ATOMIC_SEQ_CST);
+			__atomic_add_fetch(&taken, 1, __ATOMIC_RELAXED);
+		}
+	__atomic_add_fetch(&inside, 1, __ATOMIC_SEQ_CST);
+	nap(100);
+	for (int i = 0; i < 3; i++) {
+		if (tags[i] < 0)
+			continue;
+		__atomic_sub_fetch((int *)held, 1, __ATOMIC_SEQ_CST);
+		used[tags[i]]++;
+		TAGS_MUST(tags_clear(&hand, (uint32_t)tags[i]));
+	}
+	/* what it keeps goes back as it leaves */
+	leave(&hand);
+	return NULL;
+}
+
+static long count_uses(void)
+{
+	long uses = 0;
+
+	for (int i = 0; i < TOTAL + 2; i++)
+		uses += used[i];
+	return uses;
+}
+
+static void drain_beside_clears(uint32_t cache)
+{
+	const struct timespec late = from_now(CLOCK_REALTIME, 300000);
+	pthread_t ids[HANDS];
+	int held = 0;
+
+	open_pool(HANDS, cache);
+	for (long round = 0; round < rounds / 5; round++) {
+		inside = 0;
+		for (int i = 0; i < HANDS; i++)
+			CHECK(pthread_create(&ids[i], NULL, use_tags, &held) == 0);
+		while (__atomic_load_n(&inside, __ATOMIC_SEQ_CST) < HANDS)
+			nap(1);
+		if (round % 2)
+			CHECK(tags_drain(&pool) == TAGS_OK);
+		else
+			CHECK(tags_drain_timed(&pool, CLOCK_REALTIME, &late) == TAGS_OK);
+		CHECK(__atomic_load_n(&held, __ATOMIC_SEQ_CST) == 0);
+		CHECK(count_uses() == __atomic_load_n(&taken, __ATOMIC_RELAXED));
+		for (int i = 0; i < HANDS; i++)
+			pthread_join(ids[i], NULL);
+		CHECK(tags_resize(&pool, TOTAL + (uint32_t)round % 3) == TAGS_OK);
+	}
+	close_pool();
+}
+
+static void *drain(void *status)
+{
+	*(int32_t *)status = tags_drain(&pool);
+	return NULL;
+}
+
+static void limits_of_drains(void)
+{
+	struct tags_hand hand = TAGS_EMPTY, other = TAGS_EMPTY;
+	struct timespec end = { 0, 0 };
+	int32_t answer = 1, tag;
+	pthread_t id;
+	void *result;
+
+	CHECK(tags_drain(&pool) == TAGS_BAD_HANDLE && tags_drain(NULL) == TAGS_NULL);
+	open_pool(2, 0);
+	CHECK(tags_drain(&pool) == TAGS_OK);
+	CHECK(tags_join(&pool, &hand, 0) == TAGS_OK && tags_join(&pool, &other, 0) == TAGS_OK);
+	tag = TAGS_MUST(tags_get(&hand));
+	TAGS_MUST(tags_post(&hand, (uint32_t)tag));
+	CHECK(tags_drain_timed(&pool, CLOCK_MONOTONIC, &end) == TAGS_TIMED_OUT);
+	end = from_now(CLOCK_MONOTONIC, 20);
+	CHECK(tags_drain_timed(&pool, CLOCK_MONOTONIC, &end) == TAGS_TIMED_OUT);
+	CHECK(tags_drain_timed(&pool, 99, &end) == TAGS_BAD_TIME);
+	CHECK(tags_drain_timed(&pool, CLOCK_MONOTONIC, NULL) == TAGS_NULL);
+	CHECK(pthread_create(&id, NULL, drain, &answer) == 0);
+	nap(2000);
+	pthread_cancel(id);
+	pthread_join(id, &result);
+	CHECK(result == PTHREAD_CANCELED && pool.waits->waiting == 0);
+	/* a stop ends no drain */
+	CHECK(tags_stop(&pool) == TAGS_OK);
+	CHECK(pthread_create(&id, NULL, drain, &answer) == 0);
+	nap(2000);
+	TAGS_MUST(tags_take(&other, (uint32_t)tag));
+	TAGS_MUST(tags_clear(&other, (uint32_t)tag));
+	pthread_join(id, NULL);
+	CHECK(answer == TAGS_OK && pool.waits->waiting == 0);
+	leave(&hand);
+	leave(&other);
+	close_pool();
+}
+
+/* The address sanitizer would report the frames that a cancel ended. */
+const char *__asan_default_options(void);
+
+const char *__asan_default_options(void)
+{
+	return "use_sigaltstack=0";
+}
+
+int main(int argc, char **argv)
+{
+	if (argc > 1)
+		rounds = strtol(argv[1], NULL, 10);
+	more_threads_than_hands();
+	limits_of_joins();
+	stops_and_cancels_of_joins();
+	limits_of_drains();
+	drain_beside_clears(0);
+	drain_beside_clears(4);
+	printf("%" PRIu64 " wrong\n", wrong);
+	return wrong != 0;
+}

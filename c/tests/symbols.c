@@ -1,0 +1,112 @@
+/*
+ * The calls of the library by their symbols, as other languages make them. What a thread writes
+ * beside a tag is seen by the next one that gets it, in a batch too, and the thread sanitizer is
+ * told so; threads join after others have left.
+ * symbols [ROUNDS]
+ */
+#include <inttypes.h>
+#include <pthread.h>
+#include <stdio.h>
+#include <stdlib.h>
+
+#include <tags.h>
+
+/* Not the calls that tags.h has in line. */
+#define SYMBOL(name) __asm__(#name)
+
+int32_t get(struct tags_hand *hand) SYMBOL(tags_get);
+int32_t get_batch(struct tags_hand *hand, uint32_t n, uint64_t *won) SYMBOL(tags_get_batch);
+int32_t clear(struct tags_hand *hand, uint32_t tag) SYMBOL(tags_clear);
+int32_t clear_mask(struct tags_hand *hand, uint32_t first, uint64_t mask) SYMBOL(tags_clear_mask);
+
+enum { TOTAL = 8, THREADS = 4, JOINS = 20 };
+
+static long rounds = 1000;
+static uint64_t wrong;
+static struct tags_pool pool;
+/* for whoever holds the tag */
+static uint64_t used[TOTAL];
+
+static void must(const char *what, int32_t status)
+{
+	if (status >= 0)
+		return;
+	fprintf(stderr, "%s: %s\n", what, tags_strerror(status));
+	exit(2);
+}
+
+/* Returns how many tags it used. */
+static uint64_t use_batch(struct tags_hand *hand)
+{
+	uint64_t count = 0, won = 0;
+	int32_t first = get_batch(hand, 4, &won);
+
+	if (first == TAGS_NO_TAG)
+		return 0;
+	must("tags_get_batch", first);
+	for (uint32_t i = 0; i < 64; i++) {
+		if (won >> i & 1) {
+			used[(uint32_t)first + i]++;
+			count++;
+		}
+	}
+	must("tags_clear_mask", clear_mask(hand, (uint32_t)first, won));
+	return count;
+}
+
+static uint64_t use_tag(struct tags_hand *hand)
+{
+	int32_t tag = get(hand);
+
+	if (tag == TAGS_NO_TAG)
+		return 0;
+	must("tags_get", tag);
+	used[tag]++;
+	must("tags_clear", clear(hand, (uint32_t)tag));
+	return 1;
+}
+
+static void *work(void *count)
+{
+	uint64_t uses = 0;
+
+	for (int join = 0; join < JOINS; join++) {
+		struct tags_hand hand = TAGS_EMPTY;
+
+		must("tags_join", tags_join(&pool, &hand, 0));
+		for (long i = 0; i < rounds; i++)
+			uses += use_batch(&hand) + use_tag(&hand);
+		must("tags_leave", tags_leave(&hand));
+	}
+	*(uint64_t *)count = uses;
+	return NULL;
+}
+
+int main(int argc, char **argv)
+{
+	const struct tags_options options = {
+		.total = TOTAL,
+		.shift = 2,
+		.hands = THREADS,
+	};
+	uint64_t counts[THREADS], uses = 0;
+	pthread_t ids[THREADS];
+	struct tags_sums sums;
+
+	if (argc > 1)
+		rounds = strtol(argv[1], NULL, 10);
+	must("tags_open", tags_open(&pool, &options));
+	for (int i = 0; i < THREADS; i++)
+		if (pthread_create(&ids[i], NULL, work, &counts[i]))
+			return 2;
+	for (int i = 0; i < THREADS; i++) {
+		pthread_join(ids[i], NULL);
+		uses += counts[i];
+	}
+	must("tags_close", tags_close(&pool, &sums));
+	for (int i = 0; i < TOTAL; i++)
+		uses -= used[i];
+	wrong += uses != 0 || sums.got != sums.back;
+	printf("%" PRIu64 " wrong\n", wrong);
+	return wrong != 0;
+}
