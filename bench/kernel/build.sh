@@ -47,9 +47,11 @@ compile() {
 }
 compile "$kernel/lib/sbitmap.c" sbitmap -w
 compile "$kernel/lib/find_bit.c" find_bit -w
+gcc -std=c99 -O2 -march=x86-64-v2 -Wall -Wextra -c "$here/c_tags.c" -o "$out/c_tags.o"
 compile "$here/sbitmap_tags.c" sbitmap_tags -Wall -Wextra -Wno-sign-compare -Wno-unused-parameter
-rm -f "$out/libsbitmap.a"
+rm -f "$out"/lib{sbitmap,c_tags}.a
 ar rcs "$out/libsbitmap.a" "$out"/{sbitmap,find_bit,sbitmap_tags}.o
+ar rcs "$out/libc_tags.a" "$out/c_tags.o"
 
 # DPDK's pool is measured where Debian's libdpdk-dev is installed.
 mempool=()
@@ -76,5 +78,5 @@ library crossbeam_utils "$(basename "$crates"/crossbeam-utils-*)" --cfg 'feature
 library crossbeam_queue "$(basename "$crates"/crossbeam-queue-*)" --cfg 'feature="std"' --cfg 'feature="alloc"' \
   --extern "cfg_if=$out/libcfg_if.rlib" --extern "crossbeam_utils=$out/libcrossbeam_utils.rlib"
 rust --edition 2021 --cap-lints warn --crate-name contenders --extern "crossbeam_queue=$out/libcrossbeam_queue.rlib" \
-  -L "native=$here/../../c/out" -l static=sbitmap -l static=tags --check-cfg 'cfg(mempool)' "${mempool[@]}" "$here/main.rs"
+  -L "native=$here/../../c/out" -l static=sbitmap -l static=c_tags -l static=tags --check-cfg 'cfg(mempool)' "${mempool[@]}" "$here/main.rs"
 echo "$linux $(dpkg-deb -f "$out/$linux"_*.deb Version)" > "$out/version"

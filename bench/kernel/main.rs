@@ -1,11 +1,12 @@
 //! What the workloads `pair`, `ring`, `full`, `handoff` and `batch` of `tag_bench` are set beside: the kernel's sbitmap_queue,
-//! the C interface of this repository, DPDK's rte_mempool where it is installed, a queue of the free tags, a list of them
-//! behind a lock, two locked steps on lines of the thread's own, and arithmetic alone.
+//! the C interface of this repository, DPDK's rte_mempool where it is installed, a bitmap alone, a queue of the free tags, a
+//! list of them behind a lock, two locked steps on lines of the thread's own, and arithmetic alone.
 //! `main WORKLOAD [--threads N] [--depth N] [--rounds N]` prints a line of JSON a case.
 #[path = "../baseline/clock.rs"]
 mod clock;
 #[path = "../baseline/frame.rs"]
 mod frame;
+mod bitmap;
 mod kernel;
 mod limit;
 mod lists;
@@ -15,6 +16,7 @@ mod mempool;
 mod registers;
 mod tag_c;
 
+use crate::bitmap::Bitmap;
 use crate::frame::{Case, Options};
 use crate::kernel::Kernel;
 use crate::limit::Limit;
@@ -70,6 +72,7 @@ fn run(workload: Workload, options: &Options, depth: u32) {
             if Mempool::can_hold(depth, threads, workload.most_held(depth, threads)) {
                 case(Hints::None).measure::<Mempool>();
             }
+            case(Hints::Apart).measure::<Bitmap>();
             case(Hints::None).measure::<Queue>();
             case(Hints::None).measure::<List>();
             case(Hints::None).measure::<Limit>();

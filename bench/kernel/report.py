@@ -20,6 +20,7 @@ MEMPOOL = ("mempool", None)
 THROUGH_C = ("tag_c", "apart")
 OWN_SLOTS = ("tag_c, own slots", "apart")
 CACHE_THROUGH_C = ("tag_c, cache", "apart")
+BITMAP = ("bitmap", "apart")
 LIMIT = ("limit", None)
 REGISTERS = ("registers", None)
 # The columns of the first table, and of the second, each a title and a contender.
@@ -30,6 +31,7 @@ FIRST = [
     ("cache", CACHE),
     ("map", OURS),
     ("rte_mempool", MEMPOOL),
+    ("bitmap", BITMAP),
     ("queue of tags", ("queue", None)),
     ("locked list", ("locked list", None)),
 ]

@@ -1,5 +1,5 @@
-//! The tags of this repository as a C program has them: each call crosses the C interface. What belongs to a tag is kept in the
-//! pool's slots, or, as beside the kernel's sbitmap, in an array of the program's own.
+//! The tags of this repository as a C program has them: the calls of tags.h, through c_tags.c. What belongs to a tag is kept in
+//! the pool's slots, or, as beside the kernel's sbitmap, in an array of the program's own.
 use crate::loops::{Slots, Tags, BATCH};
 use std::ffi::c_void;
 use std::marker::PhantomData;
@@ -11,6 +11,8 @@ use std::sync::{Mutex, MutexGuard, PoisonError};
 struct Handle {
     full: u64,
     object: *mut c_void,
+    waits: *mut c_void,
+    place: *mut c_void,
 }
 
 // SAFETY: a handle may go to any thread, and here one call at a time has it.
@@ -19,6 +21,8 @@ unsafe impl Send for Handle {}
 const EMPTY: Handle = Handle {
     full: 0,
     object: null_mut(),
+    waits: null_mut(),
+    place: null_mut(),
 };
 
 /// A struct tags_options.
@@ -37,17 +41,17 @@ struct Options {
 const STAY: u32 = 1;
 
 unsafe extern "C" {
-    fn tags_library_open_cached(pool: *mut Handle, options: *const Options, cache: u32, keeping: u32) -> i32;
-    fn tags_library_join(pool: *mut Handle, hand: *mut Handle, flags: u32) -> i32;
-    fn tags_library_leave(hand: *mut Handle) -> i32;
-    fn tags_library_close(pool: *mut Handle, sums: *mut [u64; 8]) -> i32;
-    fn tags_library_get(hand: *mut Handle, left: *mut u64) -> i32;
-    fn tags_library_get_batch(hand: *mut Handle, n: u32, won: *mut u64, left: *mut u64) -> i32;
-    fn tags_library_clear(hand: *mut Handle, tag: u32) -> i32;
-    fn tags_library_clear_mask(hand: *mut Handle, first: u32, mask: u64) -> i32;
-    fn tags_library_write(hand: *mut Handle, tag: u32, value: u64, former: *mut u64) -> i32;
-    fn tags_library_post(hand: *mut Handle, tag: u32) -> i32;
-    fn tags_library_take(hand: *mut Handle, tag: u32) -> i32;
+    fn tags_open(pool: *mut Handle, options: *const Options) -> i32;
+    fn tags_join(pool: *mut Handle, hand: *mut Handle, flags: u32) -> i32;
+    fn tags_leave(hand: *mut Handle) -> i32;
+    fn tags_close(pool: *mut Handle, sums: *mut [u64; 8]) -> i32;
+    fn c_tags_get(hand: *mut Handle) -> i32;
+    fn c_tags_get_batch(hand: *mut Handle, count: u32, won: *mut u64) -> i32;
+    fn c_tags_clear(hand: *mut Handle, tag: u32) -> i32;
+    fn c_tags_clear_mask(hand: *mut Handle, first: u32, mask: u64) -> i32;
+    fn c_tags_write(hand: *mut Handle, tag: u32, value: u64, former: *mut u64) -> i32;
+    fn c_tags_post(hand: *mut Handle, tag: u32) -> i32;
+    fn c_tags_take(hand: *mut Handle, tag: u32) -> i32;
 }
 
 /// Where a program keeps what belongs to a tag, and how many tags each of its hands keeps.
@@ -68,7 +72,7 @@ impl Keeping for InPool {
     fn touch(hand: &mut Hand, _slots: &Slots, tag: u32, value: u64) {
         let mut former = 0;
         // SAFETY: as of `drop`.
-        unsafe { tags_library_write(&mut hand.0, tag, value, &mut former) };
+        unsafe { c_tags_write(&mut hand.0, tag, value, &mut former) };
     }
 }
 
@@ -116,7 +120,7 @@ pub struct Hand(Handle, u32, u64);
 impl Drop for Hand {
     fn drop(&mut self) {
         // SAFETY: the handle is this thread's alone, as it is in each call below.
-        unsafe { tags_library_leave(&mut self.0) };
+        unsafe { tags_leave(&mut self.0) };
     }
 }
 
@@ -128,7 +132,7 @@ impl<K: Keeping> Tags for TagC<K> {
         let options = Options {
             total: depth,
             reserved: 0,
-            shift: -1,
+            shift: 0,
             min_shallow: 0,
             hands: threads,
             flags: 0,
@@ -136,7 +140,7 @@ impl<K: Keeping> Tags for TagC<K> {
         };
         let mut pool = EMPTY;
         // SAFETY: both are this function's own.
-        let status = unsafe { tags_library_open_cached(&mut pool, &options, options.cache, 0) };
+        let status = unsafe { tags_open(&mut pool, &options) };
         assert_eq!(status, 0, "the pool is not opened");
         TagC {
             pool: Mutex::new(pool),
@@ -148,17 +152,15 @@ impl<K: Keeping> Tags for TagC<K> {
     fn enter(&self, _index: u32) -> Hand {
         let mut hand = EMPTY;
         // SAFETY: the lock keeps the pool's handle to this call.
-        let status = unsafe { tags_library_join(&mut *self.pool(), &mut hand, self.flags) };
+        let status = unsafe { tags_join(&mut *self.pool(), &mut hand, self.flags) };
         assert_eq!(status, 0, "there is no hand for this thread");
         Hand(hand, 0, 0)
     }
 
     #[inline]
     fn get(&self, hand: &mut Hand) -> Option<u32> {
-        // Nobody waits here, so nobody is told of tags that the get left free.
-        let mut left = 0;
         // SAFETY: as of `drop`.
-        u32::try_from(unsafe { tags_library_get(&mut hand.0, &mut left) }).ok()
+        u32::try_from(unsafe { c_tags_get(&mut hand.0) }).ok()
     }
 
     #[inline]
@@ -169,26 +171,26 @@ impl<K: Keeping> Tags for TagC<K> {
     #[inline]
     fn clear(&self, hand: &mut Hand, tag: u32) {
         // SAFETY: as of `drop`.
-        unsafe { tags_library_clear(&mut hand.0, tag) };
+        unsafe { c_tags_clear(&mut hand.0, tag) };
     }
 
     #[inline]
     fn post(&self, hand: &mut Hand, tag: u32) {
         // SAFETY: as of `drop`.
-        unsafe { tags_library_post(&mut hand.0, tag) };
+        unsafe { c_tags_post(&mut hand.0, tag) };
     }
 
     #[inline]
     fn take(&self, hand: &mut Hand, tag: u32) {
         // SAFETY: as of `drop`.
-        unsafe { tags_library_take(&mut hand.0, tag) };
+        unsafe { c_tags_take(&mut hand.0, tag) };
     }
 
     #[inline]
     fn get_batch(&self, hand: &mut Hand, tags: &mut [u32; BATCH]) -> usize {
-        let (mut won, mut left) = (0, 0);
+        let mut won = 0;
         // SAFETY: as of `drop`.
-        let first = unsafe { tags_library_get_batch(&mut hand.0, BATCH as u32, &mut won, &mut left) };
+        let first = unsafe { c_tags_get_batch(&mut hand.0, BATCH as u32, &mut won) };
         (hand.1, hand.2) = (first as u32, won);
         let mut count = 0;
         while first >= 0 && won != 0 {
@@ -202,13 +204,13 @@ impl<K: Keeping> Tags for TagC<K> {
     #[inline]
     fn clear_batch(&self, hand: &mut Hand, _tags: &[u32]) {
         // SAFETY: as of `drop`.
-        unsafe { tags_library_clear_mask(&mut hand.0, hand.1, hand.2) };
+        unsafe { c_tags_clear_mask(&mut hand.0, hand.1, hand.2) };
     }
 
     fn close(self) {
         let mut sums = [0; 8];
         // SAFETY: no thread has a hand any more, and a struct tags_sums is eight numbers.
-        let status = unsafe { tags_library_close(&mut *self.pool(), &mut sums) };
+        let status = unsafe { tags_close(&mut *self.pool(), &mut sums) };
         let [got, back, ..] = sums;
         assert_eq!((status, got), (0, back), "a tag was not cleared");
     }
