@@ -7,9 +7,10 @@ import sys
 
 PACKAGES = {
     "gcc": "gcc", "g++": "g++", "clang": "clang", "clang++": "clang", "cargo": "cargo", "rustc": "rustc", "valgrind": "valgrind", "pkg-config": "pkg-config",
-    "cmake": "cmake", "make": "make", "man": "man-db", "dpkg": "dpkg", "dpkg-deb": "dpkg", "tar": "tar", "ldconfig": "libc-bin",
+    "cmake": "cmake", "make": "make", "ninja": "ninja-build", "man": "man-db", "musl-gcc": "musl-tools", "dpkg": "dpkg", "dpkg-deb": "dpkg", "tar": "tar", "ldconfig": "libc-bin",
+    "fio": "fio", "nbdcopy": "libnbd-bin", "nbdinfo": "libnbd-bin", "nbdkit": "nbdkit", "qemu-img": "qemu-utils", "qemu-io": "qemu-utils",
     "spin": "spin", "qemu-aarch64": "qemu-user", "qemu-x86_64": "qemu-user", "aarch64-linux-gnu-g++": "g++-aarch64-linux-gnu",
-    **dict.fromkeys("ar ld nm objcopy objdump readelf strip".split(), "binutils"),
+    **dict.fromkeys("addr2line ar ld nm objcopy objdump readelf strip".split(), "binutils"),
     **dict.fromkeys([f"aarch64-linux-gnu-{it}" for it in ("gcc", "ar", "ld", "nm", "objcopy")], "gcc-aarch64-linux-gnu"),
 }
 # Headers: what a compiler has to find, of which package.

@@ -1,7 +1,8 @@
-"""What a 64-bit object file would put into memory, without the names of what it defines: so that two of them can be compared."""
+"""What a 64-bit object file would put into memory, without the names of what it defines and without notes: so that two of them can be
+compared."""
 import struct
 
-SYMBOLS, RELOCATIONS, ABSENT, IN_MEMORY = 2, 4, 8, 2
+SYMBOLS, RELOCATIONS, NOTE, ABSENT, IN_MEMORY = 2, 4, 7, 8, 2
 
 
 class Object:
@@ -22,7 +23,7 @@ class Object:
 
     def loaded(self):
         """The numbers of the sections that go into memory, in their order."""
-        return [number for number, it in enumerate(self.sections) if it[1] & IN_MEMORY and it[3]]
+        return [number for number, it in enumerate(self.sections) if it[1] & IN_MEMORY and it[3] and it[0] != NOTE]
 
     def symbols(self):
         """Each symbol by its section and the place in it, or by its name if it is defined elsewhere."""
