@@ -18,6 +18,8 @@ MAX = 32 << 20
 FAULTS = {0, 5, 12, 22, 28, 108}
 # Most seconds that one step may take.
 STEP = 20
+# Bytes of replies that a socket holds for a client that does not take them.
+UNREAD = 65536
 BUSY = re.compile(r"busy: ordinary (\d+)/(\d+), reserved (\d+)/(\d+), connections (\d+)")
 
 
@@ -243,8 +245,10 @@ class Fuzzer:
         with Client(self.server.socket) as client:
             for _ in range(self.random.randrange(1, 40)):
                 (command, offset, length, flags), is_refused, ends = self.make()
-                # The server sends what is read while this sends, and neither may wait for the other.
-                while wanted and command == READ and sum(reads.values()) + length > 65536:
+                # The server sends what is read while this sends, and neither may wait for the other: a reply that this does not
+                # take holds its tag, and where all tags are held so the server reads no more.
+                more = length if command == READ else 0
+                while wanted and sum(reads.values()) + more > UNREAD:
                     self.collect(client, wanted, reads)
                 if ends or self.random.random() < 0.01:
                     client.request(command, offset, length, b"", flags, REQUEST if ends else self.number(32) & ~1)
