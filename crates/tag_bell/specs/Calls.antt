@@ -1,5 +1,5 @@
 -- What the contracts of calls say of the steps that they make.
-use Rattle.std.specs.Prelude.{◌≡◌, ◌≢◌, ℕ, ◌<◌, ◌≤◌, List, [], ◌∷◌, ◌++◌, length, cond, nat_eq, bit_and, bit_or}
+use Rattle.std.specs.Prelude.{◌≡◌, ◌≢◌, ◌↔◌, ℕ, ◌<◌, ◌≤◌, Bool, IsTrue, List, [], ◌∷◌, ◌++◌, length, cond, nat_eq, bit_and, bit_or}
 use Rattle.tag_core.specs.declared.bell_step.BellStep.{BellStep}
 use Rattle.tag_core.specs.declared.bell_step.BellStep.TheVariants.{Enlist, Sight, Tell, GetUp}
 use Rattle.tag_layout.specs.Layout.{word_of}
@@ -28,6 +28,17 @@ OwesNoneWhere here list caller = let l = layout_of caller in
 -- if the caller had nothing to see to, it has nothing now
 abbrev pub OwesNoMore : {R : Type 0} → ℕ → Caller R → Caller R → Type 0
 OwesNoMore list old new = OwesNothing list old → OwesNothing list new
+
+-- it looked once at each list, and found them so
+abbrev pub LooksAtLists : {R : Type 0} → ℕ → ℕ → Caller R → Caller R → Type 0
+LooksAtLists sleepers listeners old new = OnlyAdds (Bell (Sight 1 listeners) ∷ Bell (Sight 0 sleepers) ∷ []) old new
+
+-- it looked once at each list, and tells whether it found a caller in either
+pub record FindsWaiters {R : Type 0} (found : Bool) (old new : Caller R) : Type 0 where
+  pub sleepers : ℕ
+  pub listeners : ℕ
+  pub looks : LooksAtLists sleepers listeners old new
+  pub says : IsTrue found ↔ ¬ ((sleepers ≡ 0) × (listeners ≡ 0))
 
 -- the callers that these steps removed from the list: a bit is 1 if one found it set within its mask
 abbrev pub told_in : {R : Type 0} → ℕ → List (Step R) → ℕ

@@ -14,6 +14,6 @@ pub use laws::{
 };
 pub use settling::settle;
 pub use spot::Spot;
-pub use telling::see_to;
+pub use telling::{finds_waiters, see_to};
 pub use told::{LISTENERS, SLEEPERS, Told};
-pub use waiting::{get_up, is_told, list_self};
+pub use waiting::{get_up, is_told, list_again, list_self};

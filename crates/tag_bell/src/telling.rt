@@ -1,10 +1,10 @@
 //! How a caller that made tags free sees to them: it tells others that wait.
-ghost use Rattle.std.specs.Prelude.{◌≡◌, ◌≢◌, ℕ, ◌<◌, ◌≤◌};
+ghost use Rattle.std.specs.Prelude.{◌≡◌, ◌≢◌, ℕ, ◌<◌, ◌≤◌, false};
 ghost use Rattle.tag_core.specs.declared.bell.TheConstants.{LISTS};
 ghost use Rattle.tag_core.specs.Callers.{IsCallerOf};
 ghost use Rattle.tag_core.specs.Holdings.{KeepsAll};
 ghost use Rattle.tag_bell.specs.Callers.{WaitsAsBefore, OwesNothing};
-ghost use Rattle.tag_bell.specs.Calls.{OwesNoMore, Tells, TellsIn, nobody};
+ghost use Rattle.tag_bell.specs.Calls.{OwesNoMore, FindsWaiters, LooksAtLists, Tells, TellsIn, nobody};
 
 use crate::told::{LISTENERS, SLEEPERS, Told};
 use tag_core::{Caller, Map};
@@ -27,6 +27,20 @@ pub fn see_to<R>(map: &Map<R>, caller: &mut Caller<R>, freed: u32) -> Told
     tell_each(map, caller, freed, sleepers, listeners)
 }
 
+/// Returns whether it finds a caller listed, by one look at each list. If it finds none, the caller has nothing to see to.
+#[inline]
+pub fn finds_waiters<R>(map: &Map<R>, caller: &mut Caller<R>) -> bool
+    requires caller { IsCallerOf map.now caller.old }
+    ensures caller { IsCallerOf map.now caller.new }
+    ensures done { result ≡ false → (list : ℕ) → list < LISTS → OwesNothing list caller.new }
+    ensures finds { FindsWaiters result caller.old caller.new }
+    ensures waits { (list : ℕ) → WaitsAsBefore list caller.old caller.new }
+    ensures kept { KeepsAll caller.old caller.new }
+{
+    let (sleepers, listeners) = sight_lists(map, caller);
+    sleepers | listeners != 0
+}
+
 /// Returns the lists of sleepers and of listeners. One look at each.
 #[inline]
 pub(crate) fn sight_lists<R>(map: &Map<R>, caller: &mut Caller<R>) -> (u64, u64)
@@ -34,6 +48,7 @@ pub(crate) fn sight_lists<R>(map: &Map<R>, caller: &mut Caller<R>) -> (u64, u64)
     ensures caller { IsCallerOf map.now caller.new }
     ensures sleepers { result.0 ≡ 0 → OwesNothing 0 caller.new }
     ensures listeners { result.1 ≡ 0 → OwesNothing 1 caller.new }
+    ensures looks { LooksAtLists result.0 result.1 caller.old caller.new }
     ensures told { Tells 2 nobody caller.old caller.new }
     ensures waits { (list : ℕ) → WaitsAsBefore list caller.old caller.new }
     ensures kept { KeepsAll caller.old caller.new }

@@ -10,7 +10,7 @@ ghost use Rattle.tag_bell.specs.Calls.{Rings, OwesNoMore};
 
 use tag_core::{Caller, Map};
 
-/// Lists the caller among those that wait. Afterwards it has to try each tag before it may sleep.
+/// Lists the caller among those that wait, with the next turn. Afterwards it has to try each tag before it may sleep.
 pub fn list_self<R>(map: &Map<R>, caller: &mut Caller<R>, list: u32)
     requires caller { IsCallerOf map.now caller.old }
     requires within { list < LISTS }
@@ -23,6 +23,21 @@ pub fn list_self<R>(map: &Map<R>, caller: &mut Caller<R>, list: u32)
     ensures kept { KeepsAll caller.old caller.new }
 {
     map.take_turn(caller);
+    list_again(map, caller, list);
+}
+
+/// Lists the caller as `list_self` does, with the turn that it had: for one that was told and found no tag.
+pub fn list_again<R>(map: &Map<R>, caller: &mut Caller<R>, list: u32)
+    requires caller { IsCallerOf map.now caller.old }
+    requires within { list < LISTS }
+    ensures caller { IsCallerOf map.now caller.new }
+    ensures waiting { IsWaiting list caller.new }
+    ensures others { (other : ℕ) → other ≢ list → WaitsAsBefore other caller.old caller.new }
+    ensures owes { IsUp list caller.old → OwesNoMore list caller.old caller.new }
+    ensures owes_others { (other : ℕ) → other ≢ list → OwesNoMore other caller.old caller.new }
+    ensures step { (found : ℕ) × Rings (Enlist list (record_of caller.old).number found) caller.old caller.new }
+    ensures kept { KeepsAll caller.old caller.new }
+{
     map.enlist(caller, list);
 }
 

@@ -4,6 +4,7 @@
 mod batch_clears;
 mod batches;
 mod before;
+mod bell;
 mod cache;
 mod clears;
 mod counts;

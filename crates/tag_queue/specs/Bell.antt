@@ -1,9 +1,12 @@
 -- How agents wait by the bell, and see to the tags that they made free.
-use Rattle.std.specs.Prelude.{◌≡◌, ◌≢◌, ℕ, ◌<◌, Bool, false}
+use Rattle.std.specs.Prelude.{◌≡◌, ◌≢◌, ◌↔◌, ℕ, ◌<◌, Bool, IsTrue, false}
+use Rattle.std.specs.Int.{bit_at}
 use Rattle.tag_core.specs.declared.bell.TheConstants.{LISTS}
+use Rattle.tag_core.specs.declared.bell_step.BellStep.TheVariants.{Enlist, GetUp}
+use Rattle.tag_core.specs.Callers.{record_of}
 use Rattle.tag_bell.specs.declared.told.Told.{Told}
 use Rattle.tag_bell.specs.Callers.{IsWaiting, IsUp, WaitsAsBefore, OwesNothing}
-use Rattle.tag_bell.specs.Calls.{OwesNoMore, Tells}
+use Rattle.tag_bell.specs.Calls.{Rings, OwesNoMore, FindsWaiters, Tells}
 use Rattle.tag_queue.specs.declared.agent.Agent.{Agent}
 use Rattle.tag_queue.specs.Agents.{caller_of, SameElse}
 use Rattle.tag_queue.specs.Holding.{HoldsSame}
@@ -15,17 +18,28 @@ pub record StaysElsewhere {R : Type 0} (list : ℕ) (old new : Agent R) : Type 0
   pub holds : HoldsSame old new
   pub same : SameElse old new
 
--- the agent waits in the list, and has no more to see to, if it did not wait there before
+-- the agent's only step listed it: it waits in the list, and has no more to see to, if it did not wait there before
 pub record ListsSelf {R : Type 0} (list : ℕ) (old new : Agent R) : Type 0 where
   pub waiting : IsWaiting list (caller_of new)
   pub owes : IsUp list (caller_of old) → OwesNoMore list (caller_of old) (caller_of new)
+  pub step : (found : ℕ) × Rings (Enlist list (record_of (caller_of old)).number found) (caller_of old) (caller_of new)
   pub stays : StaysElsewhere list old new
 
--- the agent waits in the list no more; if nobody had told it, it has no more to see to
+-- the agent's only step ended its wait in the list; if nobody had told it, it has no more to see to
 pub record GetsUp {R : Type 0} (list : ℕ) (was_told : Bool) (old new : Agent R) : Type 0 where
   pub up : IsUp list (caller_of new)
   pub owes : was_told ≡ false → OwesNoMore list (caller_of old) (caller_of new)
+  pub step : (found : ℕ) × Rings (GetUp list (record_of (caller_of old)).number found) (caller_of old) (caller_of new)
+      × (IsTrue was_told ↔ (bit_at found (record_of (caller_of old)).number ≡ 0))
   pub stays : StaysElsewhere list old new
+
+-- the agent looked once at each list, and tells whether it found one that waits; if none, it has nothing to see to
+pub record LooksForWaiters {R : Type 0} (found : Bool) (old new : Agent R) : Type 0 where
+  pub finds : FindsWaiters found (caller_of old) (caller_of new)
+  pub done : found ≡ false → (list : ℕ) → list < LISTS → OwesNothing list (caller_of new)
+  pub waits : (list : ℕ) → WaitsAsBefore list (caller_of old) (caller_of new)
+  pub holds : HoldsSame old new
+  pub same : SameElse old new
 
 -- the agent has nothing more to see to: it told these, by at most so many steps, or found that nobody waits
 pub record SeesTo {R : Type 0} (most : ℕ) (told : Told) (old new : Agent R) : Type 0 where

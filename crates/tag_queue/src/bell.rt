@@ -5,15 +5,15 @@ ghost use Rattle.std.specs.Prelude.{◌≡◌, ◌+◌, ◌*◌, ◌<◌, ◌≤
 ghost use Rattle.tag_layout.specs.Layout.{words};
 ghost use Rattle.tag_core.specs.declared.bell.TheConstants.{LISTS};
 ghost use Rattle.tag_queue.specs.Agents.{layout_of, IsAgentOf, step_count};
-ghost use Rattle.tag_queue.specs.Bell.{ListsSelf, GetsUp, SeesTo};
+ghost use Rattle.tag_queue.specs.Bell.{ListsSelf, GetsUp, LooksForWaiters, SeesTo};
 
 use crate::agent::Agent;
 use crate::queue::Queue;
 use tag_bell::Told;
 
 impl<R: Copy> Queue<R> {
-    /// Lists the agent among those that wait. Afterwards it has to try each tag, by a get that finds none, before it may
-    /// sleep. One step.
+    /// Lists the agent among those that wait, with the next turn. Afterwards it has to try each tag, by a get that finds
+    /// none, before it may sleep. One step.
     pub fn list_self(&self, agent: &mut Agent<R>, list: u32)
         requires agent { IsAgentOf self.now agent.old }
         requires within { list < LISTS }
@@ -22,6 +22,17 @@ impl<R: Copy> Queue<R> {
         ensures bound { step_count agent.new ≡ 1 + step_count agent.old }
     {
         tag_bell::list_self(&self.map, &mut agent.caller, list);
+    }
+
+    /// Lists the agent as `list_self` does, with the turn that it had: for one that was told and found no tag. One step.
+    pub fn list_again(&self, agent: &mut Agent<R>, list: u32)
+        requires agent { IsAgentOf self.now agent.old }
+        requires within { list < LISTS }
+        ensures agent { IsAgentOf self.now agent.new }
+        ensures lists { ListsSelf list agent.old agent.new }
+        ensures bound { step_count agent.new ≡ 1 + step_count agent.old }
+    {
+        tag_bell::list_again(&self.map, &mut agent.caller, list);
     }
 
     /// Ends the agent's wait, and returns whether somebody had told it, or it did not wait there. One that was told has
@@ -43,6 +54,18 @@ impl<R: Copy> Queue<R> {
         requires within { list < LISTS }
     {
         tag_bell::is_told(&self.map, &agent.caller, list)
+    }
+
+    /// Returns whether it finds an agent that waits, by one look at each list. If it finds none, this agent has nothing to
+    /// see to.
+    #[inline]
+    pub fn finds_waiters(&self, agent: &mut Agent<R>) -> bool
+        requires agent { IsAgentOf self.now agent.old }
+        ensures agent { IsAgentOf self.now agent.new }
+        ensures looks { LooksForWaiters result agent.old agent.new }
+        ensures bound { step_count agent.new ≡ 2 + step_count agent.old }
+    {
+        tag_bell::finds_waiters(&self.map, &mut agent.caller)
     }
 
     /// Sees to all that the agent has to see to, after it made `freed` tags free: where somebody waits, it tells up to

@@ -3,7 +3,7 @@
 ghost use Rattle.std.specs.Prelude.{◌≡◌, ◌+◌, ◌*◌, ◌<◌, ◌≤◌};
 ghost use Rattle.tag_layout.specs.Layout.{words};
 ghost use Rattle.tag_core.specs.declared.bell.TheConstants.{LISTS};
-ghost use Rattle.tag_queue.specs.Bell.{ListsSelf, GetsUp, SeesTo};
+ghost use Rattle.tag_queue.specs.Bell.{ListsSelf, GetsUp, LooksForWaiters, SeesTo};
 ghost use Rattle.tag_sets.specs.Hands.{layout_of, IsHandOf, Changes, step_count};
 ghost use Rattle.tag_sets.specs.Holding.{HoldsSame};
 ghost use Rattle.tag_sets.specs.declared.kind.Kind.TheVariants.{Ordinary};
@@ -13,8 +13,8 @@ use crate::tags::Tags;
 use tag_queue::Told;
 
 impl<R: Copy> Tags<R> {
-    /// Lists the hand among those that wait. Afterwards it has to try each tag, by a get that finds none, before it may
-    /// sleep. One step.
+    /// Lists the hand among those that wait, with the next turn. Afterwards it has to try each tag, by a get that finds
+    /// none, before it may sleep. One step.
     pub fn list_self(&self, hand: &mut Hand<R>, list: u32)
         requires hand { IsHandOf self.now hand.old }
         requires within { list < LISTS }
@@ -24,6 +24,18 @@ impl<R: Copy> Tags<R> {
         ensures bound { step_count hand.new ≡ 1 + step_count hand.old }
     {
         self.ordinary.list_self(&mut hand.ordinary, list);
+    }
+
+    /// Lists the hand as `list_self` does, with the turn that it had: for one that was told and found no tag. One step.
+    pub fn list_again(&self, hand: &mut Hand<R>, list: u32)
+        requires hand { IsHandOf self.now hand.old }
+        requires within { list < LISTS }
+        ensures hand { IsHandOf self.now hand.new }
+        ensures lists { Changes Ordinary (ListsSelf list) hand.old hand.new }
+        ensures same { HoldsSame hand.old hand.new }
+        ensures bound { step_count hand.new ≡ 1 + step_count hand.old }
+    {
+        self.ordinary.list_again(&mut hand.ordinary, list);
     }
 
     /// Ends the hand's wait, and returns whether somebody had told it, or it did not wait there. One that was told has to
@@ -46,6 +58,19 @@ impl<R: Copy> Tags<R> {
         requires within { list < LISTS }
     {
         self.ordinary.is_told(&hand.ordinary, list)
+    }
+
+    /// Returns whether it finds a hand that waits, by one look at each list. If it finds none, this hand has nothing to see
+    /// to.
+    #[inline]
+    pub fn finds_waiters(&self, hand: &mut Hand<R>) -> bool
+        requires hand { IsHandOf self.now hand.old }
+        ensures hand { IsHandOf self.now hand.new }
+        ensures looks { Changes Ordinary (LooksForWaiters result) hand.old hand.new }
+        ensures same { HoldsSame hand.old hand.new }
+        ensures bound { step_count hand.new ≡ 2 + step_count hand.old }
+    {
+        self.ordinary.finds_waiters(&mut hand.ordinary)
     }
 
     /// Sees to all that the hand has to see to, after it made `freed` ordinary tags free: where somebody waits, it tells

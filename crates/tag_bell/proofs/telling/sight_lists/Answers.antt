@@ -50,6 +50,11 @@ returns-clause-listeners g c none =
     (λ tag in_range owes. ⊎_elim (λ a. no_listener R s m mine (in_word l tag) none a)
     (λ b. no_listener R s m mine (in_aside l tag) none b) owes)
 
+pub returns-clause-looks : goal.returns-clause-looks
+returns-clause-looks g c =
+    looked c.sight-sleepers.result c.sight-listeners.result c.args.caller.now c.sight-sleepers.new.caller
+    c.sight-listeners.new.caller c.sight-sleepers.ensures.step c.sight-listeners.ensures.step
+
 pub returns-clause-told : goal.returns-clause-told
 returns-clause-told g c =
     let s = c.sight-sleepers.result in let m = c.sight-listeners.result in record {
