@@ -2,6 +2,7 @@
 #![tactic(auto)]
 
 mod any_hand;
+mod bell;
 mod box_parts;
 mod cached;
 mod clears;

@@ -1,5 +1,5 @@
 -- A bitwise or is zero only where both lists are.
-use Rattle.std.proofs.Common.{◌≡◌, ◌↔◌, ℕ, zero, suc, IsTrue, Bool, true, false, not, nat_eq, bit_or, ap, ◌∙◌, refl, sym, arith}
+use Rattle.std.proofs.Common.{◌≡◌, ◌↔◌, ℕ, zero, suc, IsTrue, false, not, nat_eq, bit_or, ap, ◌∙◌, refl, sym, arith}
 use Rattle.std.proofs.lemmas.Bool.{true≢false, false≢true}
 use Rattle.std.proofs.Math.Dec.{eqb-suc-zero}
 use Rattle.std.proofs.lemmas.Nat.{le_or_l, le_or_r}
@@ -27,6 +27,8 @@ returns-clause-finds g c =
       sleepers = s;
       listeners = l;
       looks = seen.ensures.looks;
-      says = (λ a both. some.0 a (ap (λ x. bit_or x l) both.0 ∙ ap (bit_or 0) both.1),
-          λ a. some.1 (λ none. a (omega arith, omega arith)));
+      says = (
+        λ a both. some.0 a (ap (λ x. bit_or x l) both.0 ∙ ap (bit_or 0) both.1),
+        λ a. some.1 (λ none. a (omega arith, omega arith)),
+      );
     }
