@@ -1,26 +1,22 @@
 /*
- * The bell of a pool: who waits for a tag, and how they are told.
+ * The bell of a pool: it wakes those who wait for a tag when they are told of one.
  *
- * Two lists, in the order in which the waits began: the sleepers, threads in
- * tags_get_blocking() or tags_get_timed(); and the listeners, hands that wait
- * for an eventfd, and Rust's futures. A lock guards the lists; what is done with
- * it is one step to everybody else.
+ * Hands that wait are in two lists: sleepers, threads in tags_get_blocking() or tags_get_timed();
+ * and listeners, hands that wait for an eventfd. The lists are words beside those of the tags, and
+ * the steps on both are one history, of which crates/tag_bell proves that nobody sleeps beside a
+ * free tag unless somebody is on the way to it. Who waits lists itself, then tries each tag. Who
+ * makes tags free sees to them: it looks whether anybody is listed, and tells as many as there are
+ * tags for, the one that has waited longest first. Who was told gets up and tries; if it then
+ * needs no tag any more, because it has one or gives up, it sees to all tags.
  *
- * No hand waits beside a free tag, by two phases on each side. Who waits: list
- * yourself, then try. Who makes tags free, by giving them back or by a sweep:
- * free them, then look whether anybody is listed. All four are sequentially
- * consistent. So either that try follows the tag's becoming free, or the look
- * finds the waiter; and then it is told, and tries again after that.
+ * What is C and not proved is how one that was told learns of it. Each hand has a place, with a
+ * number that is a futex. Who sleeps loads the number, asks whether it was told, and sleeps while
+ * the number is the same. Who tells it changes the number, then wakes it.
  *
- * Each tag that became free tells one sleeper and one listener. The first of its
- * list is told, and removed from it, so that the next tag tells the next one. Who
- * was told tries, and if that finds no tag, returns to its old turn. Who was told
- * and needs no tag any more, because it has one or ends its wait, tells the next.
- *
- * A sleeper that was told counts as waking until it tries again. If as many are
- * waking as there are tags, no other is woken: each of them tries after the tag
- * became free, so if all find a tag, whoever gives one of those back looks again.
- * Nobody knows when a listener tries, so none of them stands in for another.
+ * And so that a call need not ask the library whether anybody waits, all who do are counted, before
+ * they list themselves. Who makes tags free loads the count afterwards. Both are sequentially
+ * consistent, as are the steps of the library, so if the count is 0, whoever waits later finds the
+ * tags. Futures, of which a hand may have any number, are in a list of their own, with a lock.
  */
 #define _GNU_SOURCE
 #include "bell.h"
@@ -33,14 +29,16 @@ char tags_library_order[TAGS_MAX_TOTAL + 1];
 
 struct bell *tags_library_make_bell(uint32_t hands)
 {
-	struct bell *bell = calloc(1, sizeof(struct bell) + hands * sizeof(struct tags_waiter));
+	struct bell *bell = calloc(1, sizeof(struct bell) + hands * sizeof(struct tags_place));
 
 	if (!bell)
 		return NULL;
 	pthread_mutex_init(&bell->lock, NULL);
 	/* binds syscall() now, in a program that binds when it calls: see blocking.c */
 	syscall(SYS_getpid);
-	bell->vacant = ~UINT64_C(0) >> (TAGS_MAX_HANDS - hands);
+	bell->hands = hands;
+	for (uint32_t i = 0; i < hands; i++)
+		bell->places[i].descriptor = -1;
 	return bell;
 }
 
@@ -51,100 +49,38 @@ void tags_library_free_bell(struct bell *bell)
 }
 
 /*
- * The lists, with the lock
+ * Hands that wait
  */
 
-/* Returns the first waiter of a list that began to wait after this turn. */
-static struct tags_waiter *find_later(const struct tags_list *list, uint64_t turn)
+int32_t tags_library_enlist(struct tags_hand *hand, bool listens)
 {
-	struct tags_waiter *waiter = list->first;
+	int32_t status;
 
-	if (list->last && list->last->turn < turn)
-		return NULL;
-	while (waiter && waiter->turn < turn)
-		waiter = waiter->next;
-	return waiter;
-}
-
-static void insert(struct bell *bell, struct tags_list *list, struct tags_waiter *waiter)
-{
-	struct tags_waiter *later = find_later(list, waiter->turn);
-	struct tags_waiter *earlier = later ? later->previous : list->last;
-
-	waiter->list = list;
-	waiter->next = later;
-	waiter->previous = earlier;
-	*(later ? &later->previous : &list->last) = waiter;
-	*(earlier ? &earlier->next : &list->first) = waiter;
-	tags_add(&list->length, 1);
-	tags_add(&bell->waits.waiting, 1);
-	tags_store(&waiter->state, TAGS_LISTED);
-}
-
-static void take_out(struct bell *bell, struct tags_waiter *waiter, uint32_t state)
-{
-	struct tags_list *list = waiter->list;
-
-	*(waiter->next ? &waiter->next->previous : &list->last) = waiter->previous;
-	*(waiter->previous ? &waiter->previous->next : &list->first) = waiter->next;
-	tags_subtract(&list->length, 1);
-	tags_subtract(&bell->waits.waiting, 1);
-	tags_store(&waiter->state, state);
-}
-
-/*
- * Who waits
- */
-
-bool tags_library_enlist(struct bell *bell, struct tags_list *list, struct tags_waiter *waiter)
-{
-	bool goes_on;
-
-	pthread_mutex_lock(&bell->lock);
-	goes_on = tags_load(&bell->waits.stopped) == 0;
-	if (goes_on) {
-		if (waiter->turn == 0)
-			waiter->turn = ++bell->turns;
-		insert(bell, list, waiter);
-	}
-	pthread_mutex_unlock(&bell->lock);
-	return goes_on;
-}
-
-bool tags_library_strike(struct bell *bell, struct tags_waiter *waiter)
-{
-	bool was_told;
-
-	pthread_mutex_lock(&bell->lock);
-	was_told = waiter->state == TAGS_TOLD;
-	if (waiter->state == TAGS_LISTED)
-		take_out(bell, waiter, TAGS_IDLE);
+	tags_add(&hand->waits->waiting, 1);
+	if (hand->place->has_turn)
+		status = tags_library_list_again(hand, listens);
 	else
-		tags_store(&waiter->state, TAGS_IDLE);
-	pthread_mutex_unlock(&bell->lock);
+		status = tags_library_list_self(hand, listens);
+	if (status == TAGS_OK)
+		hand->place->has_turn = true;
+	else
+		tags_subtract(&hand->waits->waiting, 1);
+	return status;
+}
+
+bool tags_library_strike(struct tags_hand *hand, bool listens)
+{
+	const bool was_told = tags_library_get_up(hand, listens) == 1;
+
+	tags_subtract(&hand->waits->waiting, 1);
 	return was_told;
 }
 
-/*
- * Who tells
- */
-
-/* Wakes the first sleeper, if fewer than @most are waking. Returns whether it did. */
-static bool wake_first(struct bell *bell, uint32_t most)
+/* Wakes the thread that sleeps in a place, if there is one. */
+static void wake_sleeper(struct tags_place *place)
 {
-	struct tags_waiter *first = NULL;
-
-	pthread_mutex_lock(&bell->lock);
-	if (tags_load(&bell->waking) < most)
-		first = bell->sleepers.first;
-	if (first) {
-		tags_add(&bell->waking, 1);
-		take_out(bell, first, TAGS_TOLD);
-	}
-	pthread_mutex_unlock(&bell->lock);
-	if (first)
-		syscall(SYS_futex, &first->state, TAGS_FUTEX_WAKE, 1, NULL, NULL, 0);
-	return first != NULL;
+	tags_add(&place->rings, 1);
+	syscall(SYS_futex, &place->rings, TAGS_FUTEX_WAKE, 1, NULL, NULL, 0);
 }
 
 /*
@@ -161,53 +97,87 @@ static bool notify(int descriptor)
 }
 
 /*
- * Tells the first listener that can be told. An eventfd is told with the lock: once a hand is struck, the
- * program may close it. What others call may do anything, such as give a tag back.
+ * Notifies the hand in a place, once, unless its wait has ended. That is done with the lock: once
+ * the wait has ended, the program may close the eventfd. Returns whether the hand knows.
  */
+static bool notify_listener(struct bell *bell, struct tags_place *place)
+{
+	bool knows = true;
+
+	pthread_mutex_lock(&bell->lock);
+	if (place->descriptor >= 0)
+		knows = notify(place->descriptor);
+	place->descriptor = -1;
+	pthread_mutex_unlock(&bell->lock);
+	return knows;
+}
+
+/*
+ * Futures: the list, with the lock
+ */
+
+/* Returns the first future of the list that began to wait after this turn. */
+static struct tags_waiter *find_later(const struct tags_list *list, uint64_t turn)
+{
+	struct tags_waiter *waiter = list->first;
+
+	if (list->last && list->last->turn < turn)
+		return NULL;
+	while (waiter && waiter->turn < turn)
+		waiter = waiter->next;
+	return waiter;
+}
+
+static void insert(struct bell *bell, struct tags_waiter *waiter)
+{
+	struct tags_list *list = &bell->futures;
+	struct tags_waiter *later = find_later(list, waiter->turn);
+	struct tags_waiter *earlier = later ? later->previous : list->last;
+
+	waiter->next = later;
+	waiter->previous = earlier;
+	*(later ? &later->previous : &list->last) = waiter;
+	*(earlier ? &earlier->next : &list->first) = waiter;
+	tags_add(&list->length, 1);
+	tags_add(&bell->waits.waiting, 1);
+	tags_store(&waiter->state, TAGS_LISTED);
+}
+
+static void take_out(struct bell *bell, struct tags_waiter *waiter, uint32_t state)
+{
+	struct tags_list *list = &bell->futures;
+
+	*(waiter->next ? &waiter->next->previous : &list->last) = waiter->previous;
+	*(waiter->previous ? &waiter->previous->next : &list->first) = waiter->next;
+	tags_subtract(&list->length, 1);
+	tags_subtract(&bell->waits.waiting, 1);
+	tags_store(&waiter->state, state);
+}
+
+/* Tells the first future, without the lock: what others call may do anything, such as give a tag back. */
 static bool tell_first(struct bell *bell)
 {
-	void (*tell)(void *whom) = NULL;
 	struct tags_waiter *first;
+	void (*tell)(void *whom) = NULL;
 	void *whom = NULL;
 
 	pthread_mutex_lock(&bell->lock);
-	do {
-		first = bell->listeners.first;
-		if (!first)
-			break;
+	first = bell->futures.first;
+	if (first) {
 		tell = first->tell;
 		whom = first->whom;
 		take_out(bell, first, TAGS_TOLD);
-	} while (!tell && !notify(first->descriptor));
+	}
 	pthread_mutex_unlock(&bell->lock);
 	if (tell)
 		tell(whom);
-	return first != NULL;
-}
-
-void tags_library_wake(struct bell *bell, uint64_t freed)
-{
-	while (freed-- > 0 && tags_load(&bell->sleepers.length) > 0 &&
-	       tags_load(&bell->waking) < bell->depth && wake_first(bell, bell->depth))
-		;
+	return tell != NULL;
 }
 
 static void tell(struct bell *bell, uint64_t freed)
 {
-	while (freed-- > 0 && tags_load(&bell->listeners.length) > 0 && tell_first(bell))
+	while (freed-- > 0 && tags_load(&bell->futures.length) > 0 && tell_first(bell))
 		;
-}
-
-static void ring(struct bell *bell, uint64_t freed)
-{
-	int kept = errno;
-
-	if (freed > bell->depth)
-		freed = bell->depth;
-	tags_library_wake(bell, freed);
-	tell(bell, freed);
-	tags_library_open_gate(&bell->waits);
-	errno = kept;
 }
 
 void tags_library_tell(struct tags_waits *waits, uint64_t freed)
@@ -218,26 +188,81 @@ void tags_library_tell(struct tags_waits *waits, uint64_t freed)
 	errno = kept;
 }
 
-void tags_library_ring(struct tags_waits *waits, uint64_t freed)
+/*
+ * Who tells
+ */
+
+/*
+ * Where a future waits, what the hand keeps goes back first: how many tags that are is not known.
+ * A hand that keeps none and gave none back, as by a post, has nothing to see to.
+ */
+void tags_library_see(struct tags_hand *hand, uint64_t freed, struct tags_due *due)
 {
-	if (tags_load(&waits->waiting) > 0)
-		ring(tags_bell_of(waits), freed);
+	struct bell *bell = tags_bell_of(hand->waits);
+	struct tags_told told = { 0, 0 };
+
+	if (freed == 0 && !bell->is_cached)
+		return;
+	if (freed > bell->depth)
+		freed = bell->depth;
+	due->freed += freed;
+	if (bell->is_cached && tags_load(&bell->futures.length) > 0) {
+		tags_library_flush(hand);
+		due->freed += TAGS_MAX_CACHE;
+	}
+	tags_library_see_to(hand, (uint32_t)freed, &told);
+	due->told.sleepers |= told.sleepers;
+	due->told.listeners |= told.listeners;
+}
+
+bool tags_library_wake(struct tags_waits *waits, const struct tags_due *due)
+{
+	struct bell *bell = tags_bell_of(waits);
+	bool all_know = true;
+	uint64_t left;
+
+	for (left = due->told.sleepers; left; left &= left - 1)
+		wake_sleeper(&bell->places[__builtin_ctzll(left)]);
+	for (left = due->told.listeners; left; left &= left - 1)
+		all_know &= notify_listener(bell, &bell->places[__builtin_ctzll(left)]);
+	tell(bell, due->freed);
+	tags_library_open_gate(waits);
+	return all_know;
+}
+
+/* Wakes whom the hand told; and if one of those can't be notified, tells others in its place. */
+static void wake(struct tags_hand *hand, struct tags_due *due)
+{
+	int kept = errno;
+
+	while (!tags_library_wake(hand->waits, due)) {
+		due->freed = 0;
+		tags_library_see_to(hand, 1, &due->told);
+	}
+	errno = kept;
+}
+
+void tags_library_ring(struct tags_hand *hand, uint64_t freed)
+{
+	struct tags_due due = { { 0, 0 }, 0 };
+
+	if (tags_load(&hand->waits->waiting) == 0)
+		return;
+	tags_library_see(hand, freed, &due);
+	wake(hand, &due);
+}
+
+void tags_library_settle(struct tags_hand *hand)
+{
+	struct tags_due due = { { 0, 0 }, 0 };
+
+	tags_library_see_to_all(hand, &due.told);
+	wake(hand, &due);
 }
 
 /*
- * A clear that found no hand in a wait group kept its tag; now somebody waits. How many
- * tags go back is not known.
+ * Stops
  */
-void tags_library_ring_kept(struct tags_hand *hand, uint64_t freed)
-{
-	struct bell *bell = tags_bell_of(hand->waits);
-
-	if (bell->is_cached) {
-		tags_library_flush(hand);
-		freed += TAGS_MAX_CACHE;
-	}
-	ring(bell, freed);
-}
 
 void tags_library_stop(struct tags_waits *waits)
 {
@@ -247,8 +272,10 @@ void tags_library_stop(struct tags_waits *waits)
 	pthread_mutex_lock(&bell->lock);
 	tags_store(&bell->waits.stopped, 1);
 	pthread_mutex_unlock(&bell->lock);
-	while (wake_first(bell, UINT32_MAX))
-		;
+	for (uint32_t i = 0; i < bell->hands; i++) {
+		wake_sleeper(&bell->places[i]);
+		notify_listener(bell, &bell->places[i]);
+	}
 	while (tell_first(bell))
 		;
 	tags_library_open_gate(waits);
@@ -277,12 +304,21 @@ int32_t tags_library_listen(struct tags_waits *waits, struct tags_waiter *waiter
 			    void (*call)(void *whom), void *whom)
 {
 	struct bell *bell = tags_bell_of(waits);
+	bool goes_on;
 
 	if (bell->depth == 0)
 		return TAGS_NO_SUCH_TAG;
 	waiter->tell = call;
 	waiter->whom = whom;
-	return tags_library_enlist(bell, &bell->listeners, waiter) ? TAGS_OK : TAGS_STOPPED;
+	pthread_mutex_lock(&bell->lock);
+	goes_on = tags_load(&bell->waits.stopped) == 0;
+	if (goes_on) {
+		if (waiter->turn == 0)
+			waiter->turn = ++bell->turns;
+		insert(bell, waiter);
+	}
+	pthread_mutex_unlock(&bell->lock);
+	return goes_on ? TAGS_OK : TAGS_STOPPED;
 }
 
 void *tags_library_renew(struct tags_waits *waits, struct tags_waiter *waiter, void *whom)
@@ -303,5 +339,15 @@ void *tags_library_renew(struct tags_waits *waits, struct tags_waiter *waiter, v
 
 void *tags_library_unlist(struct tags_waits *waits, struct tags_waiter *waiter)
 {
-	return tags_library_strike(tags_bell_of(waits), waiter) ? NULL : waiter->whom;
+	struct bell *bell = tags_bell_of(waits);
+	bool was_told;
+
+	pthread_mutex_lock(&bell->lock);
+	was_told = waiter->state == TAGS_TOLD;
+	if (waiter->state == TAGS_LISTED)
+		take_out(bell, waiter, TAGS_IDLE);
+	else
+		tags_store(&waiter->state, TAGS_IDLE);
+	pthread_mutex_unlock(&bell->lock);
+	return was_told ? NULL : waiter->whom;
 }

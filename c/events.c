@@ -1,60 +1,56 @@
 /*
- * Waits that need no thread: a hand is listed in the bell with an eventfd, which
- * is told when a tag is free. As with a thread that sleeps, the hand is listed
- * before its last try. How it is told is in bell.c.
+ * Waits that need no thread: a hand is listed as a listener, with an eventfd that is notified
+ * when the hand is told of a tag. As with a thread that sleeps, the hand is listed before its
+ * last try. How it is told is in bell.c.
  */
 #define _GNU_SOURCE
 #include "bell.h"
 
-static bool is_waiting(const struct tags_hand *hand)
+/* Sets the eventfd on which the hand is notified, or -1. */
+static void listen_on(struct tags_hand *hand, int descriptor)
 {
-	return tags_load(&hand->place->state) != TAGS_IDLE;
+	struct bell *bell = tags_bell_of(hand->waits);
+
+	pthread_mutex_lock(&bell->lock);
+	hand->place->descriptor = descriptor;
+	pthread_mutex_unlock(&bell->lock);
+	hand->place->is_listening = descriptor >= 0;
 }
 
-/* Ends the hand's stay in the bell, if there is one. Returns whether it was told. */
+/* Ends the hand's stay in the list, if there is one. Returns whether it was told. */
 static bool stop_listening(struct tags_hand *hand)
 {
-	bool was_told;
-
-	if (!is_waiting(hand))
+	if (!hand->place->is_listening)
 		return false;
-	was_told = tags_library_strike(tags_bell_of(hand->waits), hand->place);
-	tags_leave_group(hand);
-	return was_told;
+	listen_on(hand, -1);
+	return tags_library_strike(hand, true);
 }
 
 /* Lists the hand, at its former turn if it has waited. */
 static int32_t listen(struct tags_hand *hand, int descriptor)
 {
-	struct bell *bell = tags_bell_of(hand->waits);
 	int32_t status;
 
-	if (bell->depth == 0)
+	if (tags_bell_of(hand->waits)->depth == 0)
 		return TAGS_NO_SUCH_TAG;
-	status = tags_library_prepare(hand);
-	if (status < 0)
-		return status;
-	hand->place->descriptor = descriptor;
-	if (tags_library_enlist(bell, &bell->listeners, hand->place))
-		return TAGS_OK;
-	tags_leave_group(hand);
-	return TAGS_STOPPED;
+	/* whoever finds the hand listed finds the eventfd */
+	listen_on(hand, descriptor);
+	status = tags_library_enlist(hand, true);
+	if (status != TAGS_OK)
+		listen_on(hand, -1);
+	return status;
 }
 
-/* Returns a tag, or TAGS_NO_TAG if the hand is listed now. */
+/* Returns a tag, or why there is none: with TAGS_NO_TAG the hand is listed now. */
 static int32_t get_or_listen(struct tags_hand *hand, int descriptor)
 {
-	int32_t tag = tags_get(hand);
-	int32_t status;
+	int32_t tag = listen(hand, descriptor);
 
-	if (tag != TAGS_NO_TAG)
+	if (tag != TAGS_OK)
 		return tag;
-	status = listen(hand, descriptor);
-	if (status != TAGS_OK)
-		return status;
-	tag = tags_get(hand);
+	tag = tags_detail_is_stopped(hand) ? (int32_t)TAGS_STOPPED : tags_get(hand);
 	if (tag != TAGS_NO_TAG && stop_listening(hand))
-		tags_library_tell(hand->waits, 1);
+		tags_library_settle(hand);
 	return tag;
 }
 
@@ -68,21 +64,23 @@ int32_t tags_library_get_async(struct tags_hand *hand, int descriptor)
 	if (descriptor < 0)
 		return TAGS_BAD_EVENT;
 	was_told = stop_listening(hand);
-	tag = tags_detail_is_stopped(hand) ? (int32_t)TAGS_STOPPED : get_or_listen(hand, descriptor);
+	tag = tags_detail_is_stopped(hand) ? (int32_t)TAGS_STOPPED : tags_get(hand);
+	if (was_told && tag != TAGS_NO_TAG)
+		tags_library_settle(hand);
+	if (tag == TAGS_NO_TAG)
+		tag = get_or_listen(hand, descriptor);
 	if (tag != TAGS_NO_TAG)
-		hand->place->turn = 0;
-	if (tag < 0 && tag != TAGS_NO_TAG && was_told)
-		tags_library_tell(hand->waits, 1);
+		hand->place->has_turn = false;
 	return tag;
 }
 
 bool tags_library_cancel(struct tags_hand *hand)
 {
-	if (!is_waiting(hand))
+	if (!hand->place->is_listening)
 		return false;
 	if (stop_listening(hand))
-		tags_library_tell(hand->waits, 1);
-	hand->place->turn = 0;
+		tags_library_settle(hand);
+	hand->place->has_turn = false;
 	return true;
 }
 

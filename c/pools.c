@@ -1,6 +1,6 @@
 /*
  * Pools and hands: the library's calls, with the bell of the pool. A pool and its
- * hands point to the bell, and each hand that has joined has a place in it.
+ * hands point to the bell, and each hand has a place in it, by its number.
  */
 #include "bell.h"
 
@@ -28,28 +28,6 @@ static int32_t end_hidden(int32_t status)
 		AnnotateIgnoreReadsEnd(__FILE__, __LINE__);
 	}
 	return status;
-}
-
-/*
- * There is a place for each hand that the pool can give out. A hand that leaves gives up
- * its place before it leaves, since the pool may be closed right after that.
- */
-static struct tags_waiter *take_place(struct bell *bell)
-{
-	uint32_t at;
-
-	pthread_mutex_lock(&bell->lock);
-	at = (uint32_t)__builtin_ctzll(bell->vacant);
-	bell->vacant &= bell->vacant - 1;
-	pthread_mutex_unlock(&bell->lock);
-	return &bell->places[at];
-}
-
-static void give_up_place(struct bell *bell, const struct tags_waiter *place)
-{
-	pthread_mutex_lock(&bell->lock);
-	bell->vacant |= UINT64_C(1) << (place - bell->places);
-	pthread_mutex_unlock(&bell->lock);
 }
 
 /*
@@ -163,7 +141,7 @@ int32_t tags_join(struct tags_pool *pool, struct tags_hand *hand, uint32_t flags
 	status = end_hidden(tags_library_join(pool, hand, flags));
 	if (status == TAGS_OK) {
 		hand->waits = pool->waits;
-		hand->place = take_place(tags_bell_of(pool->waits));
+		hand->place = &tags_bell_of(pool->waits)->places[tags_library_number(hand)];
 	}
 	tags_library_unlock_handle(pool);
 	TAGS_DETAIL_SEES(TAGS_MAX_TOTAL);
@@ -181,7 +159,6 @@ int32_t tags_library_return_hand(struct tags_hand *hand)
 		return TAGS_BAD_HANDLE;
 	tags_library_cancel(hand);
 	tags_flush(hand);
-	give_up_place(tags_bell_of(hand->waits), hand->place);
 	hand->waits = NULL;
 	hand->place = NULL;
 	TAGS_DETAIL_SHOWS(TAGS_MAX_TOTAL);

@@ -220,7 +220,7 @@ struct tags_pool {
 	void *object;
 	struct tags_waits *waits;
 	/* unused; both kinds of handles have the same fields */
-	struct tags_waiter *place;
+	struct tags_place *place;
 	uint32_t in_call;
 	uint32_t mark;
 };
@@ -231,7 +231,7 @@ struct tags_hand {
 	uint64_t full;
 	void *object;
 	struct tags_waits *waits;
-	struct tags_waiter *place;
+	struct tags_place *place;
 	/* 1 in a call that was compiled with TAGS_CHECKED_HANDS */
 	uint32_t in_call;
 	/* what each call writes under the thread sanitizer; always 0 */
@@ -413,11 +413,10 @@ int32_t tags_library_prepare(struct tags_hand *hand);
 int32_t tags_library_finish(struct tags_hand *hand);
 
 /*
- * What the calls below use of the C part. The first two tell those who wait of @freed tags,
- * the second one after it gave back what the hand keeps.
+ * What the calls below use of the C part. The first one tells those who wait of @freed tags that
+ * the hand gave back or made free; if anybody waits, it gives back what the hand keeps.
  */
-void tags_library_ring(struct tags_waits *waits, uint64_t freed);
-void tags_library_ring_kept(struct tags_hand *hand, uint64_t freed);
+void tags_library_ring(struct tags_hand *hand, uint64_t freed);
 int32_t tags_library_wait(struct tags_hand *hand);
 int32_t tags_library_get_timed(struct tags_hand *hand, int32_t clock,
 			       const struct timespec *deadline);
@@ -589,7 +588,7 @@ static inline void tags_detail_lost_mask(uint32_t first, uint64_t mask)
 static inline int32_t tags_detail_swept(struct tags_hand *hand, int32_t tag, uint64_t left)
 {
 	if (left > 0)
-		tags_library_ring(hand->waits, left);
+		tags_library_ring(hand, left);
 	return tags_detail_end(hand, tags_detail_won(tag));
 }
 
@@ -597,7 +596,7 @@ static inline int32_t tags_detail_swept(struct tags_hand *hand, int32_t tag, uin
 static inline int32_t tags_detail_gave(struct tags_hand *hand, int32_t status, uint64_t freed)
 {
 	if (status >= 0 && __atomic_load_n(&hand->waits->waiting, __ATOMIC_SEQ_CST) > 0)
-		tags_library_ring_kept(hand, freed);
+		tags_library_ring(hand, freed);
 	return tags_detail_end(hand, status);
 }
 
@@ -610,7 +609,7 @@ static inline int32_t tags_detail_gave_mask(struct tags_hand *hand, int32_t stat
 		return tags_detail_end(hand, status);
 	for (; mask; mask &= mask - 1)
 		freed++;
-	tags_library_ring_kept(hand, freed);
+	tags_library_ring(hand, freed);
 	return tags_detail_end(hand, status);
 }
 
@@ -928,7 +927,7 @@ TAGS_DETAIL_CHECKED int32_t tags_get_batch(struct tags_hand *hand, uint32_t n, u
 		n = hand->waits->batch;
 	first = tags_detail_filled(tags_library_get_batch(hand, n, won, &left), won, sizeof(*won));
 	if (left > 0)
-		tags_library_ring(hand->waits, left);
+		tags_library_ring(hand, left);
 #if defined TAGS_DETAIL_SANITIZED || defined TAGS_LIBRARY
 	for (int32_t i = 0; first >= 0 && i < 64; i++)
 		if (*won >> i & 1)

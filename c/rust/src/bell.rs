@@ -1,6 +1,6 @@
 //! The bell of a pool, which the library makes: it knows who waits for a tag, and tells them when one is free.
 use crate::error::{number, Result};
-use crate::raw::{self, Waiter, Waits};
+use crate::raw::{self, Due, Waiter, Waits};
 use std::ffi::c_void;
 use std::mem::size_of;
 use std::ptr::NonNull;
@@ -43,24 +43,23 @@ impl Bell {
         self.waits().stopped.load(SeqCst) > 0
     }
 
-    /// Tells those who wait of this many tags that became free. It calls wakers, which may do anything, so no lock that
-    /// they may need is held meanwhile.
+    /// Wakes those who were told. It calls wakers, which may do anything, so no lock that they may need is held meanwhile.
     #[cold]
-    pub fn ring(&self, freed: u64) {
+    pub fn wake(&self, due: &Due) {
         // SAFETY: it lives as long as the pool or a hand, one of which the caller has.
-        unsafe { raw::tags_library_ring(self.0.as_ptr(), freed) };
+        unsafe { raw::tags_library_wake(self.0.as_ptr(), due) };
     }
 
-    /// Tells this many futures, or hands of C, that a tag is theirs to try for.
+    /// Tells this many futures that a tag is theirs to try for.
     pub fn pass_on(&self, tags: u64) {
         if tags > 0 {
-            // SAFETY: as in `ring`.
+            // SAFETY: as in `wake`.
             unsafe { raw::tags_library_tell(self.0.as_ptr(), tags) };
         }
     }
 
     pub fn stop(&self) {
-        // SAFETY: as in `ring`.
+        // SAFETY: as in `wake`.
         unsafe { raw::tags_library_stop(self.0.as_ptr()) };
     }
 }

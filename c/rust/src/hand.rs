@@ -2,7 +2,7 @@
 use crate::error::{number, Result};
 use crate::options::{Counts, Kind, Sizes};
 use crate::pool::Shared;
-use crate::raw::{self, Handle};
+use crate::raw::{self, Due, Handle};
 use crate::shared::SharedHand;
 use crate::tag::{Batch, Tag};
 use std::cell::{Cell, RefCell, UnsafeCell};
@@ -34,8 +34,8 @@ pub struct Hand<T = ()> {
     pub(crate) loose: RefCell<Vec<u64>>,
     /// How many futures wait. The hand is in a wait group while there are any.
     pub(crate) waiting: Cell<usize>,
-    /// How many tags it made free of which it has not told those who wait yet.
-    pub(crate) owed: Cell<u64>,
+    /// Whom it has told of tags and not woken yet.
+    pub(crate) owed: Cell<Due>,
 }
 
 impl<T> Hand<T> {
@@ -45,7 +45,7 @@ impl<T> Hand<T> {
             shared,
             loose: RefCell::default(),
             waiting: Cell::new(0),
-            owed: Cell::new(0),
+            owed: Cell::default(),
         };
         *hand.loose.borrow_mut() = hand.held();
         hand
@@ -82,37 +82,30 @@ impl<T> Hand<T> {
         }
     }
 
-    // Whoever makes tags free tells those who wait afterwards. Telling may call a waker, so a hand behind a lock owes it until
-    // the lock is left, and each call below that makes tags free only notes how many they are.
+    // Whoever makes tags free tells those who wait afterwards, and then wakes them. That may call a waker, so a hand behind a
+    // lock owes it until the lock is left, and each call below that makes tags free only notes whom it told.
 
-    /// Notes that a get made tags free that it did not take.
-    #[cold]
-    fn owe(&self, freed: u64) {
-        self.owed.set(self.owed.get() + freed);
-    }
-
-    /// Notes that a call gave this many tags back, if anybody waits. What the hand keeps goes back then, too.
+    /// Sees to this many tags that a call gave back or made free, if anybody waits. What the hand keeps goes back then, too.
     #[inline]
     pub(crate) fn owe_if_awaited(&self, freed: u64) {
         if self.shared.bell.is_awaited() {
-            self.give_kept();
-            self.owe(freed + self.shared.besides);
+            self.owe(freed);
         }
     }
 
     #[cold]
-    fn give_kept(&self) {
-        if self.shared.besides > 0 {
-            // SAFETY: as of `raw`.
-            Self::expect(unsafe { raw::tags_library_flush(self.raw()) });
-        }
+    fn owe(&self, freed: u64) {
+        let mut due = self.owed.get();
+        // SAFETY: as of `raw`.
+        unsafe { raw::tags_library_see(self.raw(), freed, &mut due) };
+        self.owed.set(due);
     }
 
-    /// Tells those who wait of the tags that the hand made free.
+    /// Wakes those whom the hand told.
     #[inline]
     pub(crate) fn settle(&self) {
-        if self.owed.get() > 0 {
-            self.shared.bell.ring(self.owed.take());
+        if self.owed.get() != Due::default() {
+            self.shared.bell.wake(&self.owed.take());
         }
     }
 
@@ -122,7 +115,7 @@ impl<T> Hand<T> {
         // SAFETY: as of `raw`.
         let answer = unsafe { raw::tags_library_get(self.raw(), &mut left) };
         if left > 0 {
-            self.owe(left);
+            self.owe_if_awaited(left);
         }
         Self::found(answer)
     }
@@ -139,7 +132,7 @@ impl<T> Hand<T> {
         // SAFETY: as of `raw`.
         let answer = unsafe { raw::tags_library_get_shallow(self.raw(), depth, &mut left) };
         if left > 0 {
-            self.owe(left);
+            self.owe_if_awaited(left);
         }
         Self::found(answer)
     }
@@ -200,7 +193,7 @@ impl<T> Hand<T> {
         // SAFETY: as of `raw`.
         let first = unsafe { raw::tags_library_get_batch(self.raw(), n, &mut won, &mut left) };
         if left > 0 {
-            self.owe(left);
+            self.owe_if_awaited(left);
         }
         self.settle();
         Ok(Self::found(first)?.map(|first| Batch::new(self, first, won)))

@@ -6,7 +6,7 @@ use crate::options::{Counts, Kind, Options, Sizes, Totals};
 use crate::raw::{
     deadline, tags_close, tags_drain, tags_drain_timed, tags_join, tags_join_blocking,
     tags_join_timed, tags_open, tags_pool_busy, tags_pool_show, tags_pool_wakes, tags_resize,
-    tags_resume, Handle, CLOCK_MONOTONIC, MAX_CACHE, MAX_TOTAL, STAY, TIMED_OUT,
+    tags_resume, Handle, CLOCK_MONOTONIC, MAX_TOTAL, STAY, TIMED_OUT,
 };
 use crate::values::Values;
 use std::cell::UnsafeCell;
@@ -33,8 +33,6 @@ pub(crate) struct Shared<T> {
     opened: Opened,
     reserved: u32,
     values: Values<T>,
-    /// How many kept tags may go back with a tag: 0 if the hands keep none.
-    pub besides: u64,
     /// Who waits for a tag. It lives until the pool is closed.
     pub bell: Bell,
 }
@@ -145,11 +143,6 @@ impl<T> Pool<T> {
             },
             reserved: options.reserved,
             values: Values::new((0..options.total).map(make)),
-            besides: if options.cache > 0 {
-                MAX_CACHE.into()
-            } else {
-                0
-            },
             bell: Bell::of(waits),
         };
         Ok(Pool {

@@ -52,6 +52,17 @@ pub struct RawOptions {
     pub cache: u32,
 }
 
+/// A `struct tags_due`: whom a hand has still to wake.
+#[repr(C)]
+#[derive(Clone, Copy, Default, PartialEq)]
+pub struct Due {
+    /// Hands that the hand told, a bit for each.
+    sleepers: u64,
+    listeners: u64,
+    /// For how many tags futures are to be told.
+    freed: u64,
+}
+
 /// A `struct tags_waiter`, whose size the library tells. While it is listed, the library alone uses it.
 #[repr(C)]
 pub struct Waiter {
@@ -84,7 +95,6 @@ pub const AGAIN: i32 = -11;
 pub const TIMED_OUT: i32 = -31;
 
 pub const MAX_TOTAL: u32 = 10_240;
-pub const MAX_CACHE: u32 = 64;
 pub const ROUND_ROBIN: u32 = 1;
 pub const ONE_PER_WORD: u32 = 2;
 pub const KEEP_WHILE_HOLDING: u32 = 4;
@@ -110,7 +120,8 @@ unsafe extern "C" {
     pub fn tags_library_prepare(hand: *mut Handle) -> i32;
     pub fn tags_library_finish(hand: *mut Handle) -> i32;
     pub fn tags_library_wait(hand: *mut Handle) -> i32;
-    pub fn tags_library_ring(waits: *mut Waits, freed: u64);
+    pub fn tags_library_see(hand: *mut Handle, freed: u64, due: *mut Due);
+    pub fn tags_library_wake(waits: *mut Waits, due: *const Due) -> bool;
     pub fn tags_library_tell(waits: *mut Waits, freed: u64);
     pub fn tags_library_stop(waits: *mut Waits);
     pub fn tags_library_waiter_size() -> usize;

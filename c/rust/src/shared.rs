@@ -6,6 +6,7 @@ use crate::hand::Hand;
 use crate::options::{Counts, Kind, Sizes};
 use crate::owned::OwnedTag;
 use crate::pool::Shared;
+use crate::raw::Due;
 use crate::sleeper::wait_for;
 use std::fmt;
 use std::sync::{Arc, Mutex, PoisonError};
@@ -209,8 +210,8 @@ impl<T> Lends for SharedHand<T> {
         let answer = call(&hand);
         let owed = hand.owed.take();
         drop(hand);
-        if owed > 0 {
-            self.bell().ring(owed);
+        if owed != Due::default() {
+            self.bell().wake(&owed);
         }
         answer
     }

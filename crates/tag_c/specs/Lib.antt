@@ -1,3 +1,4 @@
+pub mod Bell
 pub mod Sharing
 pub mod Codes
 pub mod Holders

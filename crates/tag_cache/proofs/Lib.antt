@@ -1,3 +1,4 @@
+pub mod Ringing
 pub mod Windows
 pub mod Below
 pub mod Carrying

@@ -1,3 +1,4 @@
+pub mod Bell
 pub mod Windows
 pub mod Refusals
 pub mod Calls

@@ -17,6 +17,20 @@ use crate::cache::Cache;
 use tag_bell::Told;
 use tag_sets::{Tags, Waking};
 
+impl<R> Cache<R> {
+    ghost use Rattle.std.specs.Prelude.{◌↔◌, IsSome, IsTrue};
+    ghost use Rattle.tag_sets.specs.Hands.{standing_of};
+    ghost use Rattle.tag_cache.specs.Caches.{hand_of};
+
+    /// Returns whether the hand is in a wait group. This makes no step.
+    #[inline]
+    pub fn is_waiting(&self) -> bool
+        ensures { IsTrue result ↔ IsSome (standing_of (hand_of self.now)) }
+    {
+        self.hand.is_waiting()
+    }
+}
+
 impl<R: Copy> Cache<R> {
     /// Lists the hand among those that wait, with the next turn, as `Tags::list_self` does. A get that finds no tag keeps none either.
     pub fn list_self(&mut self, tags: &Tags<R>, list: u32)

@@ -1,0 +1,237 @@
+//! Waits for an ordinary tag by the bell, through the handle of a hand. The C files of the library make these calls:
+//! whoever they say was told is theirs to wake.
+ghost use Rattle.std.specs.Prelude.{◌≡◌, ◌×◌, ◌<◌, ℕ};
+ghost use Rattle.tag_core.specs.declared.bell.TheConstants.{LISTS};
+ghost use Rattle.tag_c.specs.Bell.{list_of, code_of_answer, told_of, DoesListSelf, DoesGetUp, DoesSeeTo, DoesSeeToAll, Answers, SaysNumber};
+ghost use Rattle.tag_c.specs.Calls.{CallsBy};
+ghost use Rattle.tag_c.specs.Codes.{IsRefusal};
+
+use crate::any_hand::{AnyHand, on_hand};
+use crate::cached::CachedMember;
+use crate::handle::Handle;
+use crate::member::Member;
+use tag_bell::{LISTENERS, SLEEPERS, Told};
+use crate::status::fault_code;
+use tag_sets::{Count, Numbered, TagFault};
+
+/// The hands that a call told, a bit for the number of each: 1 is told.
+#[repr(C)]
+#[derive(Clone, Copy, Debug, PartialEq, Eq)]
+pub struct ToldHands {
+    /// Those that it removed from the list of sleepers.
+    pub sleepers: u64,
+    /// Those that it removed from the list of listeners.
+    pub listeners: u64,
+}
+
+impl ToldHands {
+    fn of(told: Told) -> ToldHands
+        ensures { told_of result ≡ told }
+    {
+        ToldHands {
+            sleepers: told.sleepers,
+            listeners: told.listeners,
+        }
+    }
+}
+
+/// Returns the list of listeners, or that of sleepers if `listens` is 0.
+#[inline]
+fn list_of(listens: u32) -> u32
+    ensures { (result ≡ list_of listens) × (result < LISTS) }
+{
+    if listens == 0 { SLEEPERS } else { LISTENERS }
+}
+
+/// Returns 1 for yes, and 0 for no.
+#[inline]
+fn answer_code(answer: bool) -> i32
+    ensures { result ≡ code_of_answer answer }
+{
+    i32::from(answer)
+}
+
+/// Calls of those who wait, and of those who see to them.
+trait BellCalls: AnyHand {
+    /// Lists the hand among those that wait, with the next turn, or refuses one that is in a wait group.
+    fn list_self(&mut self, list: u32) -> i32
+        requires { list < LISTS }
+        ensures { Self.changes (DoesListSelf list result) self.old self.new };
+
+    /// Lists the hand as `list_self` does, with the turn that it had.
+    fn list_again(&mut self, list: u32) -> i32
+        requires { list < LISTS }
+        ensures { Self.changes (DoesListSelf list result) self.old self.new };
+
+    /// Returns 1 if the hand was told, or does not wait there, and 0 if not.
+    fn is_told(&mut self, list: u32) -> i32
+        requires { list < LISTS }
+        ensures { Self.changes (Answers result) self.old self.new };
+
+    /// Ends the hand's wait. Returns 1 if somebody had told it, or it did not wait there, and 0 if not.
+    fn get_up(&mut self, list: u32) -> i32
+        requires { list < LISTS }
+        ensures { Self.changes (DoesGetUp list result) self.old self.new };
+
+    /// Sees to all that the hand has to see to, after it gave so many ordinary tags back, and fills in whom it told.
+    fn see_to(&mut self, freed: u32, told: &mut ToldHands) -> i32
+        ensures { Self.changes (DoesSeeTo told.new result) self.old self.new };
+
+    /// Sees to all that the hand has to see to, after it was told and got up, and fills in whom it told.
+    fn see_to_all(&mut self, told: &mut ToldHands) -> i32
+        ensures { Self.changes (DoesSeeToAll told.new result) self.old self.new };
+
+    /// Returns the number of the hand, below 64.
+    fn number(&mut self) -> i32
+        ensures { Self.changes (SaysNumber result) self.old self.new };
+}
+
+impl BellCalls for Member {
+    #[inline(always)]
+    fn list_self(&mut self, list: u32) -> i32 {
+        if self.hand.is_waiting() {
+            return fault_code(TagFault::Waiting);
+        }
+        self.shared.tags.list_self(&mut self.hand, list);
+        0
+    }
+
+    #[inline(always)]
+    fn list_again(&mut self, list: u32) -> i32 {
+        if self.hand.is_waiting() {
+            return fault_code(TagFault::Waiting);
+        }
+        self.shared.tags.list_again(&mut self.hand, list);
+        0
+    }
+
+    #[inline(always)]
+    fn is_told(&mut self, list: u32) -> i32 {
+        answer_code(self.shared.tags.is_told(&self.hand, list))
+    }
+
+    #[inline(always)]
+    fn get_up(&mut self, list: u32) -> i32 {
+        answer_code(self.shared.tags.get_up(&mut self.hand, list))
+    }
+
+    #[inline(always)]
+    fn see_to(&mut self, freed: u32, told: &mut ToldHands) -> i32 {
+        *told = ToldHands::of(self.shared.tags.see_to(&mut self.hand, freed));
+        0
+    }
+
+    #[inline(always)]
+    fn see_to_all(&mut self, told: &mut ToldHands) -> i32 {
+        *told = ToldHands::of(self.shared.tags.see_to_all(&mut self.hand));
+        0
+    }
+
+    #[inline(always)]
+    fn number(&mut self) -> i32 {
+        self.hand.number() as i32
+    }
+}
+
+impl BellCalls for CachedMember {
+    #[inline(always)]
+    fn list_self(&mut self, list: u32) -> i32 {
+        if self.cache.is_waiting() {
+            return fault_code(TagFault::Waiting);
+        }
+        self.cache.list_self(&self.shared.tags, list);
+        0
+    }
+
+    #[inline(always)]
+    fn list_again(&mut self, list: u32) -> i32 {
+        if self.cache.is_waiting() {
+            return fault_code(TagFault::Waiting);
+        }
+        self.cache.list_again(&self.shared.tags, list);
+        0
+    }
+
+    #[inline(always)]
+    fn is_told(&mut self, list: u32) -> i32 {
+        answer_code(self.cache.is_told(&self.shared.tags, list))
+    }
+
+    #[inline(always)]
+    fn get_up(&mut self, list: u32) -> i32 {
+        answer_code(self.cache.get_up(&self.shared.tags, list))
+    }
+
+    #[inline(always)]
+    fn see_to(&mut self, freed: u32, told: &mut ToldHands) -> i32 {
+        let (found, _) = self.cache.see_to::<Count>(&self.shared.tags, freed);
+        *told = ToldHands::of(found);
+        0
+    }
+
+    #[inline(always)]
+    fn see_to_all(&mut self, told: &mut ToldHands) -> i32 {
+        *told = ToldHands::of(self.cache.see_to_all(&self.shared.tags));
+        0
+    }
+
+    #[inline(always)]
+    fn number(&mut self) -> i32 {
+        self.cache.number() as i32
+    }
+}
+
+#[unsafe(no_mangle)]
+pub extern "C" fn tags_list_self(hand: &mut Handle, listens: u32) -> i32
+    ensures { CallsBy (DoesListSelf (list_of listens) result) result hand.old.object.value hand.new.object.value }
+{
+    let list = list_of(listens);
+    on_hand!(hand.list_self(list))
+}
+
+#[unsafe(no_mangle)]
+pub extern "C" fn tags_list_again(hand: &mut Handle, listens: u32) -> i32
+    ensures { CallsBy (DoesListSelf (list_of listens) result) result hand.old.object.value hand.new.object.value }
+{
+    let list = list_of(listens);
+    on_hand!(hand.list_again(list))
+}
+
+#[unsafe(no_mangle)]
+pub extern "C" fn tags_is_told(hand: &mut Handle, listens: u32) -> i32
+    ensures { CallsBy (Answers result) result hand.old.object.value hand.new.object.value }
+{
+    let list = list_of(listens);
+    on_hand!(hand.is_told(list))
+}
+
+#[unsafe(no_mangle)]
+pub extern "C" fn tags_get_up(hand: &mut Handle, listens: u32) -> i32
+    ensures { CallsBy (DoesGetUp (list_of listens) result) result hand.old.object.value hand.new.object.value }
+{
+    let list = list_of(listens);
+    on_hand!(hand.get_up(list))
+}
+
+#[unsafe(no_mangle)]
+pub extern "C" fn tags_see_to(hand: &mut Handle, freed: u32, told: &mut ToldHands) -> i32
+    ensures calls { CallsBy (DoesSeeTo told.new result) result hand.old.object.value hand.new.object.value }
+    ensures kept { IsRefusal result → told.new ≡ told.old }
+{
+    on_hand!(hand.see_to(freed, told))
+}
+
+#[unsafe(no_mangle)]
+pub extern "C" fn tags_see_to_all(hand: &mut Handle, told: &mut ToldHands) -> i32
+    ensures calls { CallsBy (DoesSeeToAll told.new result) result hand.old.object.value hand.new.object.value }
+    ensures kept { IsRefusal result → told.new ≡ told.old }
+{
+    on_hand!(hand.see_to_all(told))
+}
+
+#[unsafe(no_mangle)]
+pub extern "C" fn tags_number(hand: &mut Handle) -> i32
+    ensures { CallsBy (SaysNumber result) result hand.old.object.value hand.new.object.value }
+{
+    on_hand!(hand.number())
+}
