@@ -91,6 +91,22 @@ void changer(int me)
 	use_tag(me, tag);
 }
 
+/* Closes its eventfd while it waits, and never learns that it was told. */
+void breaker(int me)
+{
+	int32_t tag;
+
+	open_event(me);
+	tag = CALL(tags_get_async(hands[me], me));
+	if (tag == TAGS_NO_TAG) {
+		break_event(me);
+		return;
+	}
+	close_event(me);
+	if (use_tag(me, tag))
+		end_program(me);
+}
+
 /* A hand that waits by an eventfd is to sleep, which is refused unless a tag is free. */
 void switcher(int me)
 {

@@ -28,6 +28,7 @@ void quitter(int me);
 void leaver(int me);
 void changer(int me);
 void switcher(int me);
+void breaker(int me);
 
 /* futures.c */
 void task(int me);

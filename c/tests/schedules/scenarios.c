@@ -12,8 +12,11 @@
 #define ROBIN TAGS_ROUND_ROBIN
 
 const struct scenario scenarios[] = {
-	{ "again", "two sleepers, whose finishes are to be repeated, 1 tag",
+	{ "sleepers", "two sleepers, 1 tag",
 	  .tags = 1, .program = { sleeper, sleeper }, .rounds = { 2, 1 }, .forever = true,
+	  .whole = true },
+	{ "again", "two futures, whose finishes are to be repeated, 1 tag",
+	  .tags = 1, .program = { task, task }, .rounds = { 2, 1 }, .forever = true,
 	  .whole = true, .again = true },
 	{ "signals", "two sleepers whose sleeps end for no reason, 1 tag",
 	  .tags = 1, .program = { sleeper, sleeper }, .rounds = { 2, 1 }, .forever = true,
@@ -83,6 +86,9 @@ const struct scenario scenarios[] = {
 	  .forever = true, .whole = true },
 	{ "loops_leave", "two eventfds, one of whose hands leaves, and a get, 1 tag",
 	  .tags = 1, .program = { leaver, listener, getter }, .rounds = { 1, 1, 1 },
+	  .forever = true, .whole = true },
+	{ "loops_broken", "an eventfd that is closed too early, another one, and a get, 1 tag",
+	  .tags = 1, .program = { breaker, listener, getter }, .rounds = { 1, 1, 2 },
 	  .forever = true, .whole = true },
 	{ "leaves_joins", "a hand that leaves while it is listed, one that leaves and joins, and a get, 1 tag",
 	  .tags = 1, .program = { leaver, joiner, getter }, .rounds = { 1, 1, 1 },
@@ -266,7 +272,7 @@ static const struct {
 #define NAMED(program) { program, #program }
 	NAMED(sleeper), NAMED(timed), NAMED(getter), NAMED(pair), NAMED(batcher), NAMED(shallow),
 	NAMED(heir), NAMED(preparer), NAMED(listener), NAMED(quitter), NAMED(leaver), NAMED(changer),
-	NAMED(switcher), NAMED(task), NAMED(dropper), NAMED(poster), NAMED(taker), NAMED(reserver),
+	NAMED(switcher), NAMED(breaker), NAMED(task), NAMED(dropper), NAMED(poster), NAMED(taker), NAMED(reserver),
 	NAMED(hirer), NAMED(timed_hirer), NAMED(drainer), NAMED(timed_drainer),
 	NAMED(late_reporter), NAMED(resumer), NAMED(stopper), NAMED(joiner), NAMED(goer), NAMED(reporter), NAMED(resizer), NAMED(closer),
 	NAMED(plus_sleeper), NAMED(plus_loop), NAMED(plus_quitter), NAMED(plus_leaver),

@@ -178,6 +178,13 @@ void close_event(int event)
 	world->event[event] = (struct event){ 0 };
 }
 
+void break_event(int event)
+{
+	pause_before(OP_EVENT_CLOSE, &world->event[event], sizeof(struct event), 1, PC);
+	tell_step("breaks eventfd %d", event);
+	world->event[event] = (struct event){ .is_broken = true };
+}
+
 void wait_event(int event)
 {
 	pause_before(OP_POLL, &world->event[event], sizeof(struct event), 1, PC);
