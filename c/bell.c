@@ -193,8 +193,9 @@ void tags_library_tell(struct tags_waits *waits, uint64_t freed)
  */
 
 /*
- * Where a future waits, what the hand keeps goes back first: how many tags that are is not known.
- * A hand that keeps none and gave none back, as by a post, has nothing to see to.
+ * What the hand keeps goes back first, whoever waits: futures and drains are in no list of the
+ * library, and a hand that was told and found no tag is in none for a moment. How many tags that
+ * are is not known. A hand that keeps none and gave none back, as by a post, has nothing to see to.
  */
 void tags_library_see(struct tags_hand *hand, uint64_t freed, struct tags_due *due)
 {
@@ -206,7 +207,7 @@ void tags_library_see(struct tags_hand *hand, uint64_t freed, struct tags_due *d
 	if (freed > bell->depth)
 		freed = bell->depth;
 	due->freed += freed;
-	if (bell->is_cached && tags_load(&bell->futures.length) > 0) {
+	if (bell->is_cached) {
 		tags_library_flush(hand);
 		due->freed += TAGS_MAX_CACHE;
 	}

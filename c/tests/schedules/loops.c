@@ -91,7 +91,7 @@ void changer(int me)
 	use_tag(me, tag);
 }
 
-/* Closes its eventfd while it waits, and never learns that it was told. */
+/* Closes its eventfd while it waits. Unless that was notified before, the hand never learns that it was told. */
 void breaker(int me)
 {
 	int32_t tag;
@@ -99,7 +99,8 @@ void breaker(int me)
 	open_event(me);
 	tag = CALL(tags_get_async(hands[me], me));
 	if (tag == TAGS_NO_TAG) {
-		break_event(me);
+		if (break_event(me))
+			EXPECT(TAGS_OK, tags_cancel(hands[me]));
 		return;
 	}
 	close_event(me);

@@ -18,7 +18,9 @@
  *           first, and both lists are loaded again. Who was told looks at each word before that,
  *           and at its cleared set, until a tag is free
  *
- * Left out: slots, posts, reserved tags, round robin, grants (each clear answers 0), the limits of a
+ *  a post   is one step, after which the hand has the tag no more
+ *
+ * Left out: slots, takes, reserved tags, round robin, grants (each clear answers 0), the limits of a
  * hand's life. Reports through a hand. Joins, reports, resizes and closes are not atomic: each checks that it has the pool's
  * handle for itself, as the library needs.
  */
@@ -33,9 +35,10 @@ enum { WORDS = 4, HANDS = MAX_THREADS + 1, SLEEPERS = 0, LISTENERS, LISTS };
 
 struct member {
 	struct map *map;
-	/* by tag; kept ones are not held */
+	/* by tag; kept ones are not held, nor are posted ones */
 	uint64_t held;
 	uint64_t kept;
+	uint64_t posted;
 	/* what its latest sweep freed */
 	uint64_t swept;
 	uint32_t number;
@@ -197,8 +200,10 @@ int32_t tags_library_close(struct tags_pool *pool, struct tags_sums *sums)
 	memset(sums, 0, sizeof(*sums));
 	if (is_any_out(map))
 		return TAGS_HANDS_OUT;
-	for (uint32_t i = 0; i < map->hands; i++)
+	for (uint32_t i = 0; i < map->hands; i++) {
 		sums->held += count(map->member[i].held);
+		sums->posted += count(map->member[i].posted);
+	}
 	sums->got = map->got;
 	sums->back = map->back;
 	if (map->active)
@@ -532,6 +537,19 @@ int32_t tags_library_clear_batch(struct tags_hand *hand, const uint32_t *tags, s
 	return tags_library_clear_mask(hand, 0, mask);
 }
 
+int32_t tags_library_post(struct tags_hand *hand, uint32_t tag)
+{
+	struct member *member = member_of(hand);
+	uint64_t bit = UINT64_C(1) << tag;
+
+	if (!(member->held & bit))
+		return TAGS_NOT_HELD;
+	stop(member, "posts a tag");
+	member->held &= ~bit;
+	member->posted |= bit;
+	return TAGS_OK;
+}
+
 int32_t tags_library_flush(struct tags_hand *hand)
 {
 	flush(member_of(hand));
@@ -832,7 +850,6 @@ int32_t tags_library_pool_wakes(struct tags_pool *pool, struct tags_counts *coun
 
 #pragma GCC diagnostic ignored "-Wunused-parameter"
 LACKS(tags_library_get_reserved, struct tags_hand *hand)
-LACKS(tags_library_post, struct tags_hand *hand, uint32_t tag)
 LACKS(tags_library_take, struct tags_hand *hand, uint32_t tag)
 LACKS(tags_library_write, struct tags_hand *hand, uint32_t tag, uint64_t value, uint64_t *former)
 LACKS(tags_library_read_clear, struct tags_hand *hand, uint32_t tag, uint64_t *value)

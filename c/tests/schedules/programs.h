@@ -37,6 +37,7 @@ void make_futures(void);
 
 /* slots.c: posts, slots and reserved tags */
 void poster(int me);
+void keeper(int me);
 void taker(int me);
 void reserver(int me);
 

@@ -90,8 +90,8 @@ bool goes_on(int me, int round);
 
 void open_event(int event);
 void close_event(int event);
-/* Closes one for which a hand waits. */
-void break_event(int event);
+/* Closes one for which a hand waits. Returns whether it had been notified. */
+bool break_event(int event);
 /* poll() and read() */
 void wait_event(int event);
 
