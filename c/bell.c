@@ -199,19 +199,18 @@ void tags_library_tell(struct tags_waits *waits, uint64_t freed)
  */
 void tags_library_see(struct tags_hand *hand, uint64_t freed, struct tags_due *due)
 {
-	struct bell *bell = tags_bell_of(hand->waits);
+	const struct bell *bell = tags_bell_of(hand->waits);
 	struct tags_told told = { 0, 0 };
+	uint64_t most = freed;
 
 	if (freed == 0 && !bell->is_cached)
 		return;
-	if (freed > bell->depth)
-		freed = bell->depth;
-	due->freed += freed;
 	if (bell->is_cached) {
 		tags_library_flush(hand);
-		due->freed += TAGS_MAX_CACHE;
+		most += TAGS_MAX_CACHE;
 	}
-	tags_library_see_to(hand, (uint32_t)freed, &told);
+	due->freed += most < bell->depth ? most : bell->depth;
+	tags_library_see_to(hand, freed < bell->depth ? (uint32_t)freed : bell->depth, &told);
 	due->told.sleepers |= told.sleepers;
 	due->told.listeners |= told.listeners;
 }
