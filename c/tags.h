@@ -422,6 +422,7 @@ int32_t tags_library_get_timed(struct tags_hand *hand, int32_t clock,
 			       const struct timespec *deadline);
 int32_t tags_library_get_async(struct tags_hand *hand, int descriptor);
 int32_t tags_library_cancel_wait(struct tags_hand *hand);
+int32_t tags_library_enter(struct tags_hand *hand);
 int32_t tags_library_return_hand(struct tags_hand *hand);
 /* End the program: a hand is in two calls, or a call of TAGS_MUST() was refused. */
 void tags_library_end_shared(void);
@@ -1529,7 +1530,7 @@ TAGS_DETAIL_CHECKED int32_t tags_prepare(struct tags_hand *hand)
 {
 	if (!tags_detail_begin(hand))
 		return TAGS_NULL;
-	return tags_detail_gave(hand, tags_library_prepare(hand), 0);
+	return tags_detail_gave(hand, tags_library_enter(hand), 0);
 }
 
 /**

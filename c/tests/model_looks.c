@@ -10,7 +10,7 @@ int32_t model_prepare(struct model *hand)
 	if (!is_hand(hand))
 		return TAGS_BAD_HANDLE;
 	member = member_of(hand);
-	if (member->standing != NOWHERE)
+	if (member->standing != NOWHERE || member->bell != IDLE)
 		return TAGS_WAITING;
 	model_flush(hand);
 	member->standing = (int)member->next_group;
