@@ -205,7 +205,7 @@ enum {
 
 /** struct tags_waits - what a pool and its hands share of who waits; private to the library */
 struct tags_waits {
-	/** @waiting: how many wait and have not been told of a tag */
+	/** @waiting: how many wait, also those that were told and have not got up */
 	uint32_t waiting;
 	/** @stopped: 1 once tags_stop() was called */
 	uint32_t stopped;
@@ -343,6 +343,8 @@ struct tags_counts {
 	uint64_t active;
 	/** @index: the wait group that the next wakeup visits first, below 8 */
 	uint32_t index;
+	/** @waiting: who waits for a tag asleep, by an eventfd or as a future, or for all tags */
+	uint32_t waiting;
 };
 
 /**
@@ -1320,9 +1322,14 @@ TAGS_DETAIL_CALL int32_t tags_show(struct tags_hand *hand, uint32_t kind, struct
  */
 TAGS_DETAIL_CALL int32_t tags_wakes(struct tags_hand *hand, struct tags_counts *counts)
 {
+	int32_t status;
+
 	if (!counts || !tags_detail_begin(hand))
 		return TAGS_NULL;
-	return tags_detail_told(hand, tags_library_wakes(hand, counts), counts, sizeof(*counts));
+	status = tags_library_wakes(hand, counts);
+	if (status >= 0)
+		counts->waiting = __atomic_load_n(&hand->waits->waiting, __ATOMIC_SEQ_CST);
+	return tags_detail_told(hand, status, counts, sizeof(*counts));
 }
 
 /*
