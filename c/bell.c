@@ -16,7 +16,9 @@
  * And so that a call need not ask the library whether anybody waits, all who do are counted, before
  * they list themselves. Who makes tags free loads the count afterwards. Both are sequentially
  * consistent, as are the steps of the library, so if the count is 0, whoever waits later finds the
- * tags. Futures, of which a hand may have any number, are in a list of their own, with a lock.
+ * tags. Nor does it ask while as many sleepers are waking, told and not up yet, as there are tags:
+ * each of them tries after the tags became free, and sees to all tags if it has one then.
+ * Futures, of which a hand may have any number, are in a list of their own, with a lock.
  */
 #define _GNU_SOURCE
 #include "bell.h"
@@ -54,33 +56,48 @@ void tags_library_free_bell(struct bell *bell)
 
 int32_t tags_library_enlist(struct tags_hand *hand, bool listens)
 {
+	struct bell *bell = tags_bell_of(hand->waits);
 	int32_t status;
 
-	tags_add(&hand->waits->waiting, 1);
+	tags_add(&bell->listening, listens);
+	tags_add(&bell->waits.waiting, 1);
 	if (hand->place->has_turn)
 		status = tags_library_list_again(hand, listens);
 	else
 		status = tags_library_list_self(hand, listens);
-	if (status == TAGS_OK)
+	if (status == TAGS_OK) {
 		hand->place->has_turn = true;
-	else
-		tags_subtract(&hand->waits->waiting, 1);
+	} else {
+		tags_subtract(&bell->waits.waiting, 1);
+		tags_subtract(&bell->listening, listens);
+	}
 	return status;
 }
 
 bool tags_library_strike(struct tags_hand *hand, bool listens)
 {
+	struct bell *bell = tags_bell_of(hand->waits);
 	const bool was_told = tags_library_get_up(hand, listens) == 1;
 
-	tags_subtract(&hand->waits->waiting, 1);
+	tags_subtract(&bell->waits.waiting, 1);
+	tags_subtract(&bell->listening, listens);
+	if (was_told && !listens)
+		__atomic_fetch_sub(&bell->waking, 1, __ATOMIC_SEQ_CST);
 	return was_told;
 }
 
 /* Wakes the thread that sleeps in a place, if there is one. */
-static void wake_sleeper(struct tags_place *place)
+static void ring_in(struct tags_place *place)
 {
 	tags_add(&place->rings, 1);
 	syscall(SYS_futex, &place->rings, TAGS_FUTEX_WAKE, 1, NULL, NULL, 0);
+}
+
+/* Wakes one that was told. */
+static void wake_sleeper(struct bell *bell, struct tags_place *place)
+{
+	__atomic_fetch_add(&bell->waking, 1, __ATOMIC_SEQ_CST);
+	ring_in(place);
 }
 
 /*
@@ -192,6 +209,14 @@ void tags_library_tell(struct tags_waits *waits, uint64_t freed)
  * Who tells
  */
 
+/* Whether as many sleepers are waking as there are tags, and nobody waits but sleepers. */
+static bool are_enough_waking(const struct bell *bell)
+{
+	const int32_t waking = __atomic_load_n(&bell->waking, __ATOMIC_SEQ_CST);
+
+	return waking > 0 && (uint32_t)waking >= bell->depth && tags_load(&bell->listening) == 0;
+}
+
 /*
  * What the hand keeps goes back first, whoever waits: futures and drains are in no list of the
  * library, and a hand that was told and found no tag is in none for a moment. How many tags that
@@ -210,6 +235,8 @@ void tags_library_see(struct tags_hand *hand, uint64_t freed, struct tags_due *d
 		most += TAGS_MAX_CACHE;
 	}
 	due->freed += most < bell->depth ? most : bell->depth;
+	if (are_enough_waking(bell))
+		return;
 	tags_library_see_to(hand, freed < bell->depth ? (uint32_t)freed : bell->depth, &told);
 	due->told.sleepers |= told.sleepers;
 	due->told.listeners |= told.listeners;
@@ -222,7 +249,7 @@ bool tags_library_wake(struct tags_waits *waits, const struct tags_due *due)
 	uint64_t left;
 
 	for (left = due->told.sleepers; left; left &= left - 1)
-		wake_sleeper(&bell->places[__builtin_ctzll(left)]);
+		wake_sleeper(bell, &bell->places[__builtin_ctzll(left)]);
 	for (left = due->told.listeners; left; left &= left - 1)
 		all_know &= notify_listener(bell, &bell->places[__builtin_ctzll(left)]);
 	tell(bell, due->freed);
@@ -273,7 +300,7 @@ void tags_library_stop(struct tags_waits *waits)
 	tags_store(&bell->waits.stopped, 1);
 	pthread_mutex_unlock(&bell->lock);
 	for (uint32_t i = 0; i < bell->hands; i++) {
-		wake_sleeper(&bell->places[i]);
+		ring_in(&bell->places[i]);
 		notify_listener(bell, &bell->places[i]);
 	}
 	while (tell_first(bell))

@@ -74,6 +74,13 @@ struct bell {
 	uint32_t depth;
 	uint32_t reserved;
 	bool is_cached;
+	/* hands that wait for an eventfd */
+	uint32_t listening;
+	/*
+	 * sleepers that were told and have not begun to try again; for a moment one less if a sleeper
+	 * was faster than who told it, so that it can be negative
+	 */
+	int32_t waking;
 	pthread_mutex_t lock;
 	/* the waits of futures that have begun */
 	uint64_t turns;

@@ -90,3 +90,11 @@ int32_t tags_library_cancel_wait(struct tags_hand *hand)
 		return TAGS_BAD_HANDLE;
 	return tags_library_cancel(hand) ? TAGS_OK : TAGS_NOT_WAITING;
 }
+
+/* A hand waits by an eventfd, or in a wait group. */
+int32_t tags_library_enter(struct tags_hand *hand)
+{
+	if (hand->place && hand->place->is_listening)
+		return TAGS_WAITING;
+	return tags_library_prepare(hand);
+}

@@ -36,6 +36,8 @@ int32_t tags_pool_wakes(struct tags_pool *pool, struct tags_counts *counts)
 		return TAGS_NULL;
 	tags_library_lock_handle(pool);
 	status = tags_library_pool_wakes(pool, counts);
+	if (status >= 0)
+		counts->waiting = tags_load(&pool->waits->waiting);
 	tags_library_unlock_handle(pool);
 	return tags_detail_filled(status, counts, sizeof(*counts));
 }

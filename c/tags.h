@@ -9,9 +9,10 @@
  *
  * The library is proved: under every schedule of the threads no tag and no slot
  * ever has two holders, no call changes what another hand holds, and the sums
- * that tags_close() fills in balance. What is C in it, above all how those who wait
- * for a tag are woken, is not proved: it is explored under every schedule of a few
- * threads, and tested.
+ * that tags_close() fills in balance. So are its lists of hands that wait: none sleeps
+ * beside a free tag unless another one is on the way to it. What is C in it is not
+ * proved, such as that it makes these calls in order and wakes who was told: it is
+ * explored under every schedule of a few threads, and tested.
  *
  * Threads
  *   A handle is a struct tags_pool or a struct tags_hand. A hand is in one call at a time.
@@ -36,8 +37,9 @@
  *   A thread sleeps in tags_get_blocking() or tags_get_timed() until it gets a tag; an
  *   event loop is notified by an eventfd, see tags_get_async(). Every call that makes
  *   ordinary tags free looks whether anybody waits, and tells as many as there are
- *   tags for; in a pool with a cache it may tell up to 64 more. So nobody waits while a
- *   tag is free that no other thread is about to get. A thread must not sleep for a tag
+ *   tags for; and whoever was told and needs no tag any more looks for a free one, and
+ *   tells another hand if there is one. So nobody waits while a tag is free that no other
+ *   thread is about to get. A thread must not sleep for a tag
  *   while it holds those that others wait for, nor be idle while it keeps them (see
  *   Caches). tags_stop() ends all waits. A program that sleeps by means of its own enters
  *   a wait group: see tags_prepare().
@@ -205,7 +207,7 @@ enum {
 
 /** struct tags_waits - what a pool and its hands share of who waits; private to the library */
 struct tags_waits {
-	/** @waiting: how many wait and have not been told of a tag */
+	/** @waiting: how many wait, also those that were told and have not got up */
 	uint32_t waiting;
 	/** @stopped: 1 once tags_stop() was called */
 	uint32_t stopped;
@@ -343,6 +345,8 @@ struct tags_counts {
 	uint64_t active;
 	/** @index: the wait group that the next wakeup visits first, below 8 */
 	uint32_t index;
+	/** @waiting: who waits for a tag asleep, by an eventfd or as a future, or for all tags */
+	uint32_t waiting;
 };
 
 /**
@@ -422,6 +426,7 @@ int32_t tags_library_get_timed(struct tags_hand *hand, int32_t clock,
 			       const struct timespec *deadline);
 int32_t tags_library_get_async(struct tags_hand *hand, int descriptor);
 int32_t tags_library_cancel_wait(struct tags_hand *hand);
+int32_t tags_library_enter(struct tags_hand *hand);
 int32_t tags_library_return_hand(struct tags_hand *hand);
 /* End the program: a hand is in two calls, or a call of TAGS_MUST() was refused. */
 void tags_library_end_shared(void);
@@ -1319,9 +1324,14 @@ TAGS_DETAIL_CALL int32_t tags_show(struct tags_hand *hand, uint32_t kind, struct
  */
 TAGS_DETAIL_CALL int32_t tags_wakes(struct tags_hand *hand, struct tags_counts *counts)
 {
+	int32_t status;
+
 	if (!counts || !tags_detail_begin(hand))
 		return TAGS_NULL;
-	return tags_detail_told(hand, tags_library_wakes(hand, counts), counts, sizeof(*counts));
+	status = tags_library_wakes(hand, counts);
+	if (status >= 0)
+		counts->waiting = __atomic_load_n(&hand->waits->waiting, __ATOMIC_SEQ_CST);
+	return tags_detail_told(hand, status, counts, sizeof(*counts));
 }
 
 /*
@@ -1399,10 +1409,9 @@ int32_t tags_pool_batch(struct tags_pool *pool);
 /*
  * Waiting for an ordinary tag. Whoever makes tags free tells those who wait, as many as
  * there are tags for: each tag tells one of the threads that sleep and one of the hands
- * that wait for an eventfd, each time the one that has waited longest. In a pool with a
- * cache a call that gives tags back may tell up to 64 more, though never more than the pool
- * has tags, since how many kept tags went back is not known. All this is explored under
- * every schedule of a few threads, and tested, not proved.
+ * that wait for an eventfd, each time the one that has waited longest. One that was told,
+ * and then has a tag or gives up, tells another one if it sees that a tag is free. What is
+ * proved of this, and what is only explored and tested, is in c/README.md.
  */
 
 /**
@@ -1493,7 +1502,7 @@ TAGS_DETAIL_CHECKED int32_t tags_get_async(struct tags_hand *hand, int descripto
  * tags_cancel() - end a wait that tags_get_async() began
  * @hand: the hand that waits
  *
- * If the hand was notified of a tag, another hand that waits is notified in its place.
+ * If the hand was notified of a tag, and a tag is free, another hand that waits is told of it.
  *
  * Return: TAGS_OK, TAGS_BAD_HANDLE, or TAGS_NOT_WAITING.
  *
@@ -1529,7 +1538,7 @@ TAGS_DETAIL_CHECKED int32_t tags_prepare(struct tags_hand *hand)
 {
 	if (!tags_detail_begin(hand))
 		return TAGS_NULL;
-	return tags_detail_gave(hand, tags_library_prepare(hand), 0);
+	return tags_detail_gave(hand, tags_library_enter(hand), 0);
 }
 
 /**

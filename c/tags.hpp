@@ -953,8 +953,8 @@ public:
 	}
 
 	/// Takes a free ordinary tag, and sleeps while there is none. Don't sleep while this thread
-	/// holds the tags that others wait for, nor while it keeps them. That a sleeper is woken is
-	/// explored and tested, not proved. While it sleeps it is a cancellation point.
+	/// holds the tags that others wait for, nor while it keeps them. While it sleeps it is a
+	/// cancellation point.
 	///
 	/// Errors: bad_handle, spent, stopped; no_such_tag if the pool has no ordinary tag; waiting
 	/// if it would have to sleep and the hand waits already, by a wait, get_async() or a
@@ -1007,8 +1007,8 @@ public:
 		return found(state_, async(eventfd));
 	}
 
-	/// Ends a wait that get_async() began. If the hand was notified of a tag, another hand that
-	/// waits is notified in its place.
+	/// Ends a wait that get_async() began. If the hand was notified of a tag, and a tag is free,
+	/// another hand that waits is told of it.
 	///
 	/// Errors: bad_handle, not_waiting; waiting if the hand has a wait or a listener.
 	void cancel() { detail::check(try_cancel()); }

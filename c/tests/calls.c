@@ -233,14 +233,14 @@ static uint32_t count_own(struct tags_hand *hand)
 	return own;
 }
 
-/* How full the ordinary tags are, in percent, and how many hands wait by tags_prepare(). */
-static uint32_t load_of(struct tags_hand *hand, uint64_t *waiting)
+/* How full the ordinary tags are, in percent, and how many wait for one. */
+static uint32_t load_of(struct tags_hand *hand, uint32_t *waiting)
 {
-	struct tags_counts counts = { 0, 0, 0, 0 };
+	struct tags_counts counts = { 0, 0, 0, 0, 0 };
 	struct tags_sizes sizes = { 0, 0, 0, 0, 0 };
 
 	tags_wakes(hand, &counts);
-	*waiting = counts.active;
+	*waiting = counts.waiting;
 	tags_show(hand, TAGS_ORDINARY, &sizes);
 	return sizes.depth > 0 ? 100 * sizes.busy / sizes.depth : 0;
 }
@@ -249,15 +249,14 @@ static uint32_t load_of(struct tags_hand *hand, uint64_t *waiting)
 static void monitor(struct tags_pool *pool)
 {
 	uint64_t busy[TAGS_MAX_TOTAL / 64];
-	struct tags_counts counts = { 0, 0, 0, 0 };
+	struct tags_counts counts = { 0, 0, 0, 0, 0 };
 	struct tags_sizes sizes = { 0, 0, 0, 0, 0 };
 
 	tags_pool_show(pool, TAGS_ORDINARY, &sizes);
 	tags_pool_wakes(pool, &counts);
 	printf("%d tags, %d in a batch at most\n", tags_pool_total(pool), tags_pool_batch(pool));
 	printf("%d busy, ", tags_pool_busy(pool, busy, TAGS_MAX_TOTAL / 64));
-	printf("%u of them ordinary; %llu hands in wait groups\n", sizes.busy,
-	       (unsigned long long)counts.active);
+	printf("%u of them ordinary; %u wait\n", sizes.busy, counts.waiting);
 }
 
 /* A thread of a program with more threads than hands: it sleeps until a hand is free. */

@@ -136,7 +136,7 @@ static void coroutines_are_resumed_in_turn()
 	}
 	it.listener.resume();
 	it.got.clear();
-	CHECK(!it.told.take() && it.hand.wakes(failure).active == 0);
+	CHECK(!it.told.take() && it.hand.wakes(failure).waiting == 0);
 }
 
 static void several_tags_resume_several()
@@ -173,9 +173,9 @@ static void the_last_that_is_destroyed_cancels()
 		{
 			const task second = get(it.listener, it.got);
 		}
-		CHECK(it.hand.wakes(failure).active == 1);
+		CHECK(it.hand.wakes(failure).waiting == 1);
 	}
-	CHECK(it.hand.wakes(failure).active == 0);
+	CHECK(it.hand.wakes(failure).waiting == 0);
 	it.tag.clear();
 	CHECK(!it.told.take());
 
@@ -345,7 +345,7 @@ static void a_limit_in_time()
 	CHECK(it.listener.timeout() == -1);
 	const task late = get_for(it.listener, milliseconds(0), ended[0], codes[0]);
 	CHECK(late.is_done() && ended[0] == 2 && !codes[0]);
-	CHECK(it.hand.wakes(failure).active == 0);
+	CHECK(it.hand.wakes(failure).waiting == 0);
 	const task soon = get_for(it.listener, milliseconds(5), ended[1], codes[1]);
 	const task first = get_for(it.listener, hours(1), ended[2], codes[2]);
 	const task second = get_for(it.listener, hours::max(), ended[3], codes[3]);
@@ -364,7 +364,7 @@ static void a_limit_in_time()
 	it.told.take();
 	it.listener.resume();
 	CHECK(ended[2] == 1 && ended[3] == 1 && it.listener.timeout() == -1);
-	CHECK(it.hand.wakes(failure).active == 0);
+	CHECK(it.hand.wakes(failure).waiting == 0);
 	const tags::tag tag = *it.hand.get(failure);
 	const auto passed = std::chrono::steady_clock::now() - hours(1);
 	const task past = [](tags::listener &listener, std::chrono::steady_clock::time_point end,
@@ -405,7 +405,7 @@ static void a_cancel_by_a_token()
 	it.tag.clear();
 	it.told.wait();
 	it.listener.resume();
-	CHECK(ended[1] == 1 && !codes[1] && it.hand.wakes(failure).active == 0);
+	CHECK(ended[1] == 1 && !codes[1] && it.hand.wakes(failure).waiting == 0);
 	other->request_stop();
 	CHECK(!it.told.take());
 }

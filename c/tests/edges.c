@@ -178,7 +178,7 @@ static void cancel_a_sleeper(void)
 		pthread_cancel(id);
 		CHECK(pthread_join(id, &result) == 0 && result == PTHREAD_CANCELED);
 		CHECK(count_waiting() == 0 && tags_wakes(&hands[0], &counts) == TAGS_OK);
-		CHECK(counts.active == 0 && tags_finish(&hands[i]) == TAGS_NOT_WAITING);
+		CHECK(counts.waiting == 0 && tags_finish(&hands[i]) == TAGS_NOT_WAITING);
 		CHECK(tags_get_async(&hands[i], events[0]) == TAGS_NO_TAG);
 		CHECK(tags_cancel(&hands[i]) == TAGS_OK);
 	}
@@ -226,7 +226,7 @@ static void leave_while_waiting(void)
 	CHECK(tags_join(&pool, &hands[1], 0) == TAGS_OK);
 	CHECK(tags_cancel(&hands[1]) == TAGS_NOT_WAITING);
 	CHECK(tags_get_timed(&hands[1], CLOCK_MONOTONIC, &(struct timespec){ 0, 0 }) == TAGS_TIMED_OUT);
-	CHECK(tags_wakes(&hands[0], &counts) == TAGS_OK && counts.active == 1);
+	CHECK(tags_wakes(&hands[0], &counts) == TAGS_OK && counts.waiting == 1);
 	/* a hand that was told and leaves passes the tag on */
 	CHECK(tags_get_async(&hands[1], events[0]) == TAGS_NO_TAG);
 	CHECK(tags_clear(&hands[0], 0) >= 0 && told(events[1]) == 1 && told(events[0]) == 0);
@@ -316,10 +316,12 @@ static void keep_turns(void)
 	CHECK(tags_get_async(&hands[1], events[0]) == TAGS_NO_TAG);
 	CHECK(tags_clear(&hands[0], 1) >= 0 && told(events[0]) == 1);
 	CHECK(tags_clear(&hands[4], 0) >= 0 && told(events[1]) == 1 && told(events[2]) == 0);
+	/* who was told and has a tag sees another one free, and tells the next */
 	tag = tags_get_async(&hands[1], events[0]);
-	CHECK(tag >= 0);
-	/* a new wait is a new turn */
+	CHECK(tag >= 0 && told(events[2]) == 1);
 	CHECK(tags_get_async(&hands[2], events[1]) >= 0);
+	CHECK(tags_get_async(&hands[3], events[2]) == TAGS_NO_TAG);
+	/* a new wait is a new turn */
 	CHECK(tags_get_async(&hands[1], events[0]) == TAGS_NO_TAG);
 	CHECK(tags_clear(&hands[1], (uint32_t)tag) >= 0 && told(events[2]) == 1 && told(events[0]) == 0);
 	/* the hand that was told ends its wait, so the next one is told */
@@ -394,8 +396,9 @@ static void stop_each_wait(void)
 	}
 	CHECK(told(events[4]) == 2 && tags_get_async(&hands[5], events[4]) == TAGS_STOPPED);
 	CHECK(tags_cancel(&hands[5]) == TAGS_NOT_WAITING);
-	CHECK(count_waiting() == 0);
-	/* tags still go back, and whoever does not wait may take one; hand 6 is in its group yet */
+	/* hand 6 has not repeated its call */
+	CHECK(count_waiting() == 1);
+	/* tags still go back, and whoever does not wait may take one */
 	CHECK(tags_clear(&hands[0], 0) >= 0 && tags_get(&hands[1]) == 0);
 	CHECK(tags_clear(&hands[1], 0) >= 0);
 	CHECK(tags_get_blocking(&hands[1]) == TAGS_STOPPED);
@@ -477,7 +480,7 @@ static void report(uint32_t others)
 	CHECK(sizes.depth == TAGS && sizes.busy >= 1 && sizes.busy + sizes.cleared <= TAGS);
 	CHECK(tags_pool_wakes(&pool, &counts) == TAGS_OK && counts.charged <= counts.counted);
 	if (others == 0)
-		CHECK(busy == 1 && sizes.busy == 1 && counts.active == 0);
+		CHECK(busy == 1 && sizes.busy == 1 && counts.waiting == 0);
 }
 
 /* Without a hand: while all are out, and while threads join, work and leave. */
@@ -492,7 +495,7 @@ static void report_at_any_time(void)
 	CHECK(tags_join(&pool, &extra, 0) == TAGS_NO_HAND);
 	CHECK(tags_pool_busy(&pool, bits, 2) == TAGS && bits[0] == UINT64_MAX && bits[1] == 63);
 	CHECK(tags_get_async(&hands[1], events[0]) == TAGS_NO_TAG);
-	CHECK(tags_pool_wakes(&pool, &counts) == TAGS_OK && counts.active == 1);
+	CHECK(tags_pool_wakes(&pool, &counts) == TAGS_OK && counts.waiting == 1);
 	for (uint32_t i = 1; i <= MOST; i++)
 		CHECK(tags_leave(&hands[i]) == TAGS_OK);
 	for (uint32_t tag = 0; tag < LAST; tag++)

@@ -646,6 +646,8 @@ static void compare_counts(const char *call, const struct tags_counts *found,
 		fail(call, "counted", (int64_t)found->counted, (int64_t)wanted->counted);
 	if (found->active != wanted->active || found->index != wanted->index)
 		fail(call, "active", (int64_t)found->active, (int64_t)wanted->active);
+	if (found->waiting != wanted->waiting)
+		fail(call, "waiting", (int64_t)found->waiting, (int64_t)wanted->waiting);
 }
 
 static void try_wakes(void)

@@ -56,9 +56,10 @@ struct member {
 	uint64_t kept;
 	uint64_t lent;
 	enum bell bell;
-	/* 0, or when its wait began, and the eventfd that it named last */
+	/* 0, or when its wait began, and the eventfd that it named last; whether that was told since */
 	uint64_t turn;
 	uint32_t event;
+	bool is_notified;
 };
 
 struct pool {

@@ -15,14 +15,58 @@ static struct member *find_first(struct pool *pool)
 	return first;
 }
 
+/* A hand is notified once, unless its wait has ended. */
+static void notify(struct pool *pool, struct member *member)
+{
+	if (!member->is_notified)
+		pool->told[member->event]++;
+	member->is_notified = true;
+}
+
 static void tell(struct pool *pool, uint32_t freed)
 {
 	struct member *first = find_first(pool);
 
 	for (; freed > 0 && first; freed--, first = find_first(pool)) {
 		first->bell = TOLD;
-		pool->told[first->event]++;
+		notify(pool, first);
 	}
+}
+
+static bool is_any_free(const struct set *set)
+{
+	for (uint32_t i = 0; i < set->depth; i++)
+		if (set->place[i] == FREE || set->place[i] == ASIDE)
+			return true;
+	return false;
+}
+
+/* What a hand does that was told and needs no tag any more. */
+static void settle(struct model *hand)
+{
+	if (is_any_free(&hand->pool->set[TAGS_ORDINARY]))
+		tell(hand->pool, 1);
+}
+
+static uint32_t most_of(uint32_t a, uint32_t b)
+{
+	return a > b ? a : b;
+}
+
+/* If anybody waits, all kept tags go back; whoever has tags to see to tells one hand at least. */
+static void ring(struct model *hand, uint32_t freed)
+{
+	struct pool *pool = hand->pool;
+	uint32_t kept = 0;
+
+	if (!find_first(pool) || (freed == 0 && pool->cache == 0))
+		return;
+	if (pool->cache > 0) {
+		kept = (uint32_t)__builtin_popcountll(member_of(hand)->kept);
+		model_flush(hand);
+	}
+	freed = most_of(least_of(freed, pool->set[TAGS_ORDINARY].depth), kept);
+	tell(pool, most_of(freed, 1));
 }
 
 /* How many tags of the latest sweep the hand holds. */
@@ -49,20 +93,15 @@ int32_t model_swept(struct model *hand, int32_t answer)
 	set = &hand->pool->set[TAGS_ORDINARY];
 	taken = count_taken(hand, set);
 	if (set->freed > taken)
-		tell(hand->pool, set->freed - taken);
+		ring(hand, set->freed - taken);
 	set->freed = 0;
 	return answer;
 }
 
 int32_t model_gave(struct model *hand, int32_t answer, uint32_t freed)
 {
-	if (answer < 0 || !find_first(hand->pool))
-		return answer;
-	if (hand->pool->cache > 0) {
-		model_flush(hand);
-		freed += TAGS_MAX_CACHE;
-	}
-	tell(hand->pool, least_of(freed, hand->pool->set[TAGS_ORDINARY].depth));
+	if (answer >= 0)
+		ring(hand, freed);
 	return answer;
 }
 
@@ -71,7 +110,9 @@ int32_t model_stop(struct model *handle)
 	if (!handle->pool || is_hand(handle))
 		return TAGS_BAD_HANDLE;
 	handle->pool->is_stopped = true;
-	tell(handle->pool, TAGS_MAX_HANDS);
+	for (uint32_t i = 0; i < handle->pool->hands; i++)
+		if (handle->pool->member[i].bell == LISTED)
+			notify(handle->pool, &handle->pool->member[i]);
 	return TAGS_OK;
 }
 
@@ -80,8 +121,6 @@ static bool strike(struct model *hand)
 {
 	bool was_told = member_of(hand)->bell == TOLD;
 
-	if (member_of(hand)->bell != IDLE)
-		model_finish(hand);
 	member_of(hand)->bell = IDLE;
 	return was_told;
 }
@@ -94,23 +133,20 @@ static int32_t get(struct model *hand)
 static int32_t get_or_listen(struct model *hand, uint32_t event)
 {
 	struct member *member = member_of(hand);
-	int32_t tag = get(hand);
-	int32_t group;
+	int32_t tag;
 
-	if (tag != TAGS_NO_TAG)
-		return tag;
 	if (hand->pool->set[TAGS_ORDINARY].depth == 0)
 		return TAGS_NO_SUCH_TAG;
-	group = model_prepare(hand);
-	if (group < 0)
-		return group;
+	if (member->standing != NOWHERE)
+		return TAGS_WAITING;
 	if (member->turn == 0)
 		member->turn = ++hand->pool->turns;
 	member->event = event;
+	member->is_notified = false;
 	member->bell = LISTED;
 	tag = get(hand);
 	if (tag != TAGS_NO_TAG && strike(hand))
-		tell(hand->pool, 1);
+		settle(hand);
 	return tag;
 }
 
@@ -124,11 +160,13 @@ int32_t model_get_async(struct model *hand, int32_t event)
 	if (event < 0)
 		return TAGS_BAD_EVENT;
 	was_told = strike(hand);
-	tag = hand->pool->is_stopped ? (int32_t)TAGS_STOPPED : get_or_listen(hand, (uint32_t)event);
+	tag = hand->pool->is_stopped ? (int32_t)TAGS_STOPPED : get(hand);
+	if (was_told && tag != TAGS_NO_TAG)
+		settle(hand);
+	if (tag == TAGS_NO_TAG)
+		tag = get_or_listen(hand, (uint32_t)event);
 	if (tag != TAGS_NO_TAG)
 		member_of(hand)->turn = 0;
-	if (tag < 0 && tag != TAGS_NO_TAG && was_told)
-		tell(hand->pool, 1);
 	return tag;
 }
 
@@ -139,7 +177,7 @@ int32_t model_cancel(struct model *hand)
 	if (member_of(hand)->bell == IDLE)
 		return TAGS_NOT_WAITING;
 	if (strike(hand))
-		tell(hand->pool, 1);
+		settle(hand);
 	member_of(hand)->turn = 0;
 	return TAGS_OK;
 }

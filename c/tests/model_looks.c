@@ -10,7 +10,7 @@ int32_t model_prepare(struct model *hand)
 	if (!is_hand(hand))
 		return TAGS_BAD_HANDLE;
 	member = member_of(hand);
-	if (member->standing != NOWHERE)
+	if (member->standing != NOWHERE || member->bell != IDLE)
 		return TAGS_WAITING;
 	model_flush(hand);
 	member->standing = (int)member->next_group;
@@ -104,11 +104,18 @@ int32_t model_pool_show(struct model *pool, uint32_t kind, struct tags_sizes *si
 	return is_pool(pool) ? show_set(pool, kind, sizes) : TAGS_BAD_HANDLE;
 }
 
+static void count(const struct pool *pool, struct tags_counts *counts)
+{
+	*counts = pool->counts;
+	for (uint32_t i = 0; i < pool->hands; i++)
+		counts->waiting += pool->member[i].bell != IDLE;
+}
+
 int32_t model_wakes(struct model *hand, struct tags_counts *counts)
 {
 	if (!is_hand(hand))
 		return TAGS_BAD_HANDLE;
-	*counts = hand->pool->counts;
+	count(hand->pool, counts);
 	return TAGS_OK;
 }
 
@@ -116,6 +123,6 @@ int32_t model_pool_wakes(struct model *pool, struct tags_counts *counts)
 {
 	if (!is_pool(pool))
 		return TAGS_BAD_HANDLE;
-	*counts = pool->pool->counts;
+	count(pool->pool, counts);
 	return TAGS_OK;
 }

@@ -29,7 +29,12 @@ impl Bell {
     /// Returns whether anybody waits. Load it after tags became free.
     #[inline]
     pub fn is_awaited(&self) -> bool {
-        self.waits().waiting.load(SeqCst) > 0
+        self.count_waiting() > 0
+    }
+
+    #[inline]
+    pub fn count_waiting(&self) -> u32 {
+        self.waits().waiting.load(SeqCst)
     }
 
     /// The most tags of a batch.

@@ -238,6 +238,7 @@ impl<T> Hand<T> {
         let mut counts = Counts::default();
         // SAFETY: as of `raw`.
         Self::expect(unsafe { raw::tags_library_wakes(self.raw(), &mut counts) });
+        counts.waiting = self.shared.bell.count_waiting();
         counts
     }
 

@@ -124,6 +124,8 @@ pub struct Counts {
     pub active: u64,
     /// The wait group that the next wakeup visits first, below 8.
     pub index: u32,
+    /// Who waits for a tag: threads asleep and futures, and threads that wait for all tags.
+    pub waiting: u32,
 }
 
 /// Sums over all hands of a pool: `got == back + held + posted`. A kept tag that its hand gets again is not counted.

@@ -9,8 +9,8 @@ use std::time::Duration;
 
 impl<T> Hand<T> {
     /// Takes a free ordinary tag, and sleeps while there is none. Don't sleep while this thread holds the tags that the
-    /// others wait for. That a sleeper is woken is tested, not proved. While a [`Wait`] or a future of this hand waits, a
-    /// get that would have to sleep is refused with [`Waiting`](Error::Waiting).
+    /// others wait for. While a [`Wait`] or a future of this hand waits, a get that would have to sleep is refused with
+    /// [`Waiting`](Error::Waiting).
     #[inline]
     pub fn get_blocking(&self) -> Result<Tag<'_, T>> {
         if self.shared.bell.is_stopped() {

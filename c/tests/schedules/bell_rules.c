@@ -109,6 +109,8 @@ void check_bell(void)
 	waiters = (uint32_t)__builtin_popcountll(listed()) + bell->futures.length;
 	if (bell->waits.waiting < waiters || bell->waits.waiting > world->threads)
 		fault("%u are listed, and %u are counted", waiters, bell->waits.waiting);
+	if (bell->waking > (int32_t)world->threads || bell->waking < -(int32_t)world->threads)
+		fault("%d are waking", (int)bell->waking);
 }
 
 /*
@@ -185,15 +187,20 @@ static uint32_t count_broken(void)
 void check_quiet_bell(uint32_t asleep, uint32_t drains)
 {
 	const uint32_t waiting = asleep + drains + count_broken();
+	const uint32_t listeners = count_listeners();
 	uint32_t in_lists;
 
 	for (uint32_t i = 0; i < world->threads; i++)
 		check_sleeper(i);
+	if (bell->waking != 0)
+		fault("%d are waking, and nobody is on the way", (int)bell->waking);
+	if (bell->listening != listeners + count_broken())
+		fault("%u listen, not %u", listeners + count_broken(), bell->listening);
 	if (asleep > 0 && bell->waits.stopped)
 		fault("%u wait though the pool was stopped", asleep);
 	if (waiting != bell->waits.waiting)
 		fault("%u wait, not %u", waiting, bell->waits.waiting);
-	in_lists = count_sleepers() + count_listeners() + bell->futures.length;
+	in_lists = count_sleepers() + listeners + bell->futures.length;
 	if (asleep != in_lists)
 		fault("%u wait, and %u are listed", asleep, in_lists);
 }
@@ -244,7 +251,7 @@ void check_closed_bell(void)
 	for (uint32_t i = 0; i < bell->hands; i++)
 		if (!is_idle(&bell->places[i]))
 			fault("the last hand in place %u left a wait there", i);
-	if (bell->waits.waiting || bell->futures.length || listed())
+	if (bell->waits.waiting || bell->listening || bell->waking || bell->futures.length || listed())
 		fault("somebody waits after the last leave");
 }
 
@@ -296,6 +303,8 @@ static const struct {
 } words[] = {
 	{ offsetof(struct bell, waits.waiting), "waiting" },
 	{ offsetof(struct bell, waits.stopped), "stopped" },
+	{ offsetof(struct bell, listening), "listening" },
+	{ offsetof(struct bell, waking), "waking" },
 	{ offsetof(struct bell, lock), "the lock" },
 	{ offsetof(struct bell, turns), "turns" },
 	{ offsetof(struct bell, futures.length), "futures.length" },

@@ -1,7 +1,6 @@
 -- Waits by the bell through the handle of a hand, and what is told to those who wait.
 use Rattle.std.specs.Prelude.{◌≡◌, ◌⊎◌, ℕ, ◌+◌, ◌*◌, ℤ, pos, Bool, true, false, nat_eq, if◌then◌else◌, IsSome}
 use Rattle.tag_layout.specs.Layout.{words}
-use Rattle.tag_core.specs.declared.bell.TheConstants.{LISTS}
 use Rattle.tag_bell.specs.declared.told.Told.{Told}
 use Rattle.tag_bell.specs.declared.told.TheConstants.{SLEEPERS, LISTENERS}
 use Rattle.tag_queue.specs.declared.agent.Agent.{Agent}

@@ -1,6 +1,6 @@
 //! Waits for an ordinary tag by the bell, through the handle of a hand. The C files of the library make these calls:
 //! whoever they say was told is theirs to wake.
-ghost use Rattle.std.specs.Prelude.{◌≡◌, ◌×◌, ◌<◌, ℕ};
+ghost use Rattle.std.specs.Prelude.{◌≡◌, ◌<◌};
 ghost use Rattle.tag_core.specs.declared.bell.TheConstants.{LISTS};
 ghost use Rattle.tag_c.specs.Bell.{list_of, code_of_answer, told_of, DoesListSelf, DoesGetUp, DoesSeeTo, DoesSeeToAll, Answers, SaysNumber};
 ghost use Rattle.tag_c.specs.Calls.{CallsBy};
@@ -10,8 +10,8 @@ use crate::any_hand::{AnyHand, on_hand};
 use crate::cached::CachedMember;
 use crate::handle::Handle;
 use crate::member::Member;
-use tag_bell::{LISTENERS, SLEEPERS, Told};
 use crate::status::fault_code;
+use tag_bell::{LISTENERS, SLEEPERS, Told};
 use tag_sets::{Count, Numbered, TagFault};
 
 /// The hands that a call told, a bit for the number of each: 1 is told.
