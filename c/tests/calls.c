@@ -337,7 +337,7 @@ static bool runs_with(struct tags_hand *hand, struct tags_hand *other, int event
 {
 	const struct timespec past = { 0, 0 };
 	uint64_t request = 0;
-	uint64_t waiting = 1;
+	uint32_t waiting = 1;
 	uint64_t won = 0;
 	uint32_t tags[5];
 	int32_t tag;
