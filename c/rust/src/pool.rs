@@ -31,7 +31,8 @@ pub struct Pool<T = ()> {
 /// What a pool shares with its hands.
 pub(crate) struct Shared<T> {
     opened: Opened,
-    reserved: u32,
+    /// Tags below this are reserved.
+    pub reserved: u32,
     values: Values<T>,
     /// How many kept tags may go back with a tag: 0 if the hands keep none.
     pub besides: u64,
