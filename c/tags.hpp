@@ -817,8 +817,16 @@ public:
 	{
 		if (!numbers_)
 			return std::nullopt;
-		const std::uint32_t number = *begin();
-		numbers_.mask &= numbers_.mask - 1;
+		return extract(*begin());
+	}
+
+	/// Splits the tag with this number off, which is given back on its own, as when its request
+	/// ends before the others. No tag: the batch does not have it.
+	[[nodiscard]] std::optional<tag> extract(std::uint32_t number) noexcept
+	{
+		if (!has(number))
+			return std::nullopt;
+		numbers_.mask &= ~(std::uint64_t{1} << (number - numbers_.first));
 		return tag(hand_, number);
 	}
 

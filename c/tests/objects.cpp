@@ -45,6 +45,13 @@ static tags::tag get(tags::hand &hand)
 	return found ? std::move(*found) : tags::tag();
 }
 
+static tags::batch get_batch(tags::hand &hand, std::uint32_t n)
+{
+	std::optional<tags::batch> found = hand.get_batch(n, ec);
+	CHECK(!ec && found && found->size() == n);
+	return found ? std::move(*found) : tags::batch();
+}
+
 static void each_end_gives_tags_back()
 {
 	tags::pool pool(sized(16, 1, 2), ec);
@@ -239,6 +246,13 @@ static void batches()
 	other->clear();
 	CHECK(busy(hand) == 1 && other->begin() == other->end());
 	first.reset();
+	*other = get_batch(hand, 4);
+	CHECK(!other->extract(4) && !other->extract(0xffffffff) && busy(hand) == 4);
+	CHECK(other->extract(2)->number() == 2 && other->size() == 3);
+	CHECK(busy(hand) == 3);
+	CHECK(!other->extract(2) && !other->has(2) && other->extract(3) && other->size() == 2);
+	other->clear();
+	CHECK(!other->extract(0) && busy(hand) == 0);
 	tags::batch all = std::move(*hand.get_batch(64, ec));
 	CHECK(all.size() == 64 && !hand.get_batch(1, ec) && !ec && !hand.get(ec) && !ec);
 }
@@ -256,13 +270,6 @@ static void tags_pass_from_hand_to_hand()
 	CHECK(taken && taken.number() == number && taken.read_clear(ec) == 71 && !ec && !taken);
 	CHECK(!other.take(number, ec) && ec == errc::not_posted);
 	CHECK(busy(one) == 0);
-}
-
-static tags::batch get_batch(tags::hand &hand, std::uint32_t n)
-{
-	std::optional<tags::batch> found = hand.get_batch(n, ec);
-	CHECK(!ec && found && found->size() == n);
-	return found ? std::move(*found) : tags::batch();
 }
 
 static void batches_pass_from_hand_to_hand()

@@ -146,8 +146,28 @@ impl<'a, T> Batch<'a, T> {
     /// # }
     /// ```
     pub fn pop(&mut self) -> Option<Tag<'a, T>> {
-        let number = self.numbers().next()?;
-        self.held.mask &= self.held.mask - 1;
+        self.remove(self.numbers().next()?)
+    }
+
+    /// Splits the tag with this number off, which is given back on its own, as when its request ends before the others.
+    /// `None` means that the batch does not have it.
+    ///
+    /// ```
+    /// # use tags::{Options, Pool};
+    /// # fn main() -> tags::Result<()> {
+    /// let pool = Pool::open(&Options::new(16, 1))?;
+    /// let hand = pool.join()?;
+    /// let mut batch = hand.get_batch(3)?.unwrap();
+    /// drop(batch.remove(1));
+    /// assert!(batch.numbers().eq([0, 2]) && batch.remove(1).is_none());
+    /// # Ok(())
+    /// # }
+    /// ```
+    pub fn remove(&mut self, number: u32) -> Option<Tag<'a, T>> {
+        if !self.has(number) {
+            return None;
+        }
+        self.held.mask &= !(1 << (number - self.held.first));
         Some(Tag::new(self.hand, number))
     }
 

@@ -99,6 +99,20 @@ fn numbers_say_which_they_are() {
 }
 
 #[test]
+fn what_is_left_of_a_batch_goes_back_as_one() {
+    let pool = open();
+    let hand = pool.join_in_place().unwrap();
+    let mut batch = hand.get_batch(4).unwrap().unwrap();
+    let third = batch.remove(4).unwrap();
+    assert!(batch.remove(4).is_none() && batch.remove(6).is_none());
+    assert!((third.number(), busy(&hand)) == (4, 4) && batch.numbers().eq([2, 3, 5]));
+    drop(third);
+    assert_eq!((busy(&hand), batch.has(4), batch.read(4)), (3, false, None));
+    drop(batch);
+    assert_eq!(busy(&hand), 0);
+}
+
+#[test]
 fn an_empty_batch_posts_nothing() {
     let pool = open();
     let hand = pool.join_in_place().unwrap();
