@@ -423,9 +423,9 @@ int32_t tags_library_get_timed(struct tags_hand *hand, int32_t clock,
 			       const struct timespec *deadline);
 int32_t tags_library_get_async(struct tags_hand *hand, int descriptor);
 int32_t tags_library_cancel_wait(struct tags_hand *hand);
+int32_t tags_library_return_hand(struct tags_hand *hand);
 int32_t tags_library_post_mask(struct tags_hand *hand, uint32_t first, uint64_t mask);
 int32_t tags_library_take_mask(struct tags_hand *hand, uint32_t first, uint64_t mask);
-int32_t tags_library_return_hand(struct tags_hand *hand);
 /* End the program: a hand is in two calls, or a call of TAGS_MUST() was refused. */
 void tags_library_end_shared(void);
 void tags_library_end_refused(int32_t status, const char *call);

@@ -270,11 +270,11 @@ static const struct {
 	NAMED(sleeper), NAMED(timed), NAMED(getter), NAMED(pair), NAMED(batcher), NAMED(shallow),
 	NAMED(heir), NAMED(preparer), NAMED(listener), NAMED(quitter), NAMED(leaver), NAMED(changer),
 	NAMED(switcher), NAMED(task), NAMED(dropper), NAMED(poster), NAMED(taker), NAMED(reserver),
-	NAMED(mask_poster), NAMED(mask_taker),
 	NAMED(hirer), NAMED(timed_hirer), NAMED(drainer), NAMED(timed_drainer),
 	NAMED(late_reporter), NAMED(resumer), NAMED(stopper), NAMED(joiner), NAMED(goer), NAMED(reporter), NAMED(resizer), NAMED(closer),
 	NAMED(plus_sleeper), NAMED(plus_loop), NAMED(plus_quitter), NAMED(plus_leaver),
 	NAMED(plus_joiner), NAMED(plus_closer), NAMED(plus_stopper),
+	NAMED(mask_poster), NAMED(mask_taker),
 };
 
 const char *name_of_program(int thread)
