@@ -37,6 +37,8 @@ void make_futures(void);
 /* slots.c: posts, slots and reserved tags */
 void poster(int me);
 void taker(int me);
+void mask_poster(int me);
+void mask_taker(int me);
 void reserver(int me);
 
 /* lives.c: joins, leaves, and what happens to a whole pool */
