@@ -218,8 +218,10 @@ static bool are_enough_waking(const struct bell *bell)
 }
 
 /*
- * Where a future waits, what the hand keeps goes back first: how many tags that are is not known.
- * A hand that keeps none and gave none back, as by a post, has nothing to see to.
+ * A hand that keeps none and gave none back, as by a post, has nothing to see to. One with a cache
+ * gives back what it keeps, whoever waits: the library does that if a hand is listed, but futures
+ * and drains are in none of its lists, nor for a moment a hand that was told and found no tag. How
+ * many futures to tell is not known then.
  */
 void tags_library_see(struct tags_hand *hand, uint64_t freed, struct tags_due *due)
 {
@@ -230,14 +232,14 @@ void tags_library_see(struct tags_hand *hand, uint64_t freed, struct tags_due *d
 		return;
 	if (freed > bell->depth)
 		freed = bell->depth;
-	due->freed += freed;
-	if (bell->is_cached && tags_load(&bell->futures.length) > 0) {
-		tags_library_flush(hand);
-		due->freed += TAGS_MAX_CACHE;
-	}
+	due->freed += freed + (bell->is_cached ? TAGS_MAX_CACHE : 0);
 	if (!bell->is_cached && are_enough_waking(bell))
 		return;
 	tags_library_see_to(hand, (uint32_t)freed, &told);
+	if (bell->is_cached && (told.sleepers | told.listeners) == 0) {
+		tags_library_flush(hand);
+		tags_library_see_to(hand, (uint32_t)freed, &told);
+	}
 	due->told.sleepers |= told.sleepers;
 	due->told.listeners |= told.listeners;
 }

@@ -208,7 +208,8 @@ impl<T> Hand<T> {
     }
 
     pub(crate) fn flush_kept(&self) {
-        self.give_kept();
+        // SAFETY: as of `raw`.
+        Self::expect(unsafe { raw::tags_library_flush(self.raw()) });
         self.owe_if_awaited(0);
     }
 
