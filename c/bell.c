@@ -217,27 +217,33 @@ static bool are_enough_waking(const struct bell *bell)
 	return waking > 0 && (uint32_t)waking >= bell->depth && tags_load(&bell->listening) == 0;
 }
 
+static uint64_t smaller(uint64_t a, uint64_t b)
+{
+	return a < b ? a : b;
+}
+
 /*
- * What the hand keeps goes back first, whoever waits: futures and drains are in no list of the
- * library, and a hand that was told and found no tag is in none for a moment. How many tags that
- * are is not known. A hand that keeps none and gave none back, as by a post, has nothing to see to.
+ * A hand that keeps none and gave none back, as by a post, has nothing to see to. One with a cache
+ * gives back what it keeps, whoever waits: the library does that if a hand is listed, but futures
+ * and drains are in none of its lists, nor for a moment a hand that was told and found no tag. How
+ * many futures to tell is not known then.
  */
 void tags_library_see(struct tags_hand *hand, uint64_t freed, struct tags_due *due)
 {
-	const struct bell *bell = tags_bell_of(hand->waits);
+	struct bell *bell = tags_bell_of(hand->waits);
 	struct tags_told told = { 0, 0 };
-	uint64_t most = freed;
 
 	if (freed == 0 && !bell->is_cached)
 		return;
-	if (bell->is_cached) {
-		tags_library_flush(hand);
-		most += TAGS_MAX_CACHE;
-	}
-	due->freed += most < bell->depth ? most : bell->depth;
-	if (are_enough_waking(bell))
+	due->freed += smaller(freed + (bell->is_cached ? TAGS_MAX_CACHE : 0), bell->depth);
+	freed = smaller(freed, bell->depth);
+	if (!bell->is_cached && are_enough_waking(bell))
 		return;
-	tags_library_see_to(hand, freed < bell->depth ? (uint32_t)freed : bell->depth, &told);
+	tags_library_see_to(hand, (uint32_t)freed, &told);
+	if (bell->is_cached && (told.sleepers | told.listeners) == 0) {
+		tags_library_flush(hand);
+		tags_library_see_to(hand, (uint32_t)freed, &told);
+	}
 	due->told.sleepers |= told.sleepers;
 	due->told.listeners |= told.listeners;
 }

@@ -428,6 +428,8 @@ int32_t tags_library_get_async(struct tags_hand *hand, int descriptor);
 int32_t tags_library_cancel_wait(struct tags_hand *hand);
 int32_t tags_library_enter(struct tags_hand *hand);
 int32_t tags_library_return_hand(struct tags_hand *hand);
+int32_t tags_library_post_mask(struct tags_hand *hand, uint32_t first, uint64_t mask);
+int32_t tags_library_take_mask(struct tags_hand *hand, uint32_t first, uint64_t mask);
 /* End the program: a hand is in two calls, or a call of TAGS_MUST() was refused. */
 void tags_library_end_shared(void);
 void tags_library_end_refused(int32_t status, const char *call);
@@ -552,6 +554,20 @@ static inline int32_t tags_detail_won(int32_t tag)
 	if (tag >= 0)
 		TAGS_DETAIL_SEES(tag);
 	return tag;
+}
+
+/* After a take of these tags. */
+static inline int32_t tags_detail_won_mask(int32_t status, uint32_t first, uint64_t mask)
+{
+#if defined TAGS_DETAIL_SANITIZED || defined TAGS_LIBRARY
+	for (uint32_t i = 0; status >= 0 && i < 64; i++)
+		if (mask >> i & 1)
+			TAGS_DETAIL_SEES(first + i);
+#else
+	(void)first;
+	(void)mask;
+#endif
+	return status;
 }
 
 static inline void tags_detail_lost(uint32_t tag)
@@ -1128,7 +1144,7 @@ TAGS_DETAIL_CALL int32_t tags_flush_granted(struct tags_hand *hand, struct tags_
 }
 
 /*
- * Using slots, and passing tags from hand to hand
+ * Slots, and passing tags from hand to hand
  */
 
 /**
@@ -1255,6 +1271,54 @@ TAGS_DETAIL_CHECKED int32_t tags_take(struct tags_hand *hand, uint32_t tag)
 	if (status == TAGS_OK && tag < TAGS_MAX_TOTAL)
 		TAGS_DETAIL_SEES(tag);
 	return tags_detail_end(hand, status);
+}
+
+/**
+ * tags_post_mask() - offer the held tags of a mask, with their slots, to all hands of the pool
+ * @hand: the hand that holds them
+ * @first: the tag of bit 0, as tags_get_batch() returned it
+ * @mask: bit i is 1 if the tag @first + i is posted
+ *
+ * All of them or none. Otherwise as tags_post() of each, from the lowest on: another hand may take
+ * the first one, by tags_take() or tags_take_mask(), before the last one is posted. The mask may
+ * name tags of either set, from one batch or not. Tag @first need not be among them.
+ *
+ * Return: TAGS_OK. Otherwise the first of TAGS_BAD_HANDLE, TAGS_BAD_COUNT for an empty mask,
+ * TAGS_NO_SUCH_TAG and TAGS_NOT_HELD that applies to any tag of the mask; then no tag is posted.
+ *
+ * Since: 0.3
+ */
+TAGS_DETAIL_CHECKED int32_t tags_post_mask(struct tags_hand *hand, uint32_t first, uint64_t mask)
+{
+	if (!tags_detail_begin(hand))
+		return TAGS_NULL;
+	tags_detail_lost_mask(first, mask);
+	return tags_detail_gave(hand, tags_library_post_mask(hand, first, mask), 0);
+}
+
+/**
+ * tags_take_mask() - take the posted tags of a mask, with their slots
+ * @hand: the hand that gets them
+ * @first: the tag of bit 0
+ * @mask: bit i is 1 if the tag @first + i is taken
+ *
+ * All of them or none. They are taken one after another, from the lowest on. If one is not
+ * posted, those taken before it are posted again, so the hand holds no more than before; but
+ * meanwhile another hand may have found one of them not posted. If several hands at once take masks
+ * of posted tags that overlap, one of them gets all of its tags. The mask may name tags that were
+ * posted by different calls and hands, each alone or with others.
+ *
+ * Return: TAGS_OK. Otherwise the first of TAGS_BAD_HANDLE, TAGS_BAD_COUNT for an empty mask,
+ * TAGS_NO_SUCH_TAG and TAGS_NOT_POSTED that applies to any tag of the mask; then no tag is taken.
+ *
+ * Since: 0.3
+ */
+TAGS_DETAIL_CHECKED int32_t tags_take_mask(struct tags_hand *hand, uint32_t first, uint64_t mask)
+{
+	if (!tags_detail_begin(hand))
+		return TAGS_NULL;
+	return tags_detail_end(hand, tags_detail_won_mask(tags_library_take_mask(hand, first, mask),
+							  first, mask));
 }
 
 /**

@@ -690,11 +690,10 @@ private:
 	std::uint32_t number_ = 0;
 };
 
-/// Tags of one word that a hand holds, or empty: a range of their numbers, in ascending order. Its
-/// destructor gives all of them back in one step. Destroy it before its hand.
-class [[nodiscard]] batch {
-public:
-	/// Goes over the numbers of a batch.
+/// The numbers of several tags, a range in ascending order: what batch::post() returns and
+/// hand::take_batch() takes. It holds no tag, so it can be copied, sent and made of two numbers.
+struct numbers {
+	/// Goes over the numbers.
 	class iterator {
 	public:
 		using iterator_category = std::input_iterator_tag;
@@ -703,7 +702,10 @@ public:
 		using pointer = const std::uint32_t *;
 		using reference = std::uint32_t;
 
-		std::uint32_t operator*() const noexcept { return first_ + lowest(left_); }
+		std::uint32_t operator*() const noexcept
+		{
+			return first_ + static_cast<std::uint32_t>(__builtin_ctzll(left_));
+		}
 
 		iterator &operator++() noexcept
 		{
@@ -729,7 +731,7 @@ public:
 		}
 
 	private:
-		friend class batch;
+		friend struct numbers;
 
 		iterator(std::uint32_t first, std::uint64_t left) noexcept
 			: first_(first), left_(left)
@@ -739,10 +741,42 @@ public:
 		std::uint64_t left_;
 	};
 
+	/// The tag of bit 0, whether or not it is one of them.
+	std::uint32_t first = 0;
+	/// Bit i is 1 if the tag first + i is one of them.
+	std::uint64_t mask = 0;
+
+	/// Whether there is any number.
+	explicit operator bool() const noexcept { return mask != 0; }
+
+	iterator begin() const noexcept { return {first, mask}; }
+	iterator end() const noexcept { return {first, 0}; }
+
+	/// How many numbers there are, at most 64.
+	std::size_t size() const noexcept
+	{
+		return static_cast<std::size_t>(__builtin_popcountll(mask));
+	}
+
+	/// Whether this is one of them.
+	bool has(std::uint32_t number) const noexcept
+	{
+		return number - first < 64 && (mask >> (number - first) & 1) != 0;
+	}
+};
+
+/// Ordinary tags that a hand holds, or empty: a range of their numbers, in ascending order. Its
+/// destructor gives all of them back in one step for each word, and get_batch() wins those of one
+/// word. Destroy it before its hand.
+class [[nodiscard]] batch {
+public:
+	/// Goes over the numbers of a batch.
+	using iterator = numbers::iterator;
+
 	batch() noexcept = default;
 
 	batch(batch &&other) noexcept
-		: hand_(other.hand_), first_(other.first_), mask_(std::exchange(other.mask_, 0))
+		: hand_(other.hand_), numbers_(std::exchange(other.numbers_, {}))
 	{}
 
 	/// Gives the tags that this object has back first, if it has any.
@@ -751,8 +785,7 @@ public:
 		if (this != &other) {
 			clear();
 			hand_ = other.hand_;
-			first_ = other.first_;
-			mask_ = std::exchange(other.mask_, 0);
+			numbers_ = std::exchange(other.numbers_, {});
 		}
 		return *this;
 	}
@@ -760,60 +793,134 @@ public:
 	~batch() { clear(); }
 
 	/// Whether there is any tag.
-	explicit operator bool() const noexcept { return mask_ != 0; }
+	explicit operator bool() const noexcept { return static_cast<bool>(numbers_); }
 
-	iterator begin() const noexcept { return {first_, mask_}; }
-	iterator end() const noexcept { return {first_, 0}; }
+	iterator begin() const noexcept { return numbers_.begin(); }
+	iterator end() const noexcept { return numbers_.end(); }
 
 	/// How many tags there are.
-	std::size_t size() const noexcept
-	{
-		return static_cast<std::size_t>(__builtin_popcountll(mask_));
-	}
+	std::size_t size() const noexcept { return numbers_.size(); }
 
 	/// Whether the tag with this number is one of them.
-	bool has(std::uint32_t number) const noexcept
-	{
-		return number - first_ < 64 && (mask_ >> (number - first_) & 1) != 0;
-	}
+	bool has(std::uint32_t number) const noexcept { return numbers_.has(number); }
 
 	/// Gives all tags back now. Whoever waits for a tag is told.
 	void clear() noexcept
 	{
-		if (mask_ != 0)
-			detail::expect(
-				tags_clear_mask(&hand_->handle, first_, std::exchange(mask_, 0)));
+		const numbers gone = std::exchange(numbers_, {});
+		if (gone)
+			detail::expect(tags_clear_mask(&hand_->handle, gone.first, gone.mask));
 	}
 
 	/// Splits the first tag off, which is given back on its own. No tag: the batch is empty.
 	[[nodiscard]] std::optional<tag> pop() noexcept
 	{
-		if (mask_ == 0)
+		if (!numbers_)
 			return std::nullopt;
-		const std::uint32_t number = first_ + lowest(mask_);
-		mask_ &= mask_ - 1;
+		return extract(*begin());
+	}
+
+	/// Splits the tag with this number off, which is given back on its own, as when its request
+	/// ends before the others. No tag: the batch does not have it.
+	[[nodiscard]] std::optional<tag> extract(std::uint32_t number) noexcept
+	{
+		if (!has(number))
+			return std::nullopt;
+		numbers_.mask &= ~(std::uint64_t{1} << (number - numbers_.first));
 		return tag(hand_, number);
+	}
+
+#ifdef TAGS_THROWS
+	/// The value of the slot of one of the tags, as tag::read() returns it.
+	///
+	/// Errors: bad_handle; no_such_tag if the batch does not have it.
+	std::uint64_t read(std::uint32_t number) const
+	{
+		std::uint64_t value = 0;
+		detail::check(try_read(number, value));
+		return value;
+	}
+
+	/// Writes the slot of one of the tags, and returns the former value.
+	///
+	/// Errors: bad_handle; no_such_tag if the batch does not have it.
+	std::uint64_t write(std::uint32_t number, std::uint64_t value)
+	{
+		std::uint64_t former = 0;
+		detail::check(try_write(number, value, former));
+		return former;
+	}
+
+	/// Offers all tags, with their slots and what lies beside them, to all hands of the pool, and
+	/// returns their numbers, for hand::take_batch(); each can be taken alone, too. The object is
+	/// empty then.
+	///
+	/// Errors: bad_handle.
+	numbers post()
+	{
+		detail::check(try_post());
+		return std::exchange(numbers_, {});
+	}
+#endif
+
+	std::uint64_t read(std::uint32_t number, std::error_code &ec) const noexcept
+	{
+		std::uint64_t value = 0;
+		detail::note(try_read(number, value), ec);
+		return value;
+	}
+
+	std::uint64_t write(std::uint32_t number, std::uint64_t value, std::error_code &ec) noexcept
+	{
+		std::uint64_t former = 0;
+		detail::note(try_write(number, value, former), ec);
+		return former;
+	}
+
+	numbers post(std::error_code &ec) noexcept
+	{
+		const std::int32_t status = try_post();
+		detail::note(status, ec);
+		return status < 0 ? numbers() : std::exchange(numbers_, {});
 	}
 
 private:
 	friend class hand;
-
-	batch(detail::joined *hand, std::uint32_t first, std::uint64_t mask) noexcept
-		: hand_(hand), first_(first), mask_(mask)
-	{}
-
-	static std::uint32_t lowest(std::uint64_t bits) noexcept
-	{
-		return static_cast<std::uint32_t>(__builtin_ctzll(bits));
-	}
-
 	template <class T>
 	friend class values;
 
+	batch(detail::joined *hand, const numbers &held) noexcept : hand_(hand), numbers_(held) {}
+
+	/// Why the slot of this tag can't be used, if it can't.
+	std::int32_t find(std::uint32_t number) const noexcept
+	{
+		if (!numbers_)
+			return TAGS_BAD_HANDLE;
+		return has(number) ? TAGS_OK : TAGS_NO_SUCH_TAG;
+	}
+
+	std::int32_t try_read(std::uint32_t number, std::uint64_t &value) const noexcept
+	{
+		const std::int32_t status = find(number);
+		return status < 0 ? status : tags_read(&hand_->handle, number, &value);
+	}
+
+	std::int32_t try_write(std::uint32_t number, std::uint64_t value,
+			       std::uint64_t &former) noexcept
+	{
+		const std::int32_t status = find(number);
+		return status < 0 ? status : tags_write(&hand_->handle, number, value, &former);
+	}
+
+	std::int32_t try_post() noexcept
+	{
+		if (!numbers_)
+			return TAGS_BAD_HANDLE;
+		return tags_post_mask(&hand_->handle, numbers_.first, numbers_.mask);
+	}
+
 	detail::joined *hand_ = nullptr;
-	std::uint32_t first_ = 0;
-	/// Bit i is 1 if the tag first_ + i is one of them.
-	std::uint64_t mask_ = 0;
+	numbers numbers_;
 };
 
 /// A hand's stay in a wait group, for programs that sleep by means of their own, or empty. Its
@@ -1035,6 +1142,19 @@ public:
 		return tag(state_, number);
 	}
 
+	/// Takes ordinary tags that hands of this pool have posted, together or each alone: all of
+	/// them or none. Whatever was written before the posts is seen after this call. If one is not
+	/// posted, those taken before it are posted again; another hand may have found one of them
+	/// not posted meanwhile.
+	///
+	/// Errors: bad_handle; bad_count if there is no number; no_such_tag if one is out of range or
+	/// reserved; not_posted if one is not posted, or another hand took it first.
+	batch take_batch(const numbers &posted)
+	{
+		detail::check(try_take_batch(posted));
+		return batch(state_, posted);
+	}
+
 	/// Makes an object for a tag that was released: this hand holds it, and it has no object.
 	/// That includes the tags that the hand held when it left before.
 	///
@@ -1178,6 +1298,13 @@ public:
 		return status < 0 ? tag() : tag(state_, number);
 	}
 
+	batch take_batch(const numbers &posted, std::error_code &ec) noexcept
+	{
+		const std::int32_t status = try_take_batch(posted);
+		detail::note(status, ec);
+		return status < 0 ? batch() : batch(state_, posted);
+	}
+
 	tag adopt(std::uint32_t number, std::error_code &ec) noexcept
 	{
 		const std::int32_t status = try_adopt(number);
@@ -1284,6 +1411,14 @@ private:
 		return TAGS_OK;
 	}
 
+	/// A batch has no reserved tags, which do not go back together.
+	std::int32_t try_take_batch(const numbers &posted) noexcept
+	{
+		if (state_ != nullptr && posted && *posted.begin() < state_->pool->reserved)
+			return TAGS_NO_SUCH_TAG;
+		return tags_take_mask(raw(), posted.first, posted.mask);
+	}
+
 	std::int32_t try_clear_batch(const std::uint32_t *numbers, std::size_t count) noexcept
 	{
 		if (state_ == nullptr)
@@ -1318,7 +1453,7 @@ private:
 	{
 		if (first < 0)
 			return std::nullopt;
-		return batch(state_, static_cast<std::uint32_t>(first), won);
+		return batch(state_, {static_cast<std::uint32_t>(first), won});
 	}
 
 	static std::optional<tag> found(detail::joined *state, std::int32_t answer,

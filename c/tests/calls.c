@@ -132,6 +132,26 @@ static bool complete(struct tags_hand *hand, uint32_t tag, uint64_t *request)
 	return tags_clear(hand, tag) >= 0;
 }
 
+/* One thread offers a batch with its requests, and sends the first number and the mask to another one. */
+static int32_t submit_eight(struct tags_hand *hand, uint64_t *won)
+{
+	int32_t first = tags_get_batch(hand, 8, won);
+
+	if (first < 0)
+		return first;
+	for (uint32_t i = 0; i < 8; i++)
+		if (*won >> i & 1)
+			tags_write(hand, (uint32_t)first + i, i, NULL);
+	TAGS_MUST(tags_post_mask(hand, (uint32_t)first, *won));
+	return first;
+}
+
+/* The other thread takes all of these tags, or none of them. */
+static bool take_all(struct tags_hand *hand, uint32_t first, uint64_t won)
+{
+	return tags_take_mask(hand, first, won) == TAGS_OK;
+}
+
 /* Waits for a tag, but no longer than ten milliseconds. */
 static int32_t get_soon(struct tags_hand *hand)
 {
@@ -333,11 +353,23 @@ static void nap(void)
 {
 }
 
+static bool passes_eight(struct tags_hand *hand, struct tags_hand *other)
+{
+	uint64_t request = 0;
+	uint64_t won = 0;
+	int32_t first = submit_eight(hand, &won);
+
+	if (first < 0 || !take_all(other, (uint32_t)first, won))
+		return false;
+	tags_read(other, (uint32_t)first + 7, &request);
+	return tags_clear_mask(other, (uint32_t)first, won) >= 0 && request == 7;
+}
+
 static bool runs_with(struct tags_hand *hand, struct tags_hand *other, int event)
 {
 	const struct timespec past = { 0, 0 };
 	uint64_t request = 0;
-	uint64_t waiting = 1;
+	uint32_t waiting = 1;
 	uint64_t won = 0;
 	uint32_t tags[5];
 	int32_t tag;
@@ -345,7 +377,7 @@ static bool runs_with(struct tags_hand *hand, struct tags_hand *other, int event
 	for (int i = 0; i < 5; i++)
 		tags[i] = (uint32_t)tags_get(hand);
 	if (!complete_all(hand, tags, 5) || carry_out_eight(hand) != 8 ||
-	    !carry_out_by_pairs(hand, 9))
+	    !passes_eight(hand, other) || !carry_out_by_pairs(hand, 9))
 		return false;
 	tag = submit(hand, 11);
 	if (tag < 0 || !complete(other, (uint32_t)tag, &request) || request != 11)

@@ -65,6 +65,7 @@ static void empty_objects()
 	tags::pool pool;
 	tags::hand hand;
 	tags::tag tag;
+	tags::batch batch;
 	std::uint64_t bits = 0;
 	const std::uint32_t number = 0;
 	const auto soon = std::chrono::steady_clock::now() + 1ms;
@@ -90,6 +91,10 @@ static void empty_objects()
 	REFUSED(errc::bad_handle, hand.cancel(CODE));
 	REFUSED(errc::bad_handle, hand.prepare(CODE));
 	REFUSED(errc::bad_handle, hand.take(0, CODE));
+	REFUSED(errc::bad_handle, hand.take_batch({0, 1}, CODE));
+	REFUSED(errc::bad_handle, batch.read(0, CODE));
+	REFUSED(errc::bad_handle, batch.write(0, 1, CODE));
+	REFUSED(errc::bad_handle, batch.post(CODE));
 	REFUSED(errc::bad_handle, hand.adopt(0, CODE));
 	REFUSED(errc::bad_handle, hand.clear_batch(&number, 1, CODE));
 	REFUSED(errc::bad_handle, hand.holds(0, CODE));
@@ -212,6 +217,35 @@ static void batches_of_numbers()
 	CHECK(last && hand.adopt(reserved, ec) && !ec);
 }
 
+// Each takes or posts nothing.
+static void batches_that_pass()
+{
+	tags::pool pool(sized(12, 2, 2), ec);
+	tags::hand hand = pool.join_in_place(ec);
+	tags::hand other = pool.join_in_place(ec);
+	tags::batch batch = *hand.get_batch(2, ec);
+	CHECK(batch.size() == 2 && batch.has(2) && batch.has(3));
+	REFUSED(errc::no_such_tag, batch.read(4, CODE));
+	REFUSED(errc::no_such_tag, batch.write(1, 7, CODE));
+	REFUSED(errc::not_posted, other.take_batch({2, 3}, CODE));
+	tags::batch moved = std::move(batch);
+	REFUSED(errc::bad_handle, batch.post(CODE));
+	REFUSED(errc::bad_handle, batch.read(2, CODE));
+	const tags::numbers posted = moved.post(ec);
+	const std::uint32_t reserved = hand.get_reserved(ec)->post(ec);
+	CHECK(!ec && reserved == 0);
+	REFUSED(errc::bad_count, other.take_batch({}, CODE));
+	REFUSED(errc::bad_count, other.take_batch({2, 0}, CODE));
+	REFUSED(errc::no_such_tag, other.take_batch({0, 13}, CODE));
+	REFUSED(errc::no_such_tag, other.take_batch({2, 0x403}, CODE));
+	REFUSED(errc::no_such_tag, other.take_batch({0xffffffff, 3}, CODE));
+	REFUSED(errc::no_such_tag, other.take_batch({0xffffffff, 16}, CODE));
+	REFUSED(errc::not_posted, other.take_batch({2, 7}, CODE));
+	CHECK(!other.holds(2, ec) && !other.holds(3, ec));
+	const tags::batch taken = other.take_batch(posted, ec);
+	CHECK(!ec && taken.size() == 2 && other.take(reserved, ec) && !ec);
+}
+
 static void waits()
 {
 	tags::pool pool(sized(1, 2), ec);
@@ -269,6 +303,7 @@ int main()
 	gets();
 	tags_of_others();
 	batches_of_numbers();
+	batches_that_pass();
 	waits();
 	a_stop_ends_waits();
 	return report();

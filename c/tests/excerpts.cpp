@@ -93,6 +93,23 @@ static void several_at_once()
 	CHECK(most && most->size() == pool.batch_limit());
 }
 
+static void passed_together()
+{
+	tags::pool pool = opened(64, 2);
+	tags::hand submitter = pool.join();
+	tags::hand completer = pool.join();
+	std::uint64_t sum = 0;
+	tags::batch batch = *submitter.get_batch(8);
+	for (const std::uint32_t number : batch)
+		batch.write(number, 100 + number);
+	const tags::numbers sent = batch.post();
+
+	const tags::batch taken = completer.take_batch(sent);
+	for (const std::uint32_t number : taken)
+		sum += taken.read(number);
+	CHECK(sum == 828 && !batch && completer.holds(7));
+}
+
 static int event_loop()
 {
 	tags::pool pool = opened(1, 2);
@@ -154,6 +171,7 @@ int main()
 	a_limit();
 	in_flight();
 	several_at_once();
+	passed_together();
 	CHECK(event_loop() == 0);
 	resized();
 	cached();

@@ -510,6 +510,40 @@ static void try_take(void)
 	compare("take", tags_take(&handles[at].hand, tag), model_take(&models[at], tag));
 }
 
+static void try_post_mask(void)
+{
+	uint32_t at = hand_handle();
+	uint32_t first = any_tag(at);
+	uint64_t mask = mask_held(at, first);
+
+	compare("post_mask", tags_post_mask(&handles[at].hand, first, mask),
+		model_gave(&models[at], model_post_mask(&models[at], first, mask), 0));
+}
+
+/* A mask of some of the posted tags, and now and then of one that may not be posted. */
+static uint64_t mask_posted(uint32_t at, uint32_t first)
+{
+	uint64_t mask = 0;
+
+	for (uint32_t bit = 0; is_hand(&models[at]) && bit < 64; bit++)
+		if (first < total_behind(at) && first + bit < total_behind(at) &&
+		    is_posted(&models[at], first + bit) && !seldom(6))
+			mask |= UINT64_C(1) << bit;
+	if (seldom(4))
+		mask |= UINT64_C(1) << below(64);
+	return mask;
+}
+
+static void try_take_mask(void)
+{
+	uint32_t at = hand_handle();
+	uint32_t first = seldom(50) ? odd_number() : below(total_behind(at) + 2);
+	uint64_t mask = mask_posted(at, first);
+
+	compare("take_mask", tags_take_mask(&handles[at].hand, first, mask),
+		model_take_mask(&models[at], first, mask));
+}
+
 static void try_holds(void)
 {
 	uint32_t at = hand_handle();
@@ -705,13 +739,6 @@ static void try_pool_wakes(void)
  * Resizes
  */
 
-static bool is_posted(const struct model *hand, uint32_t tag)
-{
-	const struct set *set = set_of(hand, tag);
-
-	return set->place[tag - set->first] == POSTED;
-}
-
 /* The hand ends its wait, and gives back what it holds and what is posted. */
 static void empty_hand(uint32_t at)
 {
@@ -773,12 +800,13 @@ static const struct {
 	{ try_stop, 1 },	  { try_get_timed, 1 },	   { try_get_blocking, 1 },
 	{ try_get_async, 4 },	  { try_cancel, 1 },	   { try_events, 1 },
 	{ try_clear_mask, 1 },	  { try_flush, 1 },	   { try_pool_busy, 1 },
-	{ try_pool_show, 1 },	  { try_pool_wakes, 1 },
+	{ try_pool_show, 1 },	  { try_pool_wakes, 1 },   { try_post_mask, 1 },
+	{ try_take_mask, 1 },
 };
 
 static void try_any(void)
 {
-	uint32_t turn = below(48);
+	uint32_t turn = below(50);
 	size_t at = 0;
 
 	while (turn >= tries[at].turns)

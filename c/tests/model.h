@@ -137,6 +137,13 @@ static inline bool is_kept(const struct model *hand, uint32_t tag)
 	return tag - member->window < 64 && member->kept >> (tag - member->window) & 1;
 }
 
+static inline bool is_posted(const struct model *hand, uint32_t tag)
+{
+	const struct set *set = set_of(hand, tag);
+
+	return set->place[tag - set->first] == POSTED;
+}
+
 int32_t model_open(struct model *handle, const struct tags_options *options);
 int32_t model_join(struct model *handle, struct model *hand, uint32_t flags);
 int32_t model_leave(struct model *hand);
@@ -178,6 +185,8 @@ int32_t model_read(struct model *hand, uint32_t tag, uint64_t *value);
 int32_t model_write(struct model *hand, uint32_t tag, uint64_t value, uint64_t *former);
 int32_t model_post(struct model *hand, uint32_t tag);
 int32_t model_take(struct model *hand, uint32_t tag);
+int32_t model_post_mask(struct model *hand, uint32_t first, uint64_t mask);
+int32_t model_take_mask(struct model *hand, uint32_t first, uint64_t mask);
 int32_t model_holds(struct model *hand, uint32_t tag);
 
 int32_t model_prepare(struct model *hand);

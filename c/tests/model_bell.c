@@ -53,13 +53,21 @@ static uint32_t most_of(uint32_t a, uint32_t b)
 	return a > b ? a : b;
 }
 
-/* If anybody waits, all kept tags go back; whoever has tags to see to tells one hand at least. */
+static bool is_anybody_waiting(const struct pool *pool)
+{
+	for (uint32_t i = 0; i < pool->hands; i++)
+		if (pool->member[i].bell != IDLE)
+			return true;
+	return false;
+}
+
+/* If anybody waits, all kept tags go back. Whoever has tags to see to tells one hand at least. */
 static void ring(struct model *hand, uint32_t freed)
 {
 	struct pool *pool = hand->pool;
 	uint32_t kept = 0;
 
-	if (!find_first(pool) || (freed == 0 && pool->cache == 0))
+	if (!is_anybody_waiting(pool) || (freed == 0 && pool->cache == 0))
 		return;
 	if (pool->cache > 0) {
 		kept = (uint32_t)__builtin_popcountll(member_of(hand)->kept);

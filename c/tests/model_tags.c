@@ -260,12 +260,49 @@ int32_t model_take(struct model *hand, uint32_t tag)
 
 	if (status == TAGS_BAD_HANDLE || status == TAGS_NO_SUCH_TAG)
 		return status;
-	set = set_of(hand, tag);
-	if (set->place[tag - set->first] != POSTED)
+	if (!is_posted(hand, tag))
 		return TAGS_NOT_POSTED;
+	set = set_of(hand, tag);
 	set->place[tag - set->first] = HELD;
 	set->holder[tag - set->first] = hand->number;
 	hand->pool->sums.posted--;
 	hand->pool->sums.held++;
 	return TAGS_OK;
+}
+
+/* Why no list of these tags is posted or taken, or else TAGS_OK. */
+static int32_t check_list(const struct model *hand, const uint32_t *tags, size_t n)
+{
+	if (!is_hand(hand))
+		return TAGS_BAD_HANDLE;
+	if (n == 0)
+		return TAGS_BAD_COUNT;
+	return tags[n - 1] >= total_of(hand) ? TAGS_NO_SUCH_TAG : TAGS_OK;
+}
+
+int32_t model_post_mask(struct model *hand, uint32_t first, uint64_t mask)
+{
+	uint32_t tags[TAGS_MAX_BATCH];
+	size_t n = list_run(first, mask, tags);
+	int32_t status = check_list(hand, tags, n);
+
+	for (size_t i = 0; status == TAGS_OK && i < n; i++)
+		status = find_held(hand, tags[i]);
+	for (size_t i = 0; status == TAGS_OK && i < n; i++)
+		model_post(hand, tags[i]);
+	return status;
+}
+
+int32_t model_take_mask(struct model *hand, uint32_t first, uint64_t mask)
+{
+	uint32_t tags[TAGS_MAX_BATCH];
+	size_t n = list_run(first, mask, tags);
+	int32_t status = check_list(hand, tags, n);
+
+	for (size_t i = 0; status == TAGS_OK && i < n; i++)
+		if (!is_posted(hand, tags[i]))
+			status = TAGS_NOT_POSTED;
+	for (size_t i = 0; status == TAGS_OK && i < n; i++)
+		model_take(hand, tags[i]);
+	return status;
 }

@@ -45,6 +45,13 @@ static tags::tag get(tags::hand &hand)
 	return found ? std::move(*found) : tags::tag();
 }
 
+static tags::batch get_batch(tags::hand &hand, std::uint32_t n)
+{
+	std::optional<tags::batch> found = hand.get_batch(n, ec);
+	CHECK(!ec && found && found->size() == n);
+	return found ? std::move(*found) : tags::batch();
+}
+
 static void each_end_gives_tags_back()
 {
 	tags::pool pool(sized(16, 1, 2), ec);
@@ -239,6 +246,13 @@ static void batches()
 	other->clear();
 	CHECK(busy(hand) == 1 && other->begin() == other->end());
 	first.reset();
+	*other = get_batch(hand, 4);
+	CHECK(!other->extract(4) && !other->extract(0xffffffff) && busy(hand) == 4);
+	CHECK(other->extract(2)->number() == 2 && other->size() == 3);
+	CHECK(busy(hand) == 3);
+	CHECK(!other->extract(2) && !other->has(2) && other->extract(3) && other->size() == 2);
+	other->clear();
+	CHECK(!other->extract(0) && busy(hand) == 0);
 	tags::batch all = std::move(*hand.get_batch(64, ec));
 	CHECK(all.size() == 64 && !hand.get_batch(1, ec) && !ec && !hand.get(ec) && !ec);
 }
@@ -256,6 +270,76 @@ static void tags_pass_from_hand_to_hand()
 	CHECK(taken && taken.number() == number && taken.read_clear(ec) == 71 && !ec && !taken);
 	CHECK(!other.take(number, ec) && ec == errc::not_posted);
 	CHECK(busy(one) == 0);
+}
+
+static void batches_pass_from_hand_to_hand()
+{
+	tags::options options = sized(64, 2);
+	options.shift = 6;
+	tags::pool pool(options, ec);
+	tags::hand one = pool.join_in_place(ec);
+	tags::hand other = pool.join_in_place(ec);
+	tags::batch batch = get_batch(one, 4);
+	for (const std::uint32_t number : batch)
+		batch.write(number, 10 * number, ec);
+	CHECK(!ec && batch.write(2, 21, ec) == 20 && batch.read(2, ec) == 21 && !ec);
+	const std::optional<tags::tag> first = batch.pop();
+	const tags::numbers posted = batch.post(ec);
+	CHECK(!ec && !batch && batch.begin() == batch.end() && batch.size() == 0);
+	CHECK(posted && posted.size() == 3 && *posted.begin() == 1 && posted.has(3));
+	CHECK(!posted.has(0) && !posted.has(4) && !one.holds(1, ec) && !ec);
+
+	tags::batch taken = other.take_batch(posted, ec);
+	CHECK(!ec && taken.size() == 3 && *taken.begin() == 1);
+	CHECK(taken.read(1, ec) == 10 && taken.read(2, ec) == 21 && taken.read(3, ec) == 30 && !ec);
+	CHECK(!one.take_batch(posted, ec) && ec == errc::not_posted);
+	const tags::batch moved(std::move(taken));
+	CHECK(!taken && !taken.post(ec) && ec == errc::bad_handle && busy(one) == 4);
+	CHECK(moved.size() == 3 && other.holds(3, ec) && !ec);
+}
+
+// Tags of several batches and of several words are taken as one, or each alone.
+static void batches_are_made_of_numbers()
+{
+	tags::pool pool(sized(70, 2, 2), ec);
+	tags::hand one = pool.join_in_place(ec);
+	tags::hand other = pool.join_in_place(ec);
+	const tags::numbers low = get_batch(one, 2).post(ec);
+	const tags::numbers high = get_batch(one, 16).post(ec);
+	CHECK(!ec && low.first == 2 && low.mask == 3 && *high.begin() == 18);
+	CHECK(other.take(18, ec).number() == 18 && !ec);
+	CHECK(!other.take_batch(high, ec) && ec == errc::not_posted && busy(one) == 17);
+	{
+		const tags::batch both = other.take_batch({2, low.mask | 0xfffe0000}, ec);
+		CHECK(!ec && both.size() == 17 && both.has(2) && both.has(19) && both.has(33));
+	}
+	CHECK(busy(one) == 0 && tags::numbers().size() == 0 && !tags::numbers());
+}
+
+// Nothing but the tags orders what the threads do to what lies beside them.
+static void batches_order_what_lies_beside_them()
+{
+	tags::pool pool(sized(4, 2), ec);
+	tags::hand hand = pool.join(ec);
+	tags::hand other = pool.join(ec);
+	std::uint32_t beside[4] = {};
+	const tags::numbers all{0, 15};
+	for (std::uint32_t number = 0; number < 4; number++)
+		static_cast<void>(get(hand).release());
+	std::thread taker([&] {
+		std::error_code own;
+		tags::batch taken;
+		while (!taken)
+			taken = other.take_batch(all, own);
+		for (const std::uint32_t number : taken)
+			CHECK(beside[number] == number + 1);
+	});
+	for (std::uint32_t &it : beside)
+		it = static_cast<std::uint32_t>(&it - beside) + 1;
+	for (const std::uint32_t number : all)
+		CHECK(hand.adopt(number, ec).post(ec) == number && !ec);
+	taker.join();
+	CHECK(busy(hand) == 0);
 }
 
 static void caches()
@@ -384,6 +468,9 @@ int main()
 	released_tags_are_adopted();
 	batches();
 	tags_pass_from_hand_to_hand();
+	batches_pass_from_hand_to_hand();
+	batches_are_made_of_numbers();
+	batches_order_what_lies_beside_them();
 	caches();
 	waits_by_other_means();
 	resizes();

@@ -67,6 +67,8 @@ static void refuse_null(struct tags_pool *pool, struct tags_hand *hand)
 	WANT(tags_write(NULL, 2, 1, &value), -28);
 	WANT(tags_post(NULL, 2), -28);
 	WANT(tags_take(NULL, 2), -28);
+	WANT(tags_post_mask(NULL, 2, 1), -28);
+	WANT(tags_take_mask(NULL, 2, 1), -28);
 	WANT(tags_holds(NULL, 2), -28);
 	WANT(tags_busy(hand, NULL, 1), -28);
 	WANT(tags_show(hand, TAGS_ORDINARY, NULL), -28);
@@ -175,6 +177,8 @@ static void refuse_handle(struct tags_hand *hand)
 	WANT(tags_write(hand, tag, 1, &value), -12);
 	WANT(tags_post(hand, tag), -12);
 	WANT(tags_take(hand, tag), -12);
+	WANT(tags_post_mask(hand, tag, 0), -12);
+	WANT(tags_take_mask(hand, tag, 0), -12);
 	WANT(tags_holds(hand, tag), -12);
 	WANT(tags_busy(hand, &value, 1), -12);
 	WANT(tags_show(hand, TAGS_ORDINARY, &sizes), -12);

@@ -1,7 +1,7 @@
 /*
  * The calls of the library by their symbols, as other languages make them. What a thread writes
- * beside a tag is seen by the next one that gets it, in a batch too, and the thread sanitizer is
- * told so; threads join after others have left.
+ * beside a tag is seen by the next one that gets or takes it, in a batch too, and the thread sanitizer
+ * is told so; threads join after others have left.
  * symbols [ROUNDS]
  */
 #include <inttypes.h>
@@ -18,8 +18,11 @@ int32_t get(struct tags_hand *hand) SYMBOL(tags_get);
 int32_t get_batch(struct tags_hand *hand, uint32_t n, uint64_t *won) SYMBOL(tags_get_batch);
 int32_t clear(struct tags_hand *hand, uint32_t tag) SYMBOL(tags_clear);
 int32_t clear_mask(struct tags_hand *hand, uint32_t first, uint64_t mask) SYMBOL(tags_clear_mask);
+int32_t post_mask(struct tags_hand *hand, uint32_t first, uint64_t mask) SYMBOL(tags_post_mask);
+int32_t take_mask(struct tags_hand *hand, uint32_t first, uint64_t mask) SYMBOL(tags_take_mask);
 
-enum { TOTAL = 8, THREADS = 4, JOINS = 20 };
+/* The reserved tags, 0 and 1, are always posted, or in use by a thread that took both. */
+enum { TOTAL = 10, RESERVED = 2, BOTH = 3, THREADS = 4, JOINS = 20 };
 
 static long rounds = 1000;
 static uint64_t wrong;
@@ -66,6 +69,19 @@ static uint64_t use_tag(struct tags_hand *hand)
 	return 1;
 }
 
+static uint64_t use_posted(struct tags_hand *hand)
+{
+	int32_t status = take_mask(hand, 0, BOTH);
+
+	if (status == TAGS_NOT_POSTED)
+		return 0;
+	must("tags_take_mask", status);
+	used[0]++;
+	used[1]++;
+	must("tags_post_mask", post_mask(hand, 0, BOTH));
+	return 2;
+}
+
 static void *work(void *count)
 {
 	uint64_t uses = 0;
@@ -75,17 +91,29 @@ static void *work(void *count)
 
 		must("tags_join", tags_join(&pool, &hand, 0));
 		for (long i = 0; i < rounds; i++)
-			uses += use_batch(&hand) + use_tag(&hand);
+			uses += use_batch(&hand) + use_tag(&hand) + use_posted(&hand);
 		must("tags_leave", tags_leave(&hand));
 	}
 	*(uint64_t *)count = uses;
 	return NULL;
 }
 
+static void post_reserved(void)
+{
+	struct tags_hand hand = TAGS_EMPTY;
+
+	must("tags_join", tags_join(&pool, &hand, 0));
+	for (int i = 0; i < RESERVED; i++)
+		must("tags_get_reserved", tags_get_reserved(&hand));
+	must("tags_post_mask", post_mask(&hand, 0, BOTH));
+	must("tags_leave", tags_leave(&hand));
+}
+
 int main(int argc, char **argv)
 {
 	const struct tags_options options = {
 		.total = TOTAL,
+		.reserved = RESERVED,
 		.shift = 2,
 		.hands = THREADS,
 	};
@@ -96,6 +124,7 @@ int main(int argc, char **argv)
 	if (argc > 1)
 		rounds = strtol(argv[1], NULL, 10);
 	must("tags_open", tags_open(&pool, &options));
+	post_reserved();
 	for (int i = 0; i < THREADS; i++)
 		if (pthread_create(&ids[i], NULL, work, &counts[i]))
 			return 2;
@@ -106,7 +135,7 @@ int main(int argc, char **argv)
 	must("tags_close", tags_close(&pool, &sums));
 	for (int i = 0; i < TOTAL; i++)
 		uses -= used[i];
-	wrong += uses != 0 || sums.got != sums.back;
+	wrong += uses != 0 || sums.got != sums.back + RESERVED || sums.posted != RESERVED;
 	printf("%" PRIu64 " wrong\n", wrong);
 	return wrong != 0;
 }

@@ -78,6 +78,23 @@ static void a_value_stays_and_passes_on()
 	CHECK(values[tag].back() == 8);
 }
 
+static void values_pass_with_a_batch()
+{
+	tags::pool pool(sized(64, 2), failure);
+	const tags::values<std::vector<int>> values(pool, failure);
+	tags::hand one = pool.join_in_place(failure);
+	tags::hand other = pool.join_in_place(failure);
+	tags::batch batch = *one.get_batch(3, failure);
+	for (const std::uint32_t number : batch)
+		values.at(batch, number, failure)->assign(number + 1, 7);
+	const tags::numbers posted = batch.post(failure);
+	CHECK(!failure && values.at(batch, 0, failure) == nullptr && failure == errc::no_such_tag);
+	batch = other.take_batch(posted, failure);
+	for (const std::uint32_t number : posted)
+		CHECK(values.at(batch, number, failure)->size() == number + 1);
+	CHECK(!failure && posted.size() == 3);
+}
+
 static void tags_of_other_pools_are_refused()
 {
 	tags::pool pool(sized(4, 1), failure);
@@ -263,6 +280,7 @@ int main()
 	each_value_lives_once();
 	they_have_their_alignment();
 	a_value_stays_and_passes_on();
+	values_pass_with_a_batch();
 	tags_of_other_pools_are_refused();
 	reserved_values_stay_over_a_resize();
 	a_later_pool_in_the_same_place();

@@ -1,10 +1,11 @@
 //! The hand through which a thread takes tags.
+use crate::batch::{Batch, Numbers};
 use crate::error::{number, Result};
 use crate::options::{Counts, Kind, Sizes};
 use crate::pool::Shared;
 use crate::raw::{self, Due, Handle};
 use crate::shared::SharedHand;
-use crate::tag::{Batch, Tag};
+use crate::tag::Tag;
 use std::cell::{Cell, RefCell, UnsafeCell};
 use std::fmt;
 use std::sync::Arc;
@@ -196,7 +197,7 @@ impl<T> Hand<T> {
             self.owe_if_awaited(left);
         }
         self.settle();
-        Ok(Self::found(first)?.map(|first| Batch::new(self, first, won)))
+        Ok(Self::found(first)?.map(|first| Batch::new(self, Numbers::new(first, won))))
     }
 
     /// Gives all kept tags back, and wakes whoever waits for one. A hand keeps tags if the pool was opened with a
@@ -207,7 +208,8 @@ impl<T> Hand<T> {
     }
 
     pub(crate) fn flush_kept(&self) {
-        self.give_kept();
+        // SAFETY: as of `raw`.
+        Self::expect(unsafe { raw::tags_library_flush(self.raw()) });
         self.owe_if_awaited(0);
     }
 

@@ -1,4 +1,5 @@
 //! What a hand does with tags that it holds, and how it comes by those of other hands.
+use crate::batch::{Batch, Numbers};
 use crate::error::{number, Error, Result};
 use crate::hand::Hand;
 use crate::raw;
@@ -66,6 +67,21 @@ impl<T> Hand<T> {
         Ok(Tag::new(self, number))
     }
 
+    /// Takes ordinary tags that hands of this pool have posted, [together](Batch::post) or each alone, with their slots and
+    /// their values: all of them or none. If one is not posted, those taken before it are posted again; another hand may
+    /// have found one of them not posted meanwhile. Refusals: [`BadCount`](Error::BadCount) if there is no number,
+    /// [`NoSuchTag`](Error::NoSuchTag) if one is out of range or reserved, and [`NotPosted`](Error::NotPosted).
+    pub fn take_batch(&self, posted: Numbers) -> Result<Batch<'_, T>> {
+        // A batch goes back together, as reserved tags don't.
+        if posted.iter().any(|it| it < self.shared.reserved) {
+            return Err(Error::NoSuchTag);
+        }
+        let (first, mask) = (posted.first(), posted.mask());
+        // SAFETY: as of `raw`.
+        self::number(unsafe { raw::tags_library_take_mask(self.raw(), first, mask) })?;
+        Ok(Batch::new(self, posted))
+    }
+
     /// Notes that a tag has lost its guard while the hand still holds it.
     pub(crate) fn let_go(&self, number: u32) {
         self.loose.borrow_mut()[number as usize / 64] |= 1 << (number % 64);
@@ -96,7 +112,8 @@ impl<T> Hand<T> {
     }
 
     /// Gives the held ordinary tags of a mask back together. The caller settles what the hand owes.
-    pub(crate) fn give_mask(&self, first: u32, mask: u64) {
+    pub(crate) fn give_mask(&self, held: Numbers) {
+        let (first, mask) = (held.first(), held.mask());
         // SAFETY: as of `raw`.
         Self::expect(unsafe { raw::tags_library_clear_mask(self.raw(), first, mask) });
         self.owe_if_awaited(mask.count_ones().into());
@@ -120,6 +137,14 @@ impl<T> Hand<T> {
     pub(crate) fn post(&self, number: u32) {
         // SAFETY: as of `raw`.
         Self::expect(unsafe { raw::tags_library_post(self.raw(), number) });
+        self.owe_if_awaited(0);
+    }
+
+    /// Posts the held tags of a mask together. The caller settles what the hand owes.
+    pub(crate) fn post_mask(&self, held: Numbers) {
+        let (first, mask) = (held.first(), held.mask());
+        // SAFETY: as of `raw`.
+        Self::expect(unsafe { raw::tags_library_post_mask(self.raw(), first, mask) });
         self.owe_if_awaited(0);
     }
 }

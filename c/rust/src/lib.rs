@@ -25,6 +25,7 @@
 //! whose [`OwnedTag`]s borrow nothing. [`Pool::open_with`] puts a value of any type beside each tag, for whoever holds
 //! the tag. The examples are an I/O queue of threads, tasks on a small executor, and threads that copy a file.
 
+mod batch;
 mod bell;
 mod error;
 mod future;
@@ -40,6 +41,7 @@ mod tag;
 mod values;
 mod waits;
 
+pub use batch::{Batch, Numbers};
 pub use error::{CloseError, Error, Result};
 pub use future::{GetAsync, GetAsyncOwned};
 pub use hand::Hand;
@@ -47,5 +49,5 @@ pub use options::{Counts, Kind, Options, Sizes, Totals};
 pub use owned::OwnedTag;
 pub use pool::Pool;
 pub use shared::SharedHand;
-pub use tag::{Batch, Tag};
+pub use tag::Tag;
 pub use waits::Wait;

@@ -31,7 +31,8 @@ pub struct Pool<T = ()> {
 /// What a pool shares with its hands.
 pub(crate) struct Shared<T> {
     opened: Opened,
-    reserved: u32,
+    /// Tags below this are reserved.
+    pub reserved: u32,
     values: Values<T>,
     /// Who waits for a tag. It lives until the pool is closed.
     pub bell: Bell,

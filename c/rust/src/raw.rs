@@ -113,6 +113,8 @@ unsafe extern "C" {
     pub fn tags_library_write(hand: *mut Handle, tag: u32, value: u64, former: *mut u64) -> i32;
     pub fn tags_library_post(hand: *mut Handle, tag: u32) -> i32;
     pub fn tags_library_take(hand: *mut Handle, tag: u32) -> i32;
+    pub fn tags_library_post_mask(hand: *mut Handle, first: u32, mask: u64) -> i32;
+    pub fn tags_library_take_mask(hand: *mut Handle, first: u32, mask: u64) -> i32;
     pub fn tags_library_busy(hand: *mut Handle, into: *mut u64, words: usize) -> i32;
     pub fn tags_library_show(hand: *mut Handle, kind: u32, sizes: *mut Sizes) -> i32;
     pub fn tags_library_wakes(hand: *mut Handle, counts: *mut Counts) -> i32;

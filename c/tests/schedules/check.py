@@ -26,8 +26,8 @@ TOO_LARGE_FOR_RACES = "three_of_two hider_two mixed_of_two loops_of_two loops_th
 SMALL_FOR_TRUE = """again signals heir words prepared stop stop_listeners stop_timed stop_joins loop loops hider hider_loop hidden timed resizes closes
     resizes_reported closes_reported hires hires_timed hires_stop drains drains_kept drains_stop""".split()
 # Of those that need it, these have races looked for as well.
-RACES_FOR_TRUE = "posts reserved robin batches resizes hires drains_stop plus_owners plus_joins plus_stop plus_waits plus_loop plus_quits".split()
-TRUE_IN_GATE = "stop hidden loops posts reserved robin batches resizes resizes_reported hires drains_stop plus_owners plus_joins plus_stop".split()
+RACES_FOR_TRUE = "posts masks reserved robin batches resizes hires drains_stop plus_owners plus_joins plus_stop plus_waits plus_loop plus_quits".split()
+TRUE_IN_GATE = "stop hidden loops posts masks reserved robin batches resizes resizes_reported hires drains_stop plus_owners plus_joins plus_stop".split()
 # Large, but complete. The others are too large for that, and one of them for two preemptions.
 COMPLETE = "kept_three four_sleepers four_loops".split()
 ONE_PREEMPTION = ["four_ways"]

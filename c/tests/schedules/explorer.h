@@ -90,6 +90,8 @@ struct notes {
 	uint8_t holder[MAX_TAGS];
 	/* the tag that one thread hands over to another */
 	uint32_t handed;
+	/* how many takes of a mask were refused */
+	uint32_t refused;
 	/* of each place's wait: bell_rules.c */
 	uint64_t turn[2 * MAX_THREADS];
 	/* the places that were listed when the thread last looked after a clear, and still wait */

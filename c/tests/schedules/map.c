@@ -851,5 +851,7 @@ int32_t tags_library_pool_wakes(struct tags_pool *pool, struct tags_counts *coun
 #pragma GCC diagnostic ignored "-Wunused-parameter"
 LACKS(tags_library_get_reserved, struct tags_hand *hand)
 LACKS(tags_library_take, struct tags_hand *hand, uint32_t tag)
+LACKS(tags_library_holds, struct tags_hand *hand, uint32_t tag)
+LACKS(tags_library_read, struct tags_hand *hand, uint32_t tag, uint64_t *value)
 LACKS(tags_library_write, struct tags_hand *hand, uint32_t tag, uint64_t value, uint64_t *former)
 LACKS(tags_library_read_clear, struct tags_hand *hand, uint32_t tag, uint64_t *value)

@@ -39,6 +39,8 @@ void make_futures(void);
 void poster(int me);
 void keeper(int me);
 void taker(int me);
+void mask_poster(int me);
+void mask_taker(int me);
 void reserver(int me);
 
 /* lives.c: joins, leaves, and what happens to a whole pool */

@@ -35,7 +35,8 @@ bool is_asleep(const struct thread *thread)
 /* Waits for what another thread was to hand over: no wait for a tag. */
 static bool waits_for_a_thread(uint32_t i)
 {
-	return world->thread[i].kind == OP_POLL && scenario->program[i] == taker;
+	return world->thread[i].kind == OP_POLL &&
+	       (scenario->program[i] == taker || scenario->program[i] == mask_taker);
 }
 
 static uint32_t count_at_gate(bool (*does)(uint32_t thread))

@@ -209,6 +209,9 @@ const struct scenario scenarios[] = {
 	{ "posts_kept", "the same with a cache of 1, 2 tags",
 	  .tags = 2, .cache = 1, .flags = KEEPS, .program = { poster, taker, sleeper },
 	  .rounds = { 1, 1, 1 }, .forever = true, .needs_library = true },
+	{ "masks", "three posted tags, of which each of three threads takes two, which overlap",
+	  .tags = 3, .program = { mask_poster, mask_taker, mask_taker }, .rounds = { 1, 1, 1 },
+	  .needs_library = true },
 	{ "reserved", "a reserved tag, beside two sleepers, 1 ordinary tag",
 	  .tags = 2, .reserved = 1, .program = { sleeper, sleeper, reserver },
 	  .rounds = { 1, 1, 1 }, .forever = true, .needs_library = true },
@@ -298,6 +301,7 @@ static const struct {
 	NAMED(late_reporter), NAMED(resumer), NAMED(stopper), NAMED(joiner), NAMED(goer), NAMED(reporter), NAMED(resizer), NAMED(closer),
 	NAMED(plus_sleeper), NAMED(plus_loop), NAMED(plus_quitter), NAMED(plus_leaver),
 	NAMED(plus_joiner), NAMED(plus_closer), NAMED(plus_stopper),
+	NAMED(mask_poster), NAMED(mask_taker),
 };
 
 const char *name_of_program(int thread)

@@ -92,6 +92,59 @@ void taker(int me)
 	end_program(me);
 }
 
+/*
+ * Takes two of the three posted tags, and posts them again. Any two threads want one in common; so
+ * some may be refused, and then hold nothing, but not all.
+ */
+static void take_two(int me)
+{
+	const uint64_t mask = 7 & ~(UINT64_C(1) << me);
+	const int32_t answer = CALL(tags_take_mask(hands[me], 0, mask));
+
+	for (uint32_t tag = 0; tag < 3; tag++) {
+		uint64_t value = 0;
+
+		EXPECT(answer == TAGS_OK && (mask >> tag & 1), tags_holds(hands[me], tag));
+		if (answer != TAGS_OK || !(mask >> tag & 1))
+			continue;
+		take_tag(me, (int32_t)tag);
+		EXPECT(TAGS_OK, tags_read(hands[me], tag, &value));
+		if (value != value_of((int)tag))
+			fault("the slot of tag %u has %lx", tag, (unsigned long)value);
+	}
+	if (answer == TAGS_OK) {
+		for (int32_t tag = 0; tag < 3; tag++)
+			if (mask >> tag & 1)
+				drop_tag(tag);
+		EXPECT(TAGS_OK, tags_post_mask(hands[me], 0, mask));
+	} else if (answer != TAGS_NOT_POSTED || ++world->notes.refused == world->threads) {
+		fault("each take was refused, or one for another reason");
+	}
+	end_program(me);
+}
+
+/* Posts three tags, tells the other threads, and takes two of them itself. */
+void mask_poster(int me)
+{
+	for (int i = 0; i < 3; i++) {
+		const int32_t tag = CALL(tags_get(hands[me]));
+
+		EXPECT(TAGS_OK, tags_write(hands[me], (uint32_t)tag, value_of(tag), NULL));
+	}
+	EXPECT(TAGS_OK, tags_post_mask(hands[me], 0, 7));
+	for (int other = 1; other < (int)world->threads; other++) {
+		pause_before(OP_EVENT_WRITE, &world->event[HANDED - other], sizeof(struct event), 1, PC);
+		world->event[HANDED - other].count++;
+	}
+	take_two(me);
+}
+
+void mask_taker(int me)
+{
+	wait_event(HANDED - me);
+	take_two(me);
+}
+
 /* Takes reserved tags, which nobody waits for, and never waits. */
 void reserver(int me)
 {
