@@ -116,6 +116,35 @@ static void run_future(int me, bool may_drop)
 	end_program(me);
 }
 
+/* Gives a tag back, and notes whom that has told. */
+static void owe(int me, int32_t tag, struct tags_due *due)
+{
+	drop_tag(tag);
+	if (CALL(tags_library_clear(hands[me], (uint32_t)tag)) < 0)
+		fault("a clear was refused");
+	if (tags_load(&hands[me]->waits->waiting) > 0)
+		tags_library_see(hands[me], 1, due);
+}
+
+/* A hand of the Rust crate behind a lock: it gives two tags back, and wakes those it told once it has left the lock. */
+void ower(int me)
+{
+	struct tags_due due = { { 0, 0 }, 0 };
+	int32_t tag = CALL(tags_get(hands[me])), other;
+
+	if (tag < 0)
+		return;
+	take_tag(me, tag);
+	other = CALL(tags_get(hands[me]));
+	if (other >= 0)
+		take_tag(me, other);
+	owe(me, tag, &due);
+	if (other >= 0)
+		owe(me, other, &due);
+	tags_library_wake(hands[me]->waits, &due);
+	end_program(me);
+}
+
 void task(int me)
 {
 	run_future(me, false);

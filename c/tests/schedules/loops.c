@@ -68,6 +68,32 @@ void leaver(int me)
 	loop(me, LEAVES);
 }
 
+/* Leaves, and joins again, with whatever place is vacant then. */
+void rejoiner(int me)
+{
+	EXPECT(TAGS_OK, tags_leave(hands[me]));
+	EXPECT(TAGS_OK, tags_join(pool, hands[me], 0));
+	loop(me, STAYS);
+}
+
+/* Waits for a second tag while it holds one, and gives that back meanwhile: it may get it again. */
+void giver(int me)
+{
+	int32_t tag = CALL(tags_get_blocking(hands[me])), other;
+
+	take_tag(me, tag);
+	open_event(me);
+	other = CALL(tags_get_async(hands[me], me));
+	clear_tag(me, tag);
+	while (other == TAGS_NO_TAG) {
+		wait_event(me);
+		other = CALL(tags_get_async(hands[me], me));
+	}
+	close_event(me);
+	if (use_tag(me, other))
+		end_program(me);
+}
+
 /* Names its other eventfd each time, and closes the former one. */
 void changer(int me)
 {

@@ -29,10 +29,13 @@ void leaver(int me);
 void changer(int me);
 void switcher(int me);
 void breaker(int me);
+void rejoiner(int me);
+void giver(int me);
 
 /* futures.c */
 void task(int me);
 void dropper(int me);
+void ower(int me);
 void make_futures(void);
 
 /* slots.c: posts, slots and reserved tags */
