@@ -153,7 +153,7 @@ static inline int32_t tags_flush(struct tags_hand *hand)
 #define tags_take(hand, tag) ((void)(hand), (void)(tag), TAGS_OK)
 #define tags_post(hand, tag) ((void)(hand), (void)(tag), TAGS_OK)
 /* which tags are busy it does not know */
-#define tags_pool_busy(pool, into, words) ((into)[0] = 0, TAGS_OK)
+#define tags_pool_each_busy(pool, function, argument) ((void)(pool), (void)(function), (void)(argument), TAGS_OK)
 #define tags_strerror(status) ((void)(status), "refused")
 
 #endif

@@ -73,10 +73,10 @@ static int32_t get_tag(struct tags_hand *hand, uint16_t command)
 }
 
 /* A reader may go idle after this, so it keeps no tag. */
-static void give_back(struct tags_hand *hand, uint32_t tag)
+static void give_up_request(struct connection *connection, uint32_t tag)
 {
-	must("tags_clear", tags_clear(hand, tag));
-	must("tags_flush", tags_flush(hand));
+	give_back(&connection->hand, tag, &connection->server->requests[tag]);
+	must("tags_flush", tags_flush(&connection->hand));
 }
 
 static int has_room(struct request *request, uint32_t size)
@@ -110,11 +110,11 @@ static int submit(struct connection *connection, uint32_t tag, const struct head
 	request->connection = connection;
 	show(request);
 	if (has_data && !has_room(request, header->length)) {
-		give_back(&connection->hand, tag);
+		give_up_request(connection, tag);
 		return refuse(connection, header, FAULT_MEMORY);
 	}
 	if (header->command == COMMAND_WRITE && !receive(connection->fd, request->buffer, header->length)) {
-		give_back(&connection->hand, tag);
+		give_up_request(connection, tag);
 		return 0;
 	}
 	post(connection, tag);

@@ -131,6 +131,7 @@ enum fault carry_out(const struct store *store, struct request *request);
 void start_workers(struct server *server);
 void end_workers(struct server *server);
 void pass_on(struct queue *queue, uint32_t tag, int is_urgent);
+void give_back(struct tags_hand *hand, uint32_t tag, struct request *request);
 
 /* wire.c */
 void limit_waits(int fd, uint32_t seconds);

@@ -68,11 +68,11 @@ static void release_large(struct request *request)
 	request->size = 0;
 }
 
-static void give_back(struct worker *worker, uint32_t tag, struct request *request)
+void give_back(struct tags_hand *hand, uint32_t tag, struct request *request)
 {
 	release_large(request);
 	__atomic_store_n(&request->shown, 0, __ATOMIC_RELAXED);
-	must("tags_clear", tags_clear(&worker->hand, tag));
+	must("tags_clear", tags_clear(hand, tag));
 }
 
 /*
@@ -95,11 +95,11 @@ static void serve(struct worker *worker, uint32_t tag)
 	connection = request->connection;
 	header = request->header;
 	if (header.command != COMMAND_READ) {
-		give_back(worker, tag, request);
+		give_back(&worker->hand, tag, request);
 		reply(connection, &header, fault, NULL);
 	} else {
 		reply(connection, &header, fault, request->buffer);
-		give_back(worker, tag, request);
+		give_back(&worker->hand, tag, request);
 	}
 }
 
