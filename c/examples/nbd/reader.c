@@ -97,7 +97,7 @@ static void post(struct connection *connection, uint32_t tag)
 	__atomic_add_fetch(&connection->pending, 1, __ATOMIC_RELAXED);
 	must("tags_write", tags_write(&connection->hand, tag, (uintptr_t)request, NULL));
 	must("tags_post", tags_post(&connection->hand, tag));
-	pass_on(&server->queue, tag, tag < server->settings.reserved);
+	pass_on(server, tag, NOT_BEGUN);
 }
 
 /* Fills the request of a tag, and posts the tag. Returns whether the next one can be read. */
@@ -108,6 +108,7 @@ static int submit(struct connection *connection, uint32_t tag, const struct head
 
 	request->header = *header;
 	request->connection = connection;
+	request->done = 0;
 	show(request);
 	if (has_data && !has_room(request, header->length)) {
 		give_up_request(connection, tag);

@@ -56,13 +56,16 @@ static uint32_t open_count(struct server *server)
 /* This needs no hand, and stops nobody. */
 void report_busy(struct server *server)
 {
+	struct tags_counts counts;
 	struct tags_sizes ordinary;
 	struct tags_sizes reserved;
 
 	must("tags_pool_show", tags_pool_show(&server->pool, TAGS_ORDINARY, &ordinary));
 	must("tags_pool_show", tags_pool_show(&server->pool, TAGS_RESERVED, &reserved));
-	printf("busy: ordinary %" PRIu32 "/%" PRIu32 ", reserved %" PRIu32 "/%" PRIu32 ", connections %" PRIu32
-	       "\n", ordinary.busy, ordinary.depth, reserved.busy, reserved.depth, open_count(server));
+	must("tags_pool_wakes", tags_pool_wakes(&server->pool, &counts));
+	printf("busy: ordinary %" PRIu32 "/%" PRIu32 ", reserved %" PRIu32 "/%" PRIu32 "; connections %" PRIu32
+	       ", of which %" PRIu64 " wait for a tag\n", ordinary.busy, ordinary.depth, reserved.busy,
+	       reserved.depth, open_count(server), counts.active);
 	must("tags_pool_each_busy", tags_pool_each_busy(&server->pool, report_tag, server->requests));
 	fflush(stdout);
 }

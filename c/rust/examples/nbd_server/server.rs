@@ -233,8 +233,12 @@ impl Server {
             [Kind::Ordinary, Kind::Reserved].map(|kind| self.pool.show(kind));
         let open = self.open.lock().unwrap().len();
         println!(
-            "busy: ordinary {}/{}, reserved {}/{}, connections {open}",
-            ordinary.busy, ordinary.depth, reserved.busy, reserved.depth
+            "busy: ordinary {}/{}, reserved {}/{}; connections {open}, of which {} wait for a tag",
+            ordinary.busy,
+            ordinary.depth,
+            reserved.busy,
+            reserved.depth,
+            self.pool.wakes().active
         );
         for tag in self.pool.busy_tags() {
             let word = self.shown[tag as usize].load(Relaxed);
