@@ -123,8 +123,9 @@ static void open_server(void)
 		give_up("the server", strerror(errno));
 	must("tags_open", tags_open(&server.pool, &options));
 	open_connections(&server);
-	server.has_uring = has_uring(settings);
 	start_workers(&server);
+	/* it passes tags on to the queue; the workers look at this once a reader has passed one on */
+	server.has_uring = has_uring(settings);
 }
 
 static void accept_one(int listener)
