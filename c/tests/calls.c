@@ -278,10 +278,7 @@ static int watch_tag(uint32_t tag, void *argument)
 	return 0;
 }
 
-/*
- * How many requests take 30 seconds or more. watch_tag() looks at the tag's element of an array
- * in which each holder notes when it began, and returns 0.
- */
+/* How many requests take 30 seconds or more: watch_tag() looks at what the tag's holder noted, and returns 0. */
 static uint32_t count_late(struct tags_pool *pool, uint64_t now)
 {
 	struct watch watch = { now, 0 };

@@ -1,4 +1,5 @@
 //! Guards that give their tags back, and refused calls.
+use std::sync::atomic::{AtomicU64, Ordering::Relaxed};
 use std::thread;
 use std::time::Duration;
 use tags::{Counts, Error, Kind, Options, Pool};
@@ -239,4 +240,21 @@ fn a_pool_lists_its_busy_tags() {
     drop(hand);
     assert_eq!(pool.close().unwrap().back, 10_240);
     assert!(listed.eq([0, 63, 64, 10_239]));
+}
+
+#[test]
+fn late_requests_are_among_the_busy_tags() {
+    let (pool, begun) = (open(4, 0, 1), [const { AtomicU64::new(0) }; 4]);
+    let hand = pool.join_in_place().unwrap();
+    let tags = [(); 3].map(|()| hand.get_blocking().unwrap());
+    for (tag, since) in [(0, 10_000), (1, 30_000), (3, 10_000)] {
+        begun[tag].store(since, Relaxed);
+    }
+    let now = 40_000;
+    let is_late = |tag: &u32| {
+        let since = begun[*tag as usize].load(Relaxed);
+        since != 0 && now - since >= 30_000
+    };
+    let late: Vec<u32> = pool.busy_tags().filter(is_late).collect();
+    assert_eq!(late, [tags[0].number()]);
 }
