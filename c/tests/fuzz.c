@@ -684,13 +684,14 @@ static void keep_lowest(uint64_t *bits, int32_t most)
 
 static void try_each_busy(uint32_t at)
 {
-	struct passed passed = { .left = seldom(2) ? 1 + (int32_t)below(8) : INT32_MAX };
+	const int32_t most = seldom(2) ? 1 + (int32_t)below(8) : INT32_MAX;
+	struct passed passed = { .left = most };
 	uint64_t wanted[WORDS] = { 0 };
 	int32_t busy = model_pool_busy(&models[at], wanted, WORDS);
 
-	keep_lowest(wanted, passed.left);
+	keep_lowest(wanted, most);
 	compare("pool_each_busy", tags_pool_each_busy(&handles[at].pool, note_tag, &passed),
-		busy < passed.left ? busy : passed.left);
+		busy < most ? busy : most);
 	compare_filled("pool_each_busy", passed.bits, wanted, sizeof(wanted));
 }
 
