@@ -74,6 +74,8 @@ struct queue {
 	pthread_cond_t filled;
 	struct ring urgent;
 	struct ring ordinary;
+	/* workers that wait for it */
+	uint32_t idle;
 	int has_ended;
 };
 

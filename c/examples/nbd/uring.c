@@ -1,6 +1,6 @@
 /*
  * uring.c - io_uring waits for the disk in place of a worker: for a FLUSH, and for what a READ
- * does not find in memory. So as many requests wait for the disk as there are tags, and not only
+ * does not find in memory. So as many requests can wait for it as there are tags, and not only
  * one for each worker. The worker posts the tag again, and submits the request with the tag as its
  * user_data. A thread puts each completion into the queue, where a worker finds the tag again.
  */

@@ -1,8 +1,8 @@
 /*
  * workers.c - posted tags wait in a queue for a worker, which takes the tag, finds
- * the request in its slot, carries it out, replies, and clears the tag. If it would
- * wait for the disk, and there is io_uring, it posts the tag again and leaves that to
- * io_uring; then the tag comes to the queue once more.
+ * the request in its slot, carries it out, replies, and clears the tag. Where there is
+ * io_uring, the last worker that is free does not wait for the disk: it posts the tag
+ * again and leaves that to io_uring, and then the tag comes to the queue once more.
  */
 #include "server.h"
 
@@ -45,16 +45,27 @@ void pass_on(struct server *server, uint32_t tag, int32_t result)
 	pthread_mutex_unlock(&queue->lock);
 }
 
-/* Returns whether there is one: not once the queue has ended and is empty. */
-static int next(struct queue *queue, struct tags_hand *hand, struct posted *posted)
+/* With the lock. */
+static uint32_t length(const struct queue *queue)
+{
+	return queue->urgent.count + queue->ordinary.count;
+}
+
+/*
+ * Returns whether there is one: not once the queue has ended and is empty. @is_last tells whether
+ * no other worker is free for what comes next.
+ */
+static int next(struct queue *queue, struct tags_hand *hand, struct posted *posted, int *is_last)
 {
 	int is_there = 1;
 
 	pthread_mutex_lock(&queue->lock);
-	while (queue->urgent.count + queue->ordinary.count == 0 && !queue->has_ended) {
+	while (length(queue) == 0 && !queue->has_ended) {
 		/* the tags that an idle worker would keep in its cache are what a reader may wait for */
 		tags_flush(hand);
+		queue->idle++;
 		pthread_cond_wait(&queue->filled, &queue->lock);
+		queue->idle--;
 	}
 	if (queue->urgent.count > 0)
 		*posted = pop(&queue->urgent);
@@ -62,6 +73,7 @@ static int next(struct queue *queue, struct tags_hand *hand, struct posted *post
 		*posted = pop(&queue->ordinary);
 	else
 		is_there = 0;
+	*is_last = queue->idle <= length(queue);
 	pthread_mutex_unlock(&queue->lock);
 	return is_there;
 }
@@ -110,16 +122,17 @@ static void leave_to_uring(struct worker *worker, uint32_t tag, const struct req
 	submit_to_uring(&worker->server->store, tag, &copy);
 }
 
-static void serve(struct worker *worker, uint32_t tag, int32_t result)
+static void serve(struct worker *worker, uint32_t tag, int32_t result, int is_last)
 {
 	struct server *server = worker->server;
+	int may_leave_it = server->has_uring && is_last && result == NOT_BEGUN;
 	struct request *request;
 	uint64_t slot = 0;
 
 	must("tags_take", tags_take(&worker->hand, tag));
 	must("tags_read", tags_read(&worker->hand, tag, &slot));
 	request = (struct request *)(uintptr_t)slot;
-	if (server->has_uring && result == NOT_BEGUN && takes_disk(&server->store, request))
+	if (may_leave_it && takes_disk(&server->store, request))
 		leave_to_uring(worker, tag, request);
 	else
 		finish(worker, tag, request, carry_out(&server->store, request, result));
@@ -129,9 +142,10 @@ static void *work(void *argument)
 {
 	struct worker *worker = argument;
 	struct posted posted;
+	int is_last;
 
-	while (next(&worker->server->queue, &worker->hand, &posted))
-		serve(worker, posted.tag, posted.result);
+	while (next(&worker->server->queue, &worker->hand, &posted, &is_last))
+		serve(worker, posted.tag, posted.result, is_last);
 	must("tags_leave", tags_leave(&worker->hand));
 	return NULL;
 }
