@@ -355,15 +355,18 @@ struct busy_bits {
 	std::int32_t answer;
 
 private:
-	/// What returns nothing goes on.
+	/// What returns nothing goes on. A number would be 0 for that in C.
 	template <class Look>
 	static bool goes_on(Look &look, std::uint32_t tag)
 	{
-		if constexpr (std::is_void_v<std::invoke_result_t<Look &, std::uint32_t>>) {
+		using result = std::invoke_result_t<Look &, std::uint32_t>;
+		static_assert(std::is_void_v<result> || std::is_same_v<result, bool>,
+			      "a look at a busy tag returns bool, true to go on, or nothing");
+		if constexpr (std::is_void_v<result>) {
 			look(tag);
 			return true;
 		} else {
-			return static_cast<bool>(look(tag));
+			return look(tag);
 		}
 	}
 };
@@ -1559,9 +1562,9 @@ public:
 	}
 
 	/// Calls look(number) for each busy tag of both sets, in ascending order, and returns how many
-	/// times: for example to find requests that take too long. A look that returns false is the
-	/// last; it may also return nothing. It needs no hand, works at any time, as busy() does,
-	/// allocates nothing, and may make any call of this pool.
+	/// times: for example to find requests that take too long. A look returns true to go on and
+	/// false to be the last, or nothing, and may make any call. This needs no hand, works at any
+	/// time, as busy() does, and allocates nothing.
 	///
 	/// A tag that is busy from the beginning of this call until the first look is passed, once.
 	/// While other threads work, a tag that has gone back may be passed too, and any tag may go
