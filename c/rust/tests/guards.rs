@@ -250,10 +250,10 @@ fn late_requests_are_among_the_busy_tags() {
     for (tag, since) in [(0, 10_000), (1, 30_000), (3, 10_000)] {
         begun[tag].store(since, Relaxed);
     }
-    let now = 40_000;
+    let now = 40_000_u64;
     let is_late = |tag: &u32| {
         let since = begun[*tag as usize].load(Relaxed);
-        since != 0 && now - since >= 30_000
+        since != 0 && now.saturating_sub(since) >= 30_000
     };
     let late: Vec<u32> = pool.busy_tags().filter(is_late).collect();
     assert_eq!(late, [tags[0].number()]);
