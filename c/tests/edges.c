@@ -491,6 +491,7 @@ static void report(uint32_t others)
 	int32_t busy = tags_pool_busy(&pool, bits, LAST / 64 + 1);
 	int32_t ones = 0;
 
+	report_each(others);
 	for (uint32_t tag = 0; tag < (LAST / 64 + 1) * 64; tag++)
 		ones += (bits[tag / 64] >> tag % 64 & 1) != 0;
 	CHECK(busy == ones && busy >= 1 && (bits[LAST / 64] & last));
@@ -500,7 +501,6 @@ static void report(uint32_t others)
 	CHECK(tags_pool_wakes(&pool, &counts) == TAGS_OK && counts.charged <= counts.counted);
 	if (others == 0)
 		CHECK(busy == 1 && sizes.busy == 1 && counts.active == 0);
-	report_each(others);
 }
 
 /* Without a hand: while all are out, and while threads join, work and leave. */
