@@ -25,7 +25,7 @@ enum {
 struct tags_options { uint32_t total, reserved, hands, cache; };
 struct tags_sums { uint64_t got, back; };
 struct tags_sizes { uint32_t depth, busy; };
-struct tags_counts { uint64_t active; };
+struct tags_counts { uint32_t waiting; };
 
 struct list {
 	uint32_t depth;
@@ -143,7 +143,7 @@ static inline int32_t tags_pool_show(struct tags_pool *pool, uint32_t kind, stru
 static inline int32_t tags_pool_wakes(struct tags_pool *pool, struct tags_counts *counts)
 {
 	pthread_mutex_lock(&pool->lists->lock);
-	counts->active = pool->lists->waiting;
+	counts->waiting = pool->lists->waiting;
 	pthread_mutex_unlock(&pool->lists->lock);
 	return TAGS_OK;
 }

@@ -64,8 +64,8 @@ void report_busy(struct server *server)
 	must("tags_pool_show", tags_pool_show(&server->pool, TAGS_RESERVED, &reserved));
 	must("tags_pool_wakes", tags_pool_wakes(&server->pool, &counts));
 	printf("busy: ordinary %" PRIu32 "/%" PRIu32 ", reserved %" PRIu32 "/%" PRIu32 "; connections %" PRIu32
-	       ", of which %" PRIu64 " wait for a tag\n", ordinary.busy, ordinary.depth, reserved.busy,
-	       reserved.depth, open_count(server), counts.active);
+	       ", of which %" PRIu32 " wait for a tag\n", ordinary.busy, ordinary.depth, reserved.busy,
+	       reserved.depth, open_count(server), counts.waiting);
 	must("tags_pool_each_busy", tags_pool_each_busy(&server->pool, report_tag, server->requests));
 	fflush(stdout);
 }
