@@ -217,6 +217,11 @@ static bool are_enough_waking(const struct bell *bell)
 	return waking > 0 && (uint32_t)waking >= bell->depth && tags_load(&bell->listening) == 0;
 }
 
+static uint64_t smaller(uint64_t a, uint64_t b)
+{
+	return a < b ? a : b;
+}
+
 /*
  * A hand that keeps none and gave none back, as by a post, has nothing to see to. One with a cache
  * gives back what it keeps, whoever waits: the library does that if a hand is listed, but futures
@@ -230,9 +235,8 @@ void tags_library_see(struct tags_hand *hand, uint64_t freed, struct tags_due *d
 
 	if (freed == 0 && !bell->is_cached)
 		return;
-	if (freed > bell->depth)
-		freed = bell->depth;
-	due->freed += freed + (bell->is_cached ? TAGS_MAX_CACHE : 0);
+	due->freed += smaller(freed + (bell->is_cached ? TAGS_MAX_CACHE : 0), bell->depth);
+	freed = smaller(freed, bell->depth);
 	if (!bell->is_cached && are_enough_waking(bell))
 		return;
 	tags_library_see_to(hand, (uint32_t)freed, &told);

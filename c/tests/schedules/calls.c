@@ -108,6 +108,8 @@ static long write_event(va_list rest, void *pc)
 
 	pause_before(OP_EVENT_WRITE, event, sizeof(*event), 1, pc);
 	tell_step("writes eventfd %d", descriptor);
+	if (event->is_broken)
+		return fail(EBADF);
 	if (!event->is_open) {
 		fault("eventfd %d is written after its wait has ended", descriptor);
 		return fail(EBADF);

@@ -21,9 +21,10 @@ import build
 import mutants
 
 # These take long with each access as a step.
-TOO_LARGE_FOR_RACES = "three_of_two hider_two mixed_of_two loops_of_two loops_three stop_taken four_stopped shallow_pairs resized".split()
+TOO_LARGE_FOR_RACES = """three_of_two hider_two mixed_of_two loops_of_two loops_three loops_broken_of_two stop_taken shallow_pairs resized
+    tasks_of_two hider_tasks kept_posts timed_out""".split()
 # These take seconds over the library itself, with those that need it.
-SMALL_FOR_TRUE = """again signals heir words prepared stop stop_listeners stop_timed stop_joins loop loops hider hider_loop hidden timed resizes closes
+SMALL_FOR_TRUE = """sleepers again signals heir words prepared stop stop_listeners stop_timed stop_joins loop loops hider hider_loop hidden timed resizes closes
     resizes_reported closes_reported hires hires_timed hires_stop drains drains_kept drains_stop""".split()
 # Of those that need it, these have races looked for as well.
 RACES_FOR_TRUE = "posts masks reserved robin batches resizes hires drains_stop plus_owners plus_joins plus_stop plus_waits plus_loop plus_quits".split()
@@ -33,8 +34,9 @@ COMPLETE = "kept_three four_sleepers four_loops".split()
 ONE_PREEMPTION = ["four_ways"]
 # One for each kind of fault that is looked for.
 IN_GATE = """clear_looks_first futex_is_not_woken get_looks_only_if_it_won take_out_forgets_the_last turn_is_lost load_is_relaxed
-    state_is_stored_plainly eventfd_is_written_without_the_lock ring_changes_errno join_without_the_handle leave_loses_its_place
-    refused_sleeper_stays_in_its_group stop_does_not_refuse place_is_given_up_after_the_leave cancelled_sleeper_stays_listed
+    number_is_raised_plainly number_is_loaded_after_the_question eventfd_is_written_without_the_lock ring_changes_errno
+    join_without_the_handle hands_share_a_place count_rises_after_the_listing gets_up_in_the_other_list closed_eventfd_counts_as_told
+    told_sleeper_with_a_tag_does_not_settle stop_rings_before_it_stops cancelled_sleeper_stays_listed waking_never_falls
     ring_gives_no_kept_tags_back leave_opens_no_gate ring_opens_no_gate cancelled_wait_stays_at_its_gate destroyed_coroutine_leaves_its_hand_listed""".split()
 # Instructions for ARM by which threads meet: those that are weaker than sequentially consistent, and the others.
 WEAKER = re.compile(r"^\s+(ldap\w*|ldx\w*|stx\w*|(cas|swp|ld(add|clr|set|eor|[su]max|[su]min))(?!p?al)\w*|st(add|clr|set|eor)\w*)\s", re.M)

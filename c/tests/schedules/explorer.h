@@ -80,6 +80,8 @@ struct thread {
 struct event {
 	uint32_t count;
 	bool is_open;
+	/* it was closed though a hand waits for it, so writes to it fail */
+	bool is_broken;
 };
 
 /* What the scenario keeps about itself, and so is part of a state. */

@@ -69,6 +69,12 @@ static int32_t poll_once(int me, struct future *future)
 	return tag == TAGS_OK ? tags_get(hands[me]) : tag;
 }
 
+static void leave_group(int me)
+{
+	while (tags_library_finish(hands[me]) == TAGS_AGAIN)
+		;
+}
+
 /* Ends the wait. A future that was told and needs no tag passes that on. */
 static void end_wait(int me, struct future *future, bool passes_on)
 {
@@ -78,7 +84,7 @@ static void end_wait(int me, struct future *future, bool passes_on)
 		told++;
 	future->waiter.turn = 0;
 	if (future->is_counted)
-		tags_leave_group(hands[me]);
+		leave_group(me);
 	if (told)
 		tags_library_tell(hands[me]->waits, told);
 	future->is_listed = future->is_counted = false;

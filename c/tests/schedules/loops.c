@@ -91,7 +91,27 @@ void changer(int me)
 	use_tag(me, tag);
 }
 
-/* A hand that waits by an eventfd is to sleep, which is refused unless a tag is free. */
+/* Closes its eventfd while it waits. Unless that was notified before, the hand never learns that it was told. */
+void breaker(int me)
+{
+	int32_t tag;
+
+	open_event(me);
+	tag = CALL(tags_get_async(hands[me], me));
+	if (tag == TAGS_NO_TAG) {
+		if (break_event(me))
+			EXPECT(TAGS_OK, tags_cancel(hands[me]));
+		return;
+	}
+	close_event(me);
+	if (use_tag(me, tag))
+		end_program(me);
+}
+
+/*
+ * A hand that waits by an eventfd is to enter a wait group, which is refused, and to sleep, which is
+ * refused unless a tag is free.
+ */
 void switcher(int me)
 {
 	const struct timespec deadline = { 100, 500 };
@@ -100,6 +120,7 @@ void switcher(int me)
 	open_event(me);
 	tag = CALL(tags_get_async(hands[me], me));
 	if (tag == TAGS_NO_TAG) {
+		EXPECT(TAGS_WAITING, tags_prepare(hands[me]));
 		tag = choose(2) ? CALL(tags_get_blocking(hands[me])) :
 				  CALL(tags_get_timed(hands[me], CLOCK_REALTIME, &deadline));
 		EXPECT(TAGS_OK, tags_cancel(hands[me]));

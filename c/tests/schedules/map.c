@@ -1,7 +1,7 @@
 /*
  * A model of the proved library: the calls that c/tags.h declares, with the library's atomic steps
- * where another thread can see them. docs/DESIGN.md and the crates tag_core, tag_search, wake_book
- * and tag_cache say what they are.
+ * where another thread can see them. docs/DESIGN.md and the crates tag_core, tag_search, tag_bell,
+ * wake_book and tag_cache say what they are.
  *
  *  a get    passes over its first word, which is any, as with any hint, and as long as it finds
  *           nothing sweeps that word and passes again, up to four times; then it visits the other
@@ -11,31 +11,41 @@
  *  prepare  raises that number, and enters a group: here one step
  *  finish   leaves the group and lowers the number: one step, or TAGS_AGAIN
  *  a cache  a clear loads the number of active waiters first, and keeps the tag if it is 0
+ *  a wait   takes a turn by two steps if it is new, and sets the hand's bit in the list. To ask
+ *           whether it was told is a load, and it gets up by a step that clears the bit
+ *  telling  a load of each list, and if somebody is listed, a load of the turn of each candidate
+ *           and a step that clears the bits of those told; with a cache all kept tags go back
+ *           first, and both lists are loaded again. Who was told looks at each word before that,
+ *           and at its cleared set, until a tag is free
  *
- * Left out: slots, posts, reserved tags, round robin, grants (each clear answers 0), the limits of a
+ *  a post   is one step, after which the hand has the tag no more
+ *
+ * Left out: slots, takes, reserved tags, round robin, grants (each clear answers 0), the limits of a
  * hand's life. Reports through a hand. Joins, reports, resizes and closes are not atomic: each checks that it has the pool's
  * handle for itself, as the library needs.
  */
-#define TAGS_LIBRARY
-#include "tags.h"
+#include "bell.h"
 
 #include "programs.h"
 #include "scenario.h"
 
 #include <string.h>
 
-enum { WORDS = 4, HANDS = MAX_THREADS + 1 };
+enum { WORDS = 4, HANDS = MAX_THREADS + 1, SLEEPERS = 0, LISTENERS, LISTS };
 
 struct member {
 	struct map *map;
-	/* by tag; kept ones are not held */
+	/* by tag; kept ones are not held, nor are posted ones */
 	uint64_t held;
 	uint64_t kept;
+	uint64_t posted;
 	/* what its latest sweep freed */
 	uint64_t swept;
 	uint32_t number;
 	bool is_out;
 	bool is_in_group;
+	/* from its listing until it gets up */
+	bool is_listing;
 	/* a finish of this stay answered TAGS_AGAIN */
 	bool was_refused;
 	bool is_spent;
@@ -53,6 +63,10 @@ struct map {
 	bool is_in_call;
 	uint32_t hands;
 	uint64_t got, back;
+	/* the lists of those who wait, and the turns: how many were taken, and the latest of each hand */
+	uint64_t list[LISTS];
+	uint64_t clock;
+	uint64_t turn[HANDS];
 	struct member member[HANDS];
 };
 
@@ -171,6 +185,8 @@ int32_t tags_library_leave(struct tags_hand *hand)
 	stop(member, "leave");
 	if (member->kept)
 		fault("a hand leaves that keeps tags");
+	if (member->is_listing)
+		fault("a hand leaves that is in a list");
 	memset(hand, 0, sizeof(*hand));
 	member->is_out = false;
 	return TAGS_OK;
@@ -184,8 +200,10 @@ int32_t tags_library_close(struct tags_pool *pool, struct tags_sums *sums)
 	memset(sums, 0, sizeof(*sums));
 	if (is_any_out(map))
 		return TAGS_HANDS_OUT;
-	for (uint32_t i = 0; i < map->hands; i++)
+	for (uint32_t i = 0; i < map->hands; i++) {
 		sums->held += count(map->member[i].held);
+		sums->posted += count(map->member[i].posted);
+	}
 	sums->got = map->got;
 	sums->back = map->back;
 	if (map->active)
@@ -319,7 +337,8 @@ static void win(struct member *member, uint64_t tags, uint64_t *left)
  */
 static bool is_spent(struct member *member)
 {
-	bool may_change = !member->is_in_group || scenario->program[0] == task;
+	bool waits = member->is_in_group || member->is_listing;
+	bool may_change = !waits || scenario->program[0] == task;
 
 	if (scenario->limited && member->number == 0 && !member->is_spent && may_change)
 		member->is_spent = choose(2);
@@ -518,6 +537,19 @@ int32_t tags_library_clear_batch(struct tags_hand *hand, const uint32_t *tags, s
 	return tags_library_clear_mask(hand, 0, mask);
 }
 
+int32_t tags_library_post(struct tags_hand *hand, uint32_t tag)
+{
+	struct member *member = member_of(hand);
+	uint64_t bit = UINT64_C(1) << tag;
+
+	if (!(member->held & bit))
+		return TAGS_NOT_HELD;
+	stop(member, "posts a tag");
+	member->held &= ~bit;
+	member->posted |= bit;
+	return TAGS_OK;
+}
+
 int32_t tags_library_flush(struct tags_hand *hand)
 {
 	flush(member_of(hand));
@@ -555,6 +587,210 @@ int32_t tags_library_finish(struct tags_hand *hand)
 	stop(&member->map->active, "leaves its wait group");
 	member->map->active--;
 	member->is_in_group = false;
+	return 0;
+}
+
+/*
+ * Lists of those who wait
+ */
+
+uint64_t map_listed(const void *object, uint32_t list)
+{
+	return ((const struct map *)object)->list[list];
+}
+
+uint64_t map_turn(const void *object, uint32_t number)
+{
+	return ((const struct map *)object)->turn[number];
+}
+
+static uint64_t bit_of(const struct member *member)
+{
+	return UINT64_C(1) << member->number;
+}
+
+static uint64_t look_at_list(const struct map *map, uint32_t list)
+{
+	stop(&map->list[list], list == SLEEPERS ? "looks at the sleepers" : "looks at the listeners");
+	tell_step("map:   they are %lx", (unsigned long)map->list[list]);
+	return map->list[list];
+}
+
+/* Removes some from a list. Returns those of them that were there. */
+static uint64_t remove_from(struct map *map, uint32_t list, uint64_t some, const char *what)
+{
+	uint64_t found;
+
+	stop(&map->list[list], what);
+	found = map->list[list] & some;
+	map->list[list] &= ~some;
+	tell_step("map:   removes %lx of the %s", (unsigned long)found, list == SLEEPERS ? "sleepers" : "listeners");
+	return found;
+}
+
+static void take_turn(struct member *member)
+{
+	struct map *map = member->map;
+	uint64_t turn;
+
+	stop(&map->clock, "takes a turn");
+	turn = ++map->clock;
+	stop(&map->turn[member->number], "notes its turn");
+	map->turn[member->number] = turn;
+}
+
+static int32_t enter_list(struct member *member, uint32_t list)
+{
+	stop(&member->map->list[list], list == SLEEPERS ? "lists itself as a sleeper" : "lists itself as a listener");
+	if (member->is_listing)
+		fault("a hand lists itself that is in a list");
+	member->map->list[list] |= bit_of(member);
+	member->is_listing = true;
+	return 0;
+}
+
+int32_t tags_library_list_self(struct tags_hand *hand, uint32_t listens)
+{
+	struct member *member = member_of(hand);
+
+	if (member->is_in_group)
+		return TAGS_WAITING;
+	take_turn(member);
+	return enter_list(member, listens != 0);
+}
+
+int32_t tags_library_list_again(struct tags_hand *hand, uint32_t listens)
+{
+	struct member *member = member_of(hand);
+
+	return member->is_in_group ? (int32_t)TAGS_WAITING : enter_list(member, listens != 0);
+}
+
+int32_t tags_library_is_told(struct tags_hand *hand, uint32_t listens)
+{
+	struct member *member = member_of(hand);
+
+	return !(look_at_list(member->map, listens != 0) & bit_of(member));
+}
+
+int32_t tags_library_get_up(struct tags_hand *hand, uint32_t listens)
+{
+	struct member *member = member_of(hand);
+	uint64_t found = remove_from(member->map, listens != 0, bit_of(member), "gets up");
+
+	member->is_listing = false;
+	return found == 0;
+}
+
+int32_t tags_library_number(struct tags_hand *hand)
+{
+	return (int32_t)member_of(hand)->number;
+}
+
+/*
+ * Telling them
+ */
+
+/* The one that took its turn first. */
+static uint64_t longest_wait(const struct map *map, uint64_t listed)
+{
+	uint64_t first = 0, bit = 0;
+
+	for (uint32_t i = 0; i < map->hands; i++) {
+		if (!(listed >> i & 1))
+			continue;
+		stop(&map->turn[i], "looks at a turn");
+		if (bit && map->turn[i] >= first)
+			continue;
+		first = map->turn[i];
+		bit = UINT64_C(1) << i;
+	}
+	return bit;
+}
+
+/* At most so many, and one at least. */
+static uint64_t longest_waits(const struct map *map, uint64_t listed, uint32_t most)
+{
+	uint64_t some = 0;
+
+	if (most >= count(listed))
+		return listed;
+	do
+		some |= longest_wait(map, listed & ~some);
+	while (count(some) < most);
+	return some;
+}
+
+/* Some that were found listed, or if none of these is any more, whoever is. Returns those told. */
+static uint64_t tell_some(struct map *map, uint32_t list, uint64_t listed, uint32_t most)
+{
+	uint64_t told;
+
+	if (!listed)
+		return 0;
+	told = remove_from(map, list, longest_waits(map, listed, most), "tells");
+	return told ? told : remove_from(map, list, UINT64_MAX, "tells all");
+}
+
+static struct tags_told see_to(struct map *map, uint32_t freed)
+{
+	uint64_t sleepers = look_at_list(map, SLEEPERS);
+	uint64_t listeners = look_at_list(map, LISTENERS);
+	struct tags_told told = { 0, 0 };
+
+	if (!(sleepers | listeners))
+		return told;
+	told.sleepers = tell_some(map, SLEEPERS, sleepers, freed);
+	told.listeners = tell_some(map, LISTENERS, listeners, freed);
+	return told;
+}
+
+static bool is_any_listed(const struct map *map)
+{
+	uint64_t sleepers = look_at_list(map, SLEEPERS);
+
+	return (sleepers | look_at_list(map, LISTENERS)) != 0;
+}
+
+int32_t tags_library_see_to(struct tags_hand *hand, uint32_t freed, struct tags_told *told)
+{
+	struct member *member = member_of(hand);
+	uint32_t kept = count(member->kept);
+
+	*told = (struct tags_told){ 0, 0 };
+	if (member->map->cache > 0) {
+		if (!is_any_listed(member->map))
+			return 0;
+		flush(member);
+	}
+	*told = see_to(member->map, freed > kept ? freed : kept);
+	return 0;
+}
+
+static bool is_any_free(const struct map *map, uint32_t word)
+{
+	uint64_t taken, aside;
+
+	stop(&map->word[word], "looks for a free tag");
+	taken = map->word[word];
+	stop(&map->aside[word], "looks for one in the cleared set");
+	aside = map->aside[word];
+	return aside != 0 || (taken & bits_of(map, word)) != bits_of(map, word);
+}
+
+int32_t tags_library_see_to_all(struct tags_hand *hand, struct tags_told *told)
+{
+	struct map *map = member_of(hand)->map;
+
+	*told = (struct tags_told){ 0, 0 };
+	if (!is_any_listed(map))
+		return 0;
+	for (uint32_t word = 0; word < map->words; word++) {
+		if (is_any_free(map, word)) {
+			*told = see_to(map, 1);
+			return 0;
+		}
+	}
 	return 0;
 }
 
@@ -614,7 +850,6 @@ int32_t tags_library_pool_wakes(struct tags_pool *pool, struct tags_counts *coun
 
 #pragma GCC diagnostic ignored "-Wunused-parameter"
 LACKS(tags_library_get_reserved, struct tags_hand *hand)
-LACKS(tags_library_post, struct tags_hand *hand, uint32_t tag)
 LACKS(tags_library_take, struct tags_hand *hand, uint32_t tag)
 LACKS(tags_library_holds, struct tags_hand *hand, uint32_t tag)
 LACKS(tags_library_read, struct tags_hand *hand, uint32_t tag, uint64_t *value)

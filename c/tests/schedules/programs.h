@@ -28,6 +28,7 @@ void quitter(int me);
 void leaver(int me);
 void changer(int me);
 void switcher(int me);
+void breaker(int me);
 
 /* futures.c */
 void task(int me);
@@ -36,6 +37,7 @@ void make_futures(void);
 
 /* slots.c: posts, slots and reserved tags */
 void poster(int me);
+void keeper(int me);
 void taker(int me);
 void mask_poster(int me);
 void mask_taker(int me);

@@ -90,6 +90,8 @@ bool goes_on(int me, int round);
 
 void open_event(int event);
 void close_event(int event);
+/* Closes one for which a hand waits. Returns whether it had been notified. */
+bool break_event(int event);
 /* poll() and read() */
 void wait_event(int event);
 
@@ -143,9 +145,11 @@ bool has_lock(int thread);
 const char *name_of(uintptr_t address);
 
 /*
- * map.c alone: the tags that a hand keeps
+ * map.c alone: the tags that a hand keeps, those who are in a list of the pool, and the latest turn of a hand
  */
 __attribute__((weak)) uint64_t map_keeps(const void *object);
+__attribute__((weak)) uint64_t map_listed(const void *object, uint32_t list);
+__attribute__((weak)) uint64_t map_turn(const void *object, uint32_t number);
 
 #ifdef __cplusplus
 }

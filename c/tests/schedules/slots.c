@@ -52,6 +52,25 @@ void poster(int me)
 	end_program(me);
 }
 
+/* Gives a tag back, which it may keep, and posts another one for nobody. */
+void keeper(int me)
+{
+	int32_t tag = CALL(tags_get(hands[me]));
+	int32_t other;
+
+	if (tag < 0)
+		return;
+	take_tag(me, tag);
+	other = CALL(tags_get(hands[me]));
+	if (other >= 0)
+		take_tag(me, other);
+	clear_tag(me, tag);
+	if (other < 0)
+		return;
+	drop_tag(other);
+	EXPECT(TAGS_OK, tags_post(hands[me], (uint32_t)other));
+}
+
 /* Takes what was posted, which has its slot, and gives it back. */
 void taker(int me)
 {

@@ -178,6 +178,17 @@ void close_event(int event)
 	world->event[event] = (struct event){ 0 };
 }
 
+bool break_event(int event)
+{
+	bool was_notified;
+
+	pause_before(OP_EVENT_CLOSE, &world->event[event], sizeof(struct event), 1, PC);
+	tell_step("breaks eventfd %d", event);
+	was_notified = world->event[event].count > 0;
+	world->event[event] = (struct event){ .is_broken = true };
+	return was_notified;
+}
+
 void wait_event(int event)
 {
 	pause_before(OP_POLL, &world->event[event], sizeof(struct event), 1, PC);
