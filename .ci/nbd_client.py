@@ -16,11 +16,11 @@ EXPORT_NAME, ABORT, LIST, INFO, GO = 1, 2, 3, 6, 7
 MAX = 32 << 20
 # The errors that a server may reply.
 FAULTS = {0, 5, 12, 22, 28, 108}
-# Most seconds that one step may take.
-STEP = 20
+# Most seconds that one step may take, on a machine that is busy with other work.
+STEP = 60
 # Bytes of replies that a socket holds for a client that does not take them.
 UNREAD = 65536
-BUSY = re.compile(r"busy: ordinary (\d+)/(\d+), reserved (\d+)/(\d+), connections (\d+)")
+BUSY = re.compile(r"busy: ordinary (\d+)/(\d+), reserved (\d+)/(\d+); connections (\d+), of which (\d+) wait for a tag")
 
 
 class Closed(Exception):
@@ -30,12 +30,13 @@ class Closed(Exception):
 class Server:
     """nbd_server with a Unix socket in this folder."""
 
-    def __init__(self, program, folder, *options, env=None):
+    def __init__(self, program, folder, *options, env=None, by=()):
         self.socket = f"{folder}/socket"
-        command = [program, "--unix", self.socket, *map(str, options)]
+        command = [*by, program, "--unix", self.socket, *map(str, options)]
         self.ran = subprocess.Popen(command, stdin=subprocess.DEVNULL, stdout=subprocess.PIPE, stderr=subprocess.STDOUT, text=True, env=env)
         self.lines, self.said, self.is_stopped = queue.Queue(), [], False
-        threading.Thread(target=self.listen, daemon=True).start()
+        self.listening = threading.Thread(target=self.listen, daemon=True)
+        self.listening.start()
         try:
             self.wait_for(re.compile(r"serving (\d+) bytes"))
         except OSError:
@@ -66,14 +67,14 @@ class Server:
                 return found
 
     def busy(self):
-        """How many ordinary and reserved tags are busy, and how many connections are open."""
+        """How many ordinary and reserved tags are busy, how many connections are open, and how many of these wait for a tag."""
         self.ran.send_signal(signal.SIGUSR1)
         found = self.wait_for(BUSY)
-        return int(found[1]), int(found[3]), int(found[5])
+        return int(found[1]), int(found[3]), int(found[5]), int(found[6])
 
-    def becomes(self, *wanted, seconds=STEP):
-        """Whether this is what is busy within some seconds."""
-        end = time.monotonic() + seconds
+    def becomes(self, *wanted):
+        """Whether that is what is busy within the time of a step."""
+        end = time.monotonic() + STEP
         while self.busy() != wanted:
             if time.monotonic() > end:
                 return False
@@ -89,9 +90,7 @@ class Server:
         except subprocess.TimeoutExpired:
             self.ran.kill()
             return "it does not end"
-        end = time.monotonic() + STEP
-        while time.monotonic() < end and self.lines.get(timeout=STEP) is not None:
-            pass
+        self.listening.join(STEP)
         said = "".join(it for it in self.said if not it.startswith(("serving ", "busy: ", "tag ")))
         is_well = status == 0 and re.fullmatch(r"got=(\d+)\nback=\1\n", said)
         return "" if is_well else f"status {status}: {said[-3000:]}"
@@ -267,10 +266,10 @@ class Fuzzer:
                 client.request(DISC)
                 assert client.is_closed(), "a disconnect"
 
-    def run(self, seconds):
-        """How many sessions there were in that time."""
+    def run(self, seconds, least):
+        """How many sessions there were in that time, or in as much as it takes for the least."""
         end, count = time.monotonic() + seconds, 0
-        while time.monotonic() < end:
+        while time.monotonic() < end or count < least:
             behaviour = self.random.choice([self.garbage, self.handshake, self.requests, self.requests])
             try:
                 behaviour()

@@ -1,6 +1,7 @@
 /*
- * Threads that wait for few tags: a pool beside a list behind a mutex with a
- * condition variable. waits CONTENDER THREADS TAGS MICROSECONDS SECONDS
+ * Threads that wait for few tags: a pool, without caches (tags) or with caches of 8 (cached), beside a
+ * list behind a mutex, with a condition variable (list) or a semaphore (semaphore).
+ * waits CONTENDER THREADS TAGS MICROSECONDS SECONDS
  *
  * Each thread gets a tag, holds it for some microseconds, and gives it back. 0 is
  * about a microsecond of work; anything else is a sleep. It prints thousands of
@@ -10,6 +11,7 @@
 #define _GNU_SOURCE
 #include <inttypes.h>
 #include <pthread.h>
+#include <semaphore.h>
 #include <stdbool.h>
 #include <stdio.h>
 #include <stdlib.h>
@@ -20,7 +22,7 @@
 
 #include "../c/tags.h"
 
-enum { MOST = 64 };
+enum { MOST = 64, MOST_TAGS = 128 };
 
 struct thread {
 	pthread_t id;
@@ -31,11 +33,12 @@ struct thread {
 static struct {
 	pthread_mutex_t lock;
 	pthread_cond_t freed;
+	sem_t free;
 	uint32_t count;
-	uint32_t tags[MOST];
+	uint32_t tags[MOST_TAGS];
 } list = { .lock = PTHREAD_MUTEX_INITIALIZER, .freed = PTHREAD_COND_INITIALIZER };
 
-static bool has_list;
+static bool has_list, has_semaphore;
 static long us;
 static bool is_over;
 
@@ -50,6 +53,8 @@ static uint32_t get(struct thread *self)
 			abort();
 		return (uint32_t)got;
 	}
+	while (has_semaphore && sem_wait(&list.free) != 0)
+		;
 	pthread_mutex_lock(&list.lock);
 	while (list.count == 0)
 		pthread_cond_wait(&list.freed, &list.lock);
@@ -67,8 +72,11 @@ static void give(struct thread *self, uint32_t tag)
 	}
 	pthread_mutex_lock(&list.lock);
 	list.tags[list.count++] = tag;
-	pthread_cond_signal(&list.freed);
+	if (!has_semaphore)
+		pthread_cond_signal(&list.freed);
 	pthread_mutex_unlock(&list.lock);
+	if (has_semaphore)
+		sem_post(&list.free);
 }
 
 static void hold(void)
@@ -106,12 +114,15 @@ int main(int argc, char **argv)
 
 	if (argc != 6)
 		return 2;
-	has_list = strcmp(argv[1], "list") == 0;
+	has_semaphore = strcmp(argv[1], "semaphore") == 0;
+	has_list = has_semaphore || strcmp(argv[1], "list") == 0;
+	options.cache = strcmp(argv[1], "cached") == 0 ? 8 : 0;
 	options.hands = (uint32_t)atoi(argv[2]);
 	options.total = (uint32_t)atoi(argv[3]);
 	us = atol(argv[4]);
 	seconds = atof(argv[5]);
-	if (options.hands > MOST || options.total > MOST || tags_open(&pool, &options) != TAGS_OK)
+	if (options.hands > MOST || options.total > MOST_TAGS ||
+	    tags_open(&pool, &options) != TAGS_OK || sem_init(&list.free, 0, options.total) != 0)
 		return 2;
 	for (uint32_t i = 0; i < options.total; i++)
 		list.tags[list.count++] = i;

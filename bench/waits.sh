@@ -1,5 +1,6 @@
 #!/usr/bin/env bash
-# waits.sh [SECONDS [REPETITIONS]]: threads that wait for few tags, a pool beside a list behind a mutex: two tables.
+# waits.sh [SECONDS [REPETITIONS]]: threads that wait for few tags: a pool, without caches and with caches of 8, beside a list behind a
+# mutex, with a condition variable and with a semaphore: two tables.
 # A cell has the median. c/library.sh build comes first; gcc is on the path, and the machine has nothing else to do.
 set -euo pipefail
 here=$(cd "$(dirname "$0")" && pwd)
@@ -15,16 +16,17 @@ median() {
   for _ in $(seq "$repetitions"); do "$program" "$@"; done | sort -n | sed -n "$(((repetitions + 1) / 2))p"
 }
 
+contenders="tags cached list semaphore"
+
 table() {
-  local us=$1 row threads tags
+  local us=$1 row threads tags contender cells
   shift
-  echo "| threads, tags | rounds/ms, tags | list | processor us, tags | list | switches, tags | list |"
-  echo "|---|---|---|---|---|---|---|"
+  echo "| threads, tags | rounds/ms: $contenders | processor us a round | switches a round |"
+  echo "|---|---|---|---|"
   for row in "$@"; do
     read -r threads tags <<< "$row"
-    read -r a b c <<< "$(median tags "$threads" "$tags" "$us" "$seconds")"
-    read -r d e f <<< "$(median list "$threads" "$tags" "$us" "$seconds")"
-    echo "| $threads, $tags | $a | $d | $b | $e | $c | $f |"
+    cells=$(for contender in $contenders; do median "$contender" "$threads" "$tags" "$us" "$seconds"; done)
+    echo "| $threads, $tags | $(awk '{ a = a " " $1; b = b " " $2; c = c " " $3 } END { print a " |" b " |" c " |" }' <<< "$cells")"
   done
 }
 
@@ -32,4 +34,4 @@ echo "About a microsecond of work with each tag:"
 table 0 "8 1" "8 4" "8 7" "16 1" "16 8" "32 4" "32 31"
 echo
 echo "Each tag held for a sleep of 50 us:"
-table 50 "32 1" "32 4" "8 1" "32 16"
+table 50 "32 1" "32 4" "8 1" "8 4" "32 16" "40 128"

@@ -16,6 +16,34 @@ int32_t tags_pool_busy(struct tags_pool *pool, uint64_t *into, size_t words)
 	return tags_detail_filled(status, into, words * sizeof(*into));
 }
 
+/* Calls the function for each bit, from the lowest on, until it stops. Returns how many times. */
+static int32_t call_each(const uint64_t *busy, int (*function)(uint32_t tag, void *argument),
+			 void *argument)
+{
+	int32_t calls = 0;
+
+	for (uint32_t first = 0; first < TAGS_MAX_TOTAL; first += 64)
+		for (uint64_t left = busy[first / 64]; left; left &= left - 1) {
+			calls++;
+			if (function(first + (uint32_t)__builtin_ctzll(left), argument))
+				return calls;
+		}
+	return calls;
+}
+
+/* The function is called without the lock, of a report that was made with it. */
+int32_t tags_pool_each_busy(struct tags_pool *pool, int (*function)(uint32_t tag, void *argument),
+			    void *argument)
+{
+	uint64_t busy[TAGS_MAX_TOTAL / 64];
+	int32_t status;
+
+	if (!pool || !function)
+		return TAGS_NULL;
+	status = tags_pool_busy(pool, busy, TAGS_MAX_TOTAL / 64);
+	return status < 0 ? status : call_each(busy, function, argument);
+}
+
 int32_t tags_pool_show(struct tags_pool *pool, uint32_t kind, struct tags_sizes *sizes)
 {
 	int32_t status;

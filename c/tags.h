@@ -1420,6 +1420,31 @@ TAGS_DETAIL_CALL int32_t tags_wakes(struct tags_hand *hand, struct tags_counts *
 int32_t tags_pool_busy(struct tags_pool *pool, uint64_t *into, size_t words);
 
 /**
+ * tags_pool_each_busy() - call a function for each busy tag of a pool, without a hand
+ * @pool: the pool
+ * @function: called with a tag and @argument; it returns 0 to go on, and anything else to stop
+ * @argument: what the function gets, which may be NULL
+ *
+ * For example to find requests that take too long. It looks at all tags first, as
+ * tags_pool_busy() does: at any time, also while all hands are out or another thread resizes or
+ * closes the pool. Then it calls the function for each tag that it found busy, in ascending
+ * order, on this thread and without a lock, so that the function may make any call. It allocates
+ * no memory. errno is as the function leaves it.
+ *
+ * A tag that is busy from the beginning of this call until the function's first is passed, once.
+ * While other threads work, a tag that has gone back may be passed too, and any tag may go back,
+ * and have another user, while the function runs. A kept tag is passed, and has no user. So let
+ * the function look only at what the program makes atomic, such as an array of atomic words with
+ * the tag as the index, which holders set and reset. A slot is for whoever holds the tag.
+ *
+ * Return: how many times the function was called. Otherwise TAGS_BAD_HANDLE.
+ *
+ * Since: 0.3
+ */
+int32_t tags_pool_each_busy(struct tags_pool *pool, int (*function)(uint32_t tag, void *argument),
+			    void *argument);
+
+/**
  * tags_pool_show() - report the sizes of a set of tags of a pool, without a hand
  * @pool: the pool
  * @kind: TAGS_ORDINARY or TAGS_RESERVED

@@ -326,6 +326,51 @@ struct joined {
 
 inline tags_hand *raw(joined *hand) noexcept { return hand != nullptr ? &hand->handle : nullptr; }
 
+/// Which tags of a pool are busy: what tags_pool_busy() answered, and a bit for each. A look at them
+/// may throw, so it is called here and not by the library.
+struct busy_bits {
+	static constexpr std::size_t words = TAGS_MAX_TOTAL / 64;
+
+	explicit busy_bits(tags_pool *pool) noexcept : answer(tags_pool_busy(pool, bits, words)) {}
+
+	/// Calls it for each tag, until it returns false. Returns how many times.
+	template <class Look>
+	std::uint32_t each(Look &look) const
+	{
+		std::uint32_t calls = 0;
+		if (answer < 0)
+			return calls;
+		for (std::uint32_t first = 0; first < TAGS_MAX_TOTAL; first += 64) {
+			for (std::uint64_t left = bits[first / 64]; left != 0; left &= left - 1) {
+				const int at = __builtin_ctzll(left);
+				calls++;
+				if (!goes_on(look, first + static_cast<std::uint32_t>(at)))
+					return calls;
+			}
+		}
+		return calls;
+	}
+
+	std::uint64_t bits[words];
+	std::int32_t answer;
+
+private:
+	/// What returns nothing goes on. A number would be 0 for that in C.
+	template <class Look>
+	static bool goes_on(Look &look, std::uint32_t tag)
+	{
+		using result = std::invoke_result_t<Look &, std::uint32_t>;
+		static_assert(std::is_void_v<result> || std::is_same_v<result, bool>,
+			      "a look at a busy tag returns bool, true to go on, or nothing");
+		if constexpr (std::is_void_v<result>) {
+			look(tag);
+			return true;
+		} else {
+			return look(tag);
+		}
+	}
+};
+
 /*
  * Times, in nanoseconds. None is longer than the longest, 285 years.
  */
@@ -1651,6 +1696,26 @@ public:
 		return static_cast<std::uint32_t>(answer);
 	}
 
+	/// Calls look(number) for each busy tag of both sets, in ascending order, and returns how many
+	/// times: for example to find requests that take too long. A look returns true to go on and
+	/// false to be the last, or nothing, and may make any call. This needs no hand, works at any
+	/// time, as busy() does, and allocates nothing.
+	///
+	/// A tag that is busy from the beginning of this call until the first look is passed, once.
+	/// While other threads work, a tag that has gone back may be passed too, and any tag may go
+	/// back, and have another user, while look() runs. A kept tag is passed, and has no user. So
+	/// look only at what the program makes atomic, such as an array of std::atomic with the number
+	/// as the index; a slot and a value are for whoever holds the tag.
+	///
+	/// Errors: bad_handle; and what look throws.
+	template <class Look>
+	std::uint32_t each_busy(Look look) const
+	{
+		const detail::busy_bits found(raw());
+		detail::check(found.answer);
+		return found.each(look);
+	}
+
 	/// Reports the sizes of a set of tags, and how many of them are busy, without a hand.
 	///
 	/// Errors: bad_handle.
@@ -1762,6 +1827,15 @@ public:
 		const std::int32_t answer = try_busy(into, words);
 		detail::note(answer, ec);
 		return counted(answer);
+	}
+
+	/// Throws nothing but what look throws. Then ec is set already.
+	template <class Look>
+	std::uint32_t each_busy(Look look, std::error_code &ec) const
+	{
+		const detail::busy_bits found(raw());
+		detail::note(found.answer, ec);
+		return found.each(look);
 	}
 
 	sizes show(kind of, std::error_code &ec) const noexcept

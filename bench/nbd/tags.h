@@ -25,6 +25,7 @@ enum {
 struct tags_options { uint32_t total, reserved, hands, cache; };
 struct tags_sums { uint64_t got, back; };
 struct tags_sizes { uint32_t depth, busy; };
+struct tags_counts { uint32_t waiting; };
 
 struct list {
 	uint32_t depth;
@@ -139,6 +140,14 @@ static inline int32_t tags_pool_show(struct tags_pool *pool, uint32_t kind, stru
 	return TAGS_OK;
 }
 
+static inline int32_t tags_pool_wakes(struct tags_pool *pool, struct tags_counts *counts)
+{
+	pthread_mutex_lock(&pool->lists->lock);
+	counts->waiting = pool->lists->waiting;
+	pthread_mutex_unlock(&pool->lists->lock);
+	return TAGS_OK;
+}
+
 static inline int32_t tags_flush(struct tags_hand *hand)
 {
 	(void)hand;
@@ -153,7 +162,7 @@ static inline int32_t tags_flush(struct tags_hand *hand)
 #define tags_take(hand, tag) ((void)(hand), (void)(tag), TAGS_OK)
 #define tags_post(hand, tag) ((void)(hand), (void)(tag), TAGS_OK)
 /* which tags are busy it does not know */
-#define tags_pool_busy(pool, into, words) ((into)[0] = 0, TAGS_OK)
+#define tags_pool_each_busy(pool, function, argument) ((void)(pool), (void)(function), (void)(argument), TAGS_OK)
 #define tags_strerror(status) ((void)(status), "refused")
 
 #endif

@@ -279,6 +279,33 @@ static void monitor(struct tags_pool *pool)
 	printf("%u of them ordinary; %u wait\n", sizes.busy, counts.waiting);
 }
 
+/* When the request of each tag began, in ms, or 0: set by holders after a get, reset before a clear. */
+static uint64_t begun[64];
+
+struct watch {
+	uint64_t now;
+	uint32_t late;
+};
+
+static int watch_tag(uint32_t tag, void *argument)
+{
+	struct watch *watch = argument;
+	uint64_t since = __atomic_load_n(&begun[tag], __ATOMIC_RELAXED);
+
+	if (since != 0 && watch->now >= since + 30000)
+		watch->late++;
+	return 0;
+}
+
+/* How many requests take 30 seconds or more: watch_tag() looks at what the tag's holder noted, and returns 0. */
+static uint32_t count_late(struct tags_pool *pool, uint64_t now)
+{
+	struct watch watch = { now, 0 };
+
+	tags_pool_each_busy(pool, watch_tag, &watch);
+	return watch.late;
+}
+
 /* A thread of a program with more threads than hands: it sleeps until a hand is free. */
 static bool join_in_turn(struct tags_pool *pool, struct tags_hand *hand)
 {
@@ -413,6 +440,11 @@ int main(void)
 		       runs_with(&hand, &other, event) && !grow(&pool, 128);
 
 	monitor(&pool);
+	begun[63] = 50000;
+	is_well = is_well && count_late(&pool, 90000) == 0;
+	for (uint32_t tag = 0; tag < 64; tag++)
+		begun[tag] = tags_holds(&hand, tag) == 1 ? 50000 : 0;
+	is_well = is_well && count_late(&pool, 79999) == 0 && count_late(&pool, 80000) == count_own(&hand);
 	is_well = is_well && tags_clear(&hand, 0) == TAGS_NOT_HELD;
 	for (uint32_t tag = 0; tag < 64; tag++)
 		if (tags_holds(&hand, tag) == 1)

@@ -462,6 +462,28 @@ static void *come_and_go(void *number)
 	return number;
 }
 
+/* Counts tags in ascending order; a call through the handle works here, as it has no lock. */
+static int count_tag(uint32_t tag, void *count)
+{
+	uint32_t *next = count;
+
+	CHECK(tag < TAGS && tag >= *next);
+	*next = tag + 1;
+	CHECK(tags_pool_total(&pool) == TAGS);
+	return 0;
+}
+
+/* The last tag is busy all the while, so it is passed. */
+static void report_each(uint32_t others)
+{
+	uint32_t next = 0;
+	int32_t calls = tags_pool_each_busy(&pool, count_tag, &next);
+
+	CHECK(next == TAGS && calls >= 1 && calls <= (int32_t)TAGS);
+	if (others == 0)
+		CHECK(calls == 1);
+}
+
 /* Hand 0 holds the last tag, and up to @others other tags are busy. */
 static void report(uint32_t others)
 {
@@ -472,6 +494,7 @@ static void report(uint32_t others)
 	int32_t busy = tags_pool_busy(&pool, bits, LAST / 64 + 1);
 	int32_t ones = 0;
 
+	report_each(others);
 	for (uint32_t tag = 0; tag < (LAST / 64 + 1) * 64; tag++)
 		ones += (bits[tag / 64] >> tag % 64 & 1) != 0;
 	CHECK(busy == ones && busy >= 1 && (bits[LAST / 64] & last));

@@ -75,6 +75,7 @@ static void empty_objects()
 	REFUSED(errc::bad_handle, pool.resize(4, CODE));
 	REFUSED(errc::bad_handle, pool.stop(CODE));
 	REFUSED(errc::bad_handle, pool.busy(&bits, 1, CODE));
+	REFUSED(errc::bad_handle, pool.each_busy([](std::uint32_t) { CHECK(false); }, CODE));
 	REFUSED(errc::bad_handle, pool.show(tags::kind::ordinary, CODE));
 	REFUSED(errc::bad_handle, pool.wakes(CODE));
 	REFUSED(errc::bad_handle, pool.close(CODE));

@@ -1,6 +1,7 @@
 // The excerpts of docs/USING_CPP.md that are in no example.
 #include "check.hpp"
 
+#include <atomic>
 #include <chrono>
 #include <poll.h>
 #include <sys/eventfd.h>
@@ -163,6 +164,53 @@ static void cached()
 	CHECK(hand.show(tags::kind::ordinary).busy == 0);
 }
 
+// When the request of each tag began, in ms, or 0.
+static std::atomic<std::int64_t> begun[4];
+
+static void watched()
+{
+	tags::pool pool = opened(4, 1);
+	tags::hand hand = pool.join_in_place();
+	const tags::tag early = hand.get_blocking();
+	const tags::tag recent = hand.get_blocking();
+	const tags::tag idle = hand.get_blocking();
+	begun[early.number()] = 10000;
+	begun[recent.number()] = 30000;
+	begun[3] = 10000;
+	const std::int64_t now = 40000;
+	std::vector<std::uint32_t> late;
+	pool.each_busy([&](std::uint32_t number) {
+		const std::int64_t since = begun[number].load(std::memory_order_relaxed);
+		if (since != 0 && now - since >= 30000)
+			late.push_back(number);
+	});
+	CHECK(late == std::vector<std::uint32_t>{early.number()} && idle.number() == 2);
+}
+
+// What a function throws passes through.
+static void interrupted()
+{
+	tags::pool pool = opened(4, 1);
+	tags::hand hand = pool.join_in_place();
+	const tags::tag first = hand.get_blocking();
+	const tags::tag second = hand.get_blocking();
+	std::error_code ec = tags::errc::in_use;
+	auto throws = [](std::uint32_t number) -> bool { throw number; };
+	for (int i = 0; i < 2; i++) {
+		std::uint32_t thrown = 4;
+		try {
+			if (i == 0)
+				pool.each_busy(throws);
+			else
+				pool.each_busy(throws, ec);
+		} catch (std::uint32_t number) {
+			thrown = number;
+		}
+		CHECK(thrown == first.number());
+	}
+	CHECK(!ec && pool.each_busy([](std::uint32_t) { return true; }) == 2 && second);
+}
+
 int main()
 {
 	tags::pool pool = opened(4, 1);
@@ -175,5 +223,7 @@ int main()
 	CHECK(event_loop() == 0);
 	resized();
 	cached();
+	watched();
+	interrupted();
 	return report();
 }

@@ -696,6 +696,41 @@ static void try_wakes(void)
 	compare_counts("wakes", &found, &wanted);
 }
 
+/* What the function of a call is passed, and after how many tags it stops. */
+struct passed {
+	uint64_t bits[WORDS];
+	int32_t left;
+};
+
+static int note_tag(uint32_t tag, void *passed)
+{
+	struct passed *into = passed;
+
+	into->bits[tag / 64] |= UINT64_C(1) << tag % 64;
+	return --into->left == 0;
+}
+
+/* The lowest bits of those, this many. */
+static void keep_lowest(uint64_t *bits, int32_t most)
+{
+	for (uint32_t i = 0; i < WORDS * 64; i++)
+		if (bits[i / 64] >> i % 64 & 1 && most-- <= 0)
+			bits[i / 64] &= ~(UINT64_C(1) << i % 64);
+}
+
+static void try_each_busy(uint32_t at)
+{
+	const int32_t most = seldom(2) ? 1 + (int32_t)below(8) : INT32_MAX;
+	struct passed passed = { .left = most };
+	uint64_t wanted[WORDS] = { 0 };
+	int32_t busy = model_pool_busy(&models[at], wanted, WORDS);
+
+	keep_lowest(wanted, most);
+	compare("pool_each_busy", tags_pool_each_busy(&handles[at].pool, note_tag, &passed),
+		busy < most ? busy : most);
+	compare_filled("pool_each_busy", passed.bits, wanted, sizeof(wanted));
+}
+
 static void try_pool_busy(void)
 {
 	uint64_t found[WORDS];
@@ -708,6 +743,7 @@ static void try_pool_busy(void)
 	compare("pool_busy", tags_pool_busy(&handles[at].pool, found, words),
 		model_pool_busy(&models[at], wanted, words));
 	compare_filled("pool_busy", found, wanted, sizeof(found));
+	try_each_busy(at);
 }
 
 static void try_pool_show(void)

@@ -426,6 +426,30 @@ static void a_pool_reports_without_a_hand()
 	CHECK(pool.wakes(ec).active == 1 && !ec);
 }
 
+// A look at each busy tag, beside which the pool may be used.
+static void a_pool_passes_each_busy_tag()
+{
+	tags::pool pool(sized(70, 1, 1), ec);
+	std::vector<std::uint32_t> passed;
+	auto note = [&](std::uint32_t number) { passed.push_back(number); };
+	CHECK(pool.each_busy(note, ec) == 0 && !ec && passed.empty());
+	tags::hand hand = pool.join_in_place(ec);
+	std::vector<tags::tag> held;
+	for (int i = 0; i < 69; i++)
+		held.push_back(get(hand));
+	const tags::tag reserved = *hand.get_reserved(ec);
+	held.erase(held.begin() + 1, held.begin() + 64);
+	const std::vector<std::uint32_t> wanted = {0, 1, 65, 66, 67, 68, 69};
+	CHECK(pool.each_busy(note, ec) == 7 && !ec && passed == wanted);
+	auto stops = [&](std::uint32_t number) { return number < 65; };
+	CHECK(pool.each_busy(stops, ec) == 3 && !ec);
+	auto gives_back = [&](std::uint32_t) {
+		held.clear();
+		return pool.show(tags::kind::ordinary, ec).busy == 0 && pool.total() == 70;
+	};
+	CHECK(pool.each_busy(gives_back, ec) == 7 && pool.each_busy(note, ec) == 1 && !ec);
+}
+
 static void options_are_passed_on()
 {
 	tags::options options = sized(6, 1);
@@ -475,6 +499,7 @@ int main()
 	waits_by_other_means();
 	resizes();
 	a_pool_reports_without_a_hand();
+	a_pool_passes_each_busy_tag();
 	options_are_passed_on();
 	native_handles();
 	return report();

@@ -42,6 +42,14 @@ static struct tags_hand *as_hand(struct tags_pool *pool)
 	return (struct tags_hand *)(void *)pool;
 }
 
+/* Is called for no tag. */
+static int never(uint32_t tag, void *unused)
+{
+	(void)unused;
+	want("a tag that is passed", (int32_t)tag, -1);
+	return 0;
+}
+
 /* Passes NULL for each pointer in turn. */
 static void refuse_null(struct tags_pool *pool, struct tags_hand *hand)
 {
@@ -77,6 +85,8 @@ static void refuse_null(struct tags_pool *pool, struct tags_hand *hand)
 	WANT(tags_finish(NULL), -28);
 	WANT(tags_pool_busy(NULL, &value, 1), -28);
 	WANT(tags_pool_busy(pool, NULL, 1), -28);
+	WANT(tags_pool_each_busy(NULL, never, NULL), -28);
+	WANT(tags_pool_each_busy(pool, NULL, &value), -28);
 	WANT(tags_pool_show(pool, TAGS_ORDINARY, NULL), -28);
 	WANT(tags_pool_wakes(pool, NULL), -28);
 	WANT(tags_pool_total(NULL), -28);
@@ -197,6 +207,7 @@ static void refuse_reports(struct tags_pool *pool)
 	uint64_t bits = 5;
 
 	WANT(tags_pool_busy(pool, &bits, 1), -12);
+	WANT(tags_pool_each_busy(pool, never, NULL), -12);
 	WANT(tags_pool_show(pool, TAGS_ORDINARY, &sizes), -12);
 	WANT(tags_pool_wakes(pool, &counts), -12);
 	WANT(tags_pool_total(pool), -12);
@@ -305,6 +316,7 @@ static void refuse_pool_sizes(struct tags_pool *pool)
 	WANT(tags_pool_busy(pool, &bits, 0), -17);
 	WANT(bits == 5, 1);
 	WANT(tags_pool_busy(pool, &bits, 1), 0);
+	WANT(tags_pool_each_busy(pool, never, NULL), 0);
 	WANT(tags_pool_show(pool, 2, &sizes), -16);
 	WANT(tags_pool_show(pool, UINT32_MAX, &sizes), -16);
 	WANT(sizes.depth == 5, 1);

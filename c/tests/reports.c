@@ -35,6 +35,24 @@ static bool is_closed(int32_t status)
 	return status == TAGS_BAD_HANDLE;
 }
 
+static int count_tag(uint32_t tag, void *count)
+{
+	CHECK(tag < LARGE);
+	++*(int32_t *)count;
+	return 0;
+}
+
+static void look_at_each(bool may_be_closed)
+{
+	int32_t count = 0;
+	int32_t calls = tags_pool_each_busy(&pool, count_tag, &count);
+
+	if (calls >= 0)
+		CHECK(calls == count && count <= 1);
+	else
+		CHECK(may_be_closed && is_closed(calls) && count == 0);
+}
+
 static void look(bool may_be_closed)
 {
 	static const uint32_t hands = 1;
@@ -51,6 +69,7 @@ static void look(bool may_be_closed)
 		CHECK(may_be_closed && is_closed(status));
 	status = tags_pool_wakes(&pool, &counts);
 	CHECK(status == TAGS_OK || (may_be_closed && is_closed(status)));
+	look_at_each(may_be_closed);
 }
 
 static void *watch(void *may_be_closed)

@@ -30,6 +30,22 @@ static const struct tags_options twelve = {
 	.hands = 2,
 };
 
+/* Sets the bit of a tag, after those of all tags before it. */
+static int note(uint32_t tag, void *bits)
+{
+	uint64_t *into = bits;
+
+	WANT(*into >> tag, 0);
+	*into |= UINT64_C(1) << tag;
+	return 0;
+}
+
+static int stop_at(uint32_t tag, void *found)
+{
+	*(uint64_t *)found = tag;
+	return -1;
+}
+
 /* Tags pass from hand to hand, one hand waits, and all counts are told. */
 static void run_through_all_calls(void)
 {
@@ -84,6 +100,11 @@ static void run_through_all_calls(void)
 	WANT(counts.active, 0);
 	WANT(tags_pool_busy(&pool, &bits, 1), 2);
 	WANT(bits, 33);
+	bits = 0;
+	WANT(tags_pool_each_busy(&pool, note, &bits), 2);
+	WANT(bits, 33);
+	WANT(tags_pool_each_busy(&pool, stop_at, &bits), 1);
+	WANT(bits, 0);
 	WANT(tags_pool_show(&pool, TAGS_ORDINARY, &sizes), TAGS_OK);
 	WANT(tags_pool_batch(&pool), (int32_t)sizes.bits_per_word);
 	WANT(tags_pool_total(&pool), 12);

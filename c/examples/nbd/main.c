@@ -91,6 +91,21 @@ static int catch_signals(void)
 	return fd;
 }
 
+/* Returns whether there is io_uring. Where it was asked for and is not there, the server ends. */
+static int has_uring(const struct settings *settings)
+{
+	const char *why;
+
+	if (settings->io == IO_WORKERS || (settings->io == IO_BY_DEFAULT && !(settings->file && HAS_URING)))
+		return 0;
+	why = open_uring(&server);
+	if (why && settings->io == IO_URING)
+		give_up("io_uring", why);
+	if (why)
+		fprintf(stderr, "nbd_server: io_uring: %s, so the workers wait for the disk\n", why);
+	return !why;
+}
+
 static void open_server(void)
 {
 	const struct settings *settings = &server.settings;
@@ -109,6 +124,8 @@ static void open_server(void)
 	must("tags_open", tags_open(&server.pool, &options));
 	open_connections(&server);
 	start_workers(&server);
+	/* it passes tags on to the queue; the workers look at this once a reader has passed one on */
+	server.has_uring = has_uring(settings);
 }
 
 static void accept_one(int listener)
@@ -188,7 +205,8 @@ int main(int count, char **arguments)
 	open_server();
 	at_path = listen_at_path(server.settings.unix_path);
 	at_port = listen_at_port(server.settings.port);
-	printf("serving %" PRIu64 " bytes, %" PRIu32 " tags\n", server.store.size, server.settings.tags);
+	printf("serving %" PRIu64 " bytes, %" PRIu32 " tags%s\n", server.store.size, server.settings.tags,
+	       server.has_uring ? ", with io_uring" : "");
 	fflush(stdout);
 	serve(signals, at_path, at_port);
 	close(at_path);

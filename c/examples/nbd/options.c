@@ -15,6 +15,7 @@ static const char USAGE[] =
 	"  --port N         listen on a port of the loopback interface\n"
 	"  --memory SIZE    a device in memory, 64M if no --file is given; K, M and G are binary\n"
 	"  --file PATH      a device in a file, which exists\n"
+	"  --io HOW         who waits for the disk: uring, or workers [uring for a file, where there is one]\n"
 	"  --tags N         most requests in flight, of all connections, 1 to 10240 with the reserved ones [32]\n"
 	"  --reserved N     tags for FLUSH and DISC alone, from 0 [2]\n"
 	"  --cache N        tags that a worker keeps, 0 to 64 [0]\n"
@@ -22,15 +23,16 @@ static const char USAGE[] =
 	"  --connections N  most connections at once, 1 to 48; more wait [16]\n"
 	"  --seconds N      most time that a client may stop in the middle of a message, 1 to 3600 [10]\n";
 
-enum name { UNIX, PORT, MEMORY, STORED, TAGS, RESERVED, CACHE, WORKERS, CONNECTIONS, SECONDS };
+enum name { UNIX, PORT, MEMORY, STORED, IO, TAGS, RESERVED, CACHE, WORKERS, CONNECTIONS, SECONDS };
 
 static const struct option NAMES[] = {
 	{ "unix", required_argument, NULL, UNIX },	   { "port", required_argument, NULL, PORT },
 	{ "memory", required_argument, NULL, MEMORY },	   { "file", required_argument, NULL, STORED },
-	{ "tags", required_argument, NULL, TAGS },	   { "reserved", required_argument, NULL, RESERVED },
-	{ "cache", required_argument, NULL, CACHE },	   { "workers", required_argument, NULL, WORKERS },
+	{ "io", required_argument, NULL, IO },		   { "tags", required_argument, NULL, TAGS },
+	{ "reserved", required_argument, NULL, RESERVED }, { "cache", required_argument, NULL, CACHE },
+	{ "workers", required_argument, NULL, WORKERS },   { "seconds", required_argument, NULL, SECONDS },
 	{ "connections", required_argument, NULL, CONNECTIONS },
-	{ "seconds", required_argument, NULL, SECONDS },   { NULL, 0, NULL, 0 },
+	{ NULL, 0, NULL, 0 },
 };
 
 static void refuse_usage(void)
@@ -58,6 +60,15 @@ static uint32_t count(const char *text, uint64_t least, uint64_t most)
 	return (uint32_t)number(text, least, most, "");
 }
 
+static enum io io_of(const char *text)
+{
+	if (strcmp(text, "uring") == 0)
+		return IO_URING;
+	if (strcmp(text, "workers") != 0)
+		refuse_usage();
+	return IO_WORKERS;
+}
+
 static void read_option(struct settings *settings, int name, const char *text)
 {
 	switch (name) {
@@ -72,6 +83,9 @@ static void read_option(struct settings *settings, int name, const char *text)
 		break;
 	case STORED:
 		settings->file = text;
+		break;
+	case IO:
+		settings->io = io_of(text);
 		break;
 	case TAGS:
 		settings->tags = count(text, 1, TAGS_MAX_TOTAL);

@@ -73,10 +73,10 @@ static int32_t get_tag(struct tags_hand *hand, uint16_t command)
 }
 
 /* A reader may go idle after this, so it keeps no tag. */
-static void give_back(struct tags_hand *hand, uint32_t tag)
+static void give_up_request(struct connection *connection, uint32_t tag)
 {
-	must("tags_clear", tags_clear(hand, tag));
-	must("tags_flush", tags_flush(hand));
+	give_back(&connection->hand, tag, &connection->server->requests[tag]);
+	must("tags_flush", tags_flush(&connection->hand));
 }
 
 static int has_room(struct request *request, uint32_t size)
@@ -97,7 +97,7 @@ static void post(struct connection *connection, uint32_t tag)
 	__atomic_add_fetch(&connection->pending, 1, __ATOMIC_RELAXED);
 	must("tags_write", tags_write(&connection->hand, tag, (uintptr_t)request, NULL));
 	must("tags_post", tags_post(&connection->hand, tag));
-	pass_on(&server->queue, tag, tag < server->settings.reserved);
+	pass_on(server, tag, NOT_BEGUN);
 }
 
 /* Fills the request of a tag, and posts the tag. Returns whether the next one can be read. */
@@ -108,13 +108,14 @@ static int submit(struct connection *connection, uint32_t tag, const struct head
 
 	request->header = *header;
 	request->connection = connection;
+	request->done = 0;
 	show(request);
 	if (has_data && !has_room(request, header->length)) {
-		give_back(&connection->hand, tag);
+		give_up_request(connection, tag);
 		return refuse(connection, header, FAULT_MEMORY);
 	}
 	if (header->command == COMMAND_WRITE && !receive(connection->fd, request->buffer, header->length)) {
-		give_back(&connection->hand, tag);
+		give_up_request(connection, tag);
 		return 0;
 	}
 	post(connection, tag);

@@ -30,11 +30,16 @@ void show(struct request *request)
 	__atomic_store_n(&request->shown, word, __ATOMIC_RELAXED);
 }
 
-static void report_tag(uint32_t tag, uint64_t word)
+/* A tag that a hand keeps, or that has just been got or given back, has no request. */
+static int report_tag(uint32_t tag, void *requests)
 {
+	const struct request *request = (const struct request *)requests + tag;
+	uint64_t word = __atomic_load_n(&request->shown, __ATOMIC_RELAXED);
+
 	if (word)
 		printf("tag %" PRIu32 ": connection %d, %s, %" PRIu64 " ms\n", tag, (int)(word >> 8 & 0xff),
 		       NAMES[word >> 1 & 0x7f], milliseconds() - (word >> 16));
+	return 0;
 }
 
 static uint32_t open_count(struct server *server)
@@ -51,18 +56,17 @@ static uint32_t open_count(struct server *server)
 /* This needs no hand, and stops nobody. */
 void report_busy(struct server *server)
 {
-	uint64_t busy[TAGS_MAX_TOTAL / 64];
+	struct tags_counts counts;
 	struct tags_sizes ordinary;
 	struct tags_sizes reserved;
 
 	must("tags_pool_show", tags_pool_show(&server->pool, TAGS_ORDINARY, &ordinary));
 	must("tags_pool_show", tags_pool_show(&server->pool, TAGS_RESERVED, &reserved));
-	must("tags_pool_busy", tags_pool_busy(&server->pool, busy, TAGS_MAX_TOTAL / 64));
-	printf("busy: ordinary %" PRIu32 "/%" PRIu32 ", reserved %" PRIu32 "/%" PRIu32 ", connections %" PRIu32
-	       "\n", ordinary.busy, ordinary.depth, reserved.busy, reserved.depth, open_count(server));
-	for (uint32_t tag = 0; tag < ordinary.depth + reserved.depth; tag++)
-		if (busy[tag / 64] >> tag % 64 & 1)
-			report_tag(tag, __atomic_load_n(&server->requests[tag].shown, __ATOMIC_RELAXED));
+	must("tags_pool_wakes", tags_pool_wakes(&server->pool, &counts));
+	printf("busy: ordinary %" PRIu32 "/%" PRIu32 ", reserved %" PRIu32 "/%" PRIu32 "; connections %" PRIu32
+	       ", of which %" PRIu32 " wait for a tag\n", ordinary.busy, ordinary.depth, reserved.busy,
+	       reserved.depth, open_count(server), counts.waiting);
+	must("tags_pool_each_busy", tags_pool_each_busy(&server->pool, report_tag, server->requests));
 	fflush(stdout);
 }
 

@@ -19,11 +19,21 @@
 
 enum { MAX_WORKERS = 16, MAX_CONNECTIONS = TAGS_MAX_HANDS - MAX_WORKERS };
 
+/* Who waits for the disk: by default io_uring if the device is a file, where there is one. */
+enum io { IO_BY_DEFAULT, IO_URING, IO_WORKERS };
+
+#ifdef WITH_URING
+enum { HAS_URING = 1 };
+#else
+enum { HAS_URING = 0 };
+#endif
+
 struct settings {
 	const char *unix_path;
 	const char *file;
 	/* of TCP on the loopback interface; -1 for none */
 	int port;
+	enum io io;
 	/* bytes in memory, unless there is a file */
 	uint64_t size;
 	uint32_t tags;
@@ -41,9 +51,18 @@ struct store {
 	uint64_t size;
 };
 
-/* Numbers in the order in which they came. There is room for every tag, so it is never full. */
+/* A posted tag: nothing of its request has begun, or io_uring has come to a result. */
+struct posted {
+	uint32_t tag;
+	/* NOT_BEGUN, or bytes that it has read, or an errno below 0 */
+	int32_t result;
+};
+
+enum { NOT_BEGUN = INT32_MIN };
+
+/* In the order in which they came. There is room for every tag, so it is never full. */
 struct ring {
-	uint32_t *tags;
+	struct posted *entries;
 	uint32_t room;
 	uint32_t first;
 	uint32_t count;
@@ -55,6 +74,8 @@ struct queue {
 	pthread_cond_t filled;
 	struct ring urgent;
 	struct ring ordinary;
+	/* workers that wait for it */
+	uint32_t idle;
 	int has_ended;
 };
 
@@ -73,6 +94,8 @@ struct request {
 	struct connection *connection;
 	unsigned char *buffer;
 	uint32_t size;
+	/* bytes that a READ found in memory, before the rest was left to io_uring */
+	uint32_t done;
 	/* what report_busy() shows, which reads it without holding the tag; 0 if it is done */
 	uint64_t shown;
 };
@@ -106,6 +129,8 @@ struct server {
 	struct tags_pool pool;
 	struct store store;
 	struct queue queue;
+	/* whether io_uring waits for the disk */
+	int has_uring;
 	struct request *requests;
 	struct worker workers[MAX_WORKERS];
 	/* of states and descriptors of the connections */
@@ -125,12 +150,19 @@ void read_settings(struct settings *settings, int count, char **arguments);
 
 /* store.c */
 void open_store(struct store *store, const struct settings *settings);
-enum fault carry_out(const struct store *store, struct request *request);
+int takes_disk(const struct store *store, struct request *request);
+enum fault carry_out(const struct store *store, const struct request *request, int32_t result);
+
+/* uring.c */
+const char *open_uring(struct server *server);
+void submit_to_uring(const struct store *store, uint32_t tag, const struct request *request);
+void close_uring(void);
 
 /* workers.c */
 void start_workers(struct server *server);
 void end_workers(struct server *server);
-void pass_on(struct queue *queue, uint32_t tag, int is_urgent);
+void pass_on(struct server *server, uint32_t tag, int32_t result);
+void give_back(struct tags_hand *hand, uint32_t tag, struct request *request);
 
 /* wire.c */
 void limit_waits(int fd, uint32_t seconds);

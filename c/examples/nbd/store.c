@@ -9,6 +9,7 @@
 #include <fcntl.h>
 #include <string.h>
 #include <sys/mman.h>
+#include <sys/uio.h>
 #include <unistd.h>
 
 void open_store(struct store *store, const struct settings *settings)
@@ -44,18 +45,17 @@ static enum fault fault_of(int error)
 	}
 }
 
-static enum fault read_all(int fd, unsigned char *into, size_t size, uint64_t offset)
+/* Reads what is left of some bytes after the first @done. */
+static enum fault read_all(int fd, unsigned char *into, size_t size, uint64_t offset, size_t done)
 {
-	while (size > 0) {
-		ssize_t moved = pread(fd, into, size, (off_t)offset);
+	while (done < size) {
+		ssize_t moved = pread(fd, into + done, size - done, (off_t)(offset + done));
 
 		if (moved < 0 && errno == EINTR)
 			continue;
 		if (moved <= 0)
 			return moved < 0 ? fault_of(errno) : FAULT_IO;
-		into += moved;
-		offset += (uint64_t)moved;
-		size -= (size_t)moved;
+		done += (size_t)moved;
 	}
 	return FAULT_NONE;
 }
@@ -116,18 +116,44 @@ static enum fault change(const struct store *store, const struct request *reques
 	return write_zeroes(store->fd, header->length, header->offset);
 }
 
-/* Carries a request out whose offset and length are within the device. */
-enum fault carry_out(const struct store *store, struct request *request)
+/*
+ * Whether a request would wait for the disk: a FLUSH, and a READ of what is not in memory, of
+ * which this reads the part before that. Where the file system can't tell, each READ would. A
+ * WRITE goes to memory.
+ */
+int takes_disk(const struct store *store, struct request *request)
 {
 	const struct header *header = &request->header;
+	struct iovec into = { request->buffer, header->length };
+	ssize_t moved;
+
+	if (header->command == COMMAND_FLUSH || header->command == COMMAND_DISC)
+		return 1;
+	if (header->command != COMMAND_READ || header->length == 0)
+		return 0;
+	moved = preadv2(store->fd, &into, 1, (off_t)header->offset, RWF_NOWAIT);
+	request->done = moved > 0 ? (uint32_t)moved : 0;
+	return request->done < header->length;
+}
+
+/*
+ * Carries a request out whose offset and length are within the device, from where io_uring came,
+ * if it has begun. Whether a READ has failed this finds itself.
+ */
+enum fault carry_out(const struct store *store, const struct request *request, int32_t result)
+{
+	const struct header *header = &request->header;
+	size_t done = request->done + (result > 0 ? (size_t)result : 0);
 	enum fault fault;
 
 	switch (header->command) {
 	case COMMAND_READ:
-		return read_all(store->fd, request->buffer, header->length, header->offset);
+		return read_all(store->fd, request->buffer, header->length, header->offset, done);
 	case COMMAND_FLUSH:
 	case COMMAND_DISC:
-		return flush(store->fd);
+		if (result == NOT_BEGUN)
+			return flush(store->fd);
+		return result < 0 ? fault_of(-result) : FAULT_NONE;
 	default:
 		fault = change(store, request);
 		return fault == FAULT_NONE && header->flags & FLAG_FUA ? flush(store->fd) : fault;

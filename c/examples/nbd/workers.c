@@ -1,6 +1,8 @@
 /*
  * workers.c - posted tags wait in a queue for a worker, which takes the tag, finds
- * the request in its slot, carries it out, replies, and clears the tag.
+ * the request in its slot, carries it out, replies, and clears the tag. Where there is
+ * io_uring, the last worker that is free does not wait for the disk: it posts the tag
+ * again and leaves that to io_uring, and then the tag comes to the queue once more.
  */
 #include "server.h"
 
@@ -13,50 +15,67 @@ enum { KEPT = 1 << 18 };
 static void open_ring(struct ring *ring, uint32_t room)
 {
 	ring->room = room;
-	ring->tags = calloc(room > 0 ? room : 1, sizeof(*ring->tags));
-	if (!ring->tags)
+	ring->entries = calloc(room > 0 ? room : 1, sizeof(*ring->entries));
+	if (!ring->entries)
 		give_up("the queue", "no memory");
 }
 
-static void push(struct ring *ring, uint32_t tag)
+static void push(struct ring *ring, struct posted posted)
 {
-	ring->tags[(ring->first + ring->count++) % ring->room] = tag;
+	ring->entries[(ring->first + ring->count++) % ring->room] = posted;
 }
 
-static uint32_t pop(struct ring *ring)
+static struct posted pop(struct ring *ring)
 {
-	uint32_t tag = ring->tags[ring->first];
+	struct posted posted = ring->entries[ring->first];
 
 	ring->first = (ring->first + 1) % ring->room;
 	ring->count--;
-	return tag;
+	return posted;
 }
 
-void pass_on(struct queue *queue, uint32_t tag, int is_urgent)
+void pass_on(struct server *server, uint32_t tag, int32_t result)
 {
+	const struct posted posted = { tag, result };
+	struct queue *queue = &server->queue;
+
 	pthread_mutex_lock(&queue->lock);
-	push(is_urgent ? &queue->urgent : &queue->ordinary, tag);
+	push(tag < server->settings.reserved ? &queue->urgent : &queue->ordinary, posted);
 	pthread_cond_signal(&queue->filled);
 	pthread_mutex_unlock(&queue->lock);
 }
 
-/* Returns a posted tag, or TAGS_NO_TAG once the queue has ended and is empty. */
-static int32_t next(struct queue *queue, struct tags_hand *hand)
+/* With the lock. */
+static uint32_t length(const struct queue *queue)
 {
-	int32_t tag = TAGS_NO_TAG;
+	return queue->urgent.count + queue->ordinary.count;
+}
+
+/*
+ * Returns whether there is one: not once the queue has ended and is empty. @is_last tells whether
+ * no other worker is free for what comes next.
+ */
+static int next(struct queue *queue, struct tags_hand *hand, struct posted *posted, int *is_last)
+{
+	int is_there = 1;
 
 	pthread_mutex_lock(&queue->lock);
-	while (queue->urgent.count + queue->ordinary.count == 0 && !queue->has_ended) {
+	while (length(queue) == 0 && !queue->has_ended) {
 		/* the tags that an idle worker would keep in its cache are what a reader may wait for */
 		tags_flush(hand);
+		queue->idle++;
 		pthread_cond_wait(&queue->filled, &queue->lock);
+		queue->idle--;
 	}
 	if (queue->urgent.count > 0)
-		tag = (int32_t)pop(&queue->urgent);
+		*posted = pop(&queue->urgent);
 	else if (queue->ordinary.count > 0)
-		tag = (int32_t)pop(&queue->ordinary);
+		*posted = pop(&queue->ordinary);
+	else
+		is_there = 0;
+	*is_last = queue->idle <= length(queue);
 	pthread_mutex_unlock(&queue->lock);
-	return tag;
+	return is_there;
 }
 
 static void release_large(struct request *request)
@@ -68,11 +87,11 @@ static void release_large(struct request *request)
 	request->size = 0;
 }
 
-static void give_back(struct worker *worker, uint32_t tag, struct request *request)
+void give_back(struct tags_hand *hand, uint32_t tag, struct request *request)
 {
 	release_large(request);
 	__atomic_store_n(&request->shown, 0, __ATOMIC_RELAXED);
-	must("tags_clear", tags_clear(&worker->hand, tag));
+	must("tags_clear", tags_clear(hand, tag));
 }
 
 /*
@@ -80,36 +99,53 @@ static void give_back(struct worker *worker, uint32_t tag, struct request *reque
  * Any other tag goes back before, so that a client which has the reply to its flush finds
  * the reserved tag free.
  */
-static void serve(struct worker *worker, uint32_t tag)
+static void finish(struct worker *worker, uint32_t tag, struct request *request, enum fault fault)
 {
-	struct connection *connection;
+	struct connection *connection = request->connection;
+	struct header header = request->header;
+
+	if (header.command != COMMAND_READ) {
+		give_back(&worker->hand, tag, request);
+		reply(connection, &header, fault, NULL);
+	} else {
+		reply(connection, &header, fault, request->buffer);
+		give_back(&worker->hand, tag, request);
+	}
+}
+
+/* Whoever takes a tag that is posted may change its request, so io_uring has a copy. */
+static void leave_to_uring(struct worker *worker, uint32_t tag, const struct request *request)
+{
+	const struct request copy = *request;
+
+	must("tags_post", tags_post(&worker->hand, tag));
+	submit_to_uring(&worker->server->store, tag, &copy);
+}
+
+static void serve(struct worker *worker, uint32_t tag, int32_t result, int is_last)
+{
+	struct server *server = worker->server;
+	int may_leave_it = server->has_uring && is_last && result == NOT_BEGUN;
 	struct request *request;
-	struct header header;
 	uint64_t slot = 0;
-	enum fault fault;
 
 	must("tags_take", tags_take(&worker->hand, tag));
 	must("tags_read", tags_read(&worker->hand, tag, &slot));
 	request = (struct request *)(uintptr_t)slot;
-	fault = carry_out(&worker->server->store, request);
-	connection = request->connection;
-	header = request->header;
-	if (header.command != COMMAND_READ) {
-		give_back(worker, tag, request);
-		reply(connection, &header, fault, NULL);
-	} else {
-		reply(connection, &header, fault, request->buffer);
-		give_back(worker, tag, request);
-	}
+	if (may_leave_it && takes_disk(&server->store, request))
+		leave_to_uring(worker, tag, request);
+	else
+		finish(worker, tag, request, carry_out(&server->store, request, result));
 }
 
 static void *work(void *argument)
 {
 	struct worker *worker = argument;
-	int32_t tag;
+	struct posted posted;
+	int is_last;
 
-	while ((tag = next(&worker->server->queue, &worker->hand)) != TAGS_NO_TAG)
-		serve(worker, (uint32_t)tag);
+	while (next(&worker->server->queue, &worker->hand, &posted, &is_last))
+		serve(worker, posted.tag, posted.result, is_last);
 	must("tags_leave", tags_leave(&worker->hand));
 	return NULL;
 }
@@ -143,6 +179,8 @@ void end_workers(struct server *server)
 	pthread_mutex_unlock(&queue->lock);
 	for (uint32_t i = 0; i < server->settings.workers; i++)
 		pthread_join(server->workers[i].thread, NULL);
-	free(queue->urgent.tags);
-	free(queue->ordinary.tags);
+	if (server->has_uring)
+		close_uring();
+	free(queue->urgent.entries);
+	free(queue->ordinary.entries);
 }

@@ -367,6 +367,40 @@ impl<T> Pool<T> {
         number(unsafe { tags_pool_busy(handle, into.as_mut_ptr(), into.len()) })
     }
 
+    /// Returns the busy tags of both sets, in ascending order, for example to find requests that take too long. It needs no
+    /// hand, works at any time, and allocates nothing. It looks at all tags at once; the iterator borrows nothing, so the
+    /// loop may make any call.
+    ///
+    /// A tag that is busy from the beginning of this call until its end is there. While other threads work, a tag that has
+    /// gone back may be there too, and any tag may go back, and have another user, while the iterator runs. A kept tag is
+    /// there, and has no user. So look only at what is atomic, such as a `Vec` of atomics with the tag as the index, which
+    /// holders set and reset: a slot and a value are for whoever holds the tag.
+    ///
+    /// ```
+    /// # use std::sync::atomic::{AtomicU64, Ordering::Relaxed};
+    /// # use tags::{Options, Pool};
+    /// # fn main() -> tags::Result<()> {
+    /// let pool = Pool::open(&Options::new(4, 1))?;
+    /// let begun = [const { AtomicU64::new(0) }; 4];
+    /// let hand = pool.join()?;
+    /// let tags = [hand.get_blocking()?, hand.get_blocking()?];
+    /// begun[tags[1].number() as usize].store(50, Relaxed);
+    /// let is_late = |tag: &u32| (1..60).contains(&begun[*tag as usize].load(Relaxed));
+    /// assert_eq!(pool.busy_tags().find(is_late), Some(tags[1].number()));
+    /// # Ok(())
+    /// # }
+    /// ```
+    pub fn busy_tags(&self) -> impl Iterator<Item = u32> {
+        let mut words = [0; MAX_TOTAL as usize / 64];
+        let handle = self.shared.opened.raw();
+        // SAFETY: the handle lives as long as the pool, and the length is that of the array.
+        Hand::<T>::expect(unsafe { tags_pool_busy(handle, words.as_mut_ptr(), words.len()) });
+        let firsts = (0..MAX_TOTAL).step_by(64);
+        firsts
+            .zip(words)
+            .flat_map(|(first, word)| ones(word).map(move |bit| first + bit))
+    }
+
     /// Returns the most tags that one [`Hand::get_batch`] takes: as many as a word has, also after a resize.
     ///
     /// ```
@@ -435,6 +469,15 @@ impl<T> Pool<T> {
             Err(error) => Err(CloseError { error, pool: self }),
         }
     }
+}
+
+/// Returns which bits are 1, from the lowest on.
+fn ones(mut word: u64) -> impl Iterator<Item = u32> {
+    std::iter::from_fn(move || {
+        let bit = (word != 0).then(|| word.trailing_zeros())?;
+        word &= word - 1;
+        Some(bit)
+    })
 }
 
 impl<T> fmt::Debug for Pool<T> {

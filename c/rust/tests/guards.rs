@@ -1,4 +1,5 @@
 //! Guards that give their tags back, and refused calls.
+use std::sync::atomic::{AtomicU64, Ordering::Relaxed};
 use std::thread;
 use std::time::Duration;
 use tags::{Counts, Error, Kind, Options, Pool};
@@ -214,8 +215,46 @@ fn a_pool_reports_while_all_hands_are_out() {
             let found = pool.busy(&mut busy).unwrap();
             assert_eq!(found, busy[0].count_ones() + busy[1].count_ones());
             assert!(busy[0] & 1 == 1 && busy[1] < 1 << 6);
+            let tags: Vec<u32> = pool.busy_tags().collect();
+            assert!(tags[0] == 0 && tags.is_sorted() && tags[tags.len() - 1] < 70);
         }
     });
     drop(tag);
     assert_eq!(pool.busy(&mut busy), Ok(0));
+}
+
+#[test]
+fn a_pool_lists_its_busy_tags() {
+    let pool = Pool::open_with(&Options::new(10_240, 1), |number| number).unwrap();
+    assert_eq!(pool.busy_tags().next(), None);
+    let hand = pool.join_in_place().unwrap();
+    let mut tags: Vec<_> = (0..10_240).map(|_| hand.get_blocking().unwrap()).collect();
+    assert!(pool.busy_tags().eq(0..10_240));
+    tags.retain(|tag| [0, 63, 64, 10_239].contains(&tag.number()));
+    let listed = pool.busy_tags();
+    let posted = tags.pop().unwrap().post();
+    drop(tags);
+    // It tells what was busy when it was made. Now three of these are back, and the last is posted.
+    assert!(pool.busy_tags().eq([posted]));
+    drop(hand.take(posted).unwrap());
+    drop(hand);
+    assert_eq!(pool.close().unwrap().back, 10_240);
+    assert!(listed.eq([0, 63, 64, 10_239]));
+}
+
+#[test]
+fn late_requests_are_among_the_busy_tags() {
+    let (pool, begun) = (open(4, 0, 1), [const { AtomicU64::new(0) }; 4]);
+    let hand = pool.join_in_place().unwrap();
+    let tags = [(); 3].map(|()| hand.get_blocking().unwrap());
+    for (tag, since) in [(0, 10_000), (1, 30_000), (3, 10_000)] {
+        begun[tag].store(since, Relaxed);
+    }
+    let now = 40_000_u64;
+    let is_late = |tag: &u32| {
+        let since = begun[*tag as usize].load(Relaxed);
+        since != 0 && now.saturating_sub(since) >= 30_000
+    };
+    let late: Vec<u32> = pool.busy_tags().filter(is_late).collect();
+    assert_eq!(late, [tags[0].number()]);
 }

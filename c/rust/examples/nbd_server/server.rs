@@ -205,11 +205,14 @@ impl Server {
         self.show(tag.number(), connection.number, &header);
         let request = tag.value_mut();
         if let Err(fault) = request.fill(header) {
-            drop(tag);
+            self.give_back(tag);
             return connection.refuse(&header, fault);
         }
         if header.command == command::WRITE {
-            connection.wire.receive(request.data())?;
+            if let Err(error) = connection.wire.receive(request.data()) {
+                self.give_back(tag);
+                return Err(error);
+            }
         }
         request.connection = Some(Arc::clone(connection));
         connection.begin();
@@ -226,18 +229,21 @@ impl Server {
 
     /// Prints which tags are busy. This needs no hand, and stops nobody.
     pub fn report_busy(&self) {
-        let mut busy = vec![0; self.shown.len().div_ceil(64)];
         let [ordinary, reserved] =
             [Kind::Ordinary, Kind::Reserved].map(|kind| self.pool.show(kind));
-        must("busy", self.pool.busy(&mut busy));
         let open = self.open.lock().unwrap().len();
         println!(
-            "busy: ordinary {}/{}, reserved {}/{}, connections {open}",
-            ordinary.busy, ordinary.depth, reserved.busy, reserved.depth
+            "busy: ordinary {}/{}, reserved {}/{}; connections {open}, of which {} wait for a tag",
+            ordinary.busy,
+            ordinary.depth,
+            reserved.busy,
+            reserved.depth,
+            self.pool.wakes().waiting
         );
-        for (tag, shown) in self.shown.iter().enumerate() {
-            let word = shown.load(Relaxed);
-            if busy[tag / 64] >> (tag % 64) & 1 == 1 && word != 0 {
+        for tag in self.pool.busy_tags() {
+            let word = self.shown[tag as usize].load(Relaxed);
+            // A tag that a hand keeps, or that has just been got or given back, has no request.
+            if word != 0 {
                 let now = self.began.elapsed().as_millis() as u64;
                 println!(
                     "tag {tag}: connection {}, {}, {} ms",
