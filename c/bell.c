@@ -93,13 +93,6 @@ static void ring_in(struct tags_place *place)
 	syscall(SYS_futex, &place->rings, TAGS_FUTEX_WAKE, 1, NULL, NULL, 0);
 }
 
-/* Wakes one that was told. */
-static void wake_sleeper(struct bell *bell, struct tags_place *place)
-{
-	__atomic_fetch_add(&bell->waking, 1, __ATOMIC_SEQ_CST);
-	ring_in(place);
-}
-
 /*
  * The number that an eventfd takes is added to its count. If that is full, it has been
  * told. Returns whether it could be told: one that was closed can't. This is no
@@ -217,6 +210,19 @@ static bool are_enough_waking(const struct bell *bell)
 	return waking > 0 && (uint32_t)waking >= bell->depth && tags_load(&bell->listening) == 0;
 }
 
+/*
+ * Adds hands that were told. Sleepers are waking from now on: one that wakes by itself before it is
+ * rung may wait again and be told again, and is to be rung once then.
+ */
+static void note(struct bell *bell, const struct tags_told *told, struct tags_due *due)
+{
+	if (told->sleepers)
+		__atomic_fetch_add(&bell->waking, __builtin_popcountll(told->sleepers),
+				   __ATOMIC_SEQ_CST);
+	due->told.sleepers |= told->sleepers;
+	due->told.listeners |= told->listeners;
+}
+
 static uint64_t smaller(uint64_t a, uint64_t b)
 {
 	return a < b ? a : b;
@@ -244,8 +250,7 @@ void tags_library_see(struct tags_hand *hand, uint64_t freed, struct tags_due *d
 		tags_library_flush(hand);
 		tags_library_see_to(hand, (uint32_t)freed, &told);
 	}
-	due->told.sleepers |= told.sleepers;
-	due->told.listeners |= told.listeners;
+	note(bell, &told, due);
 }
 
 bool tags_library_wake(struct tags_waits *waits, const struct tags_due *due)
@@ -255,7 +260,7 @@ bool tags_library_wake(struct tags_waits *waits, const struct tags_due *due)
 	uint64_t left;
 
 	for (left = due->told.sleepers; left; left &= left - 1)
-		wake_sleeper(bell, &bell->places[__builtin_ctzll(left)]);
+		ring_in(&bell->places[__builtin_ctzll(left)]);
 	for (left = due->told.listeners; left; left &= left - 1)
 		all_know &= notify_listener(bell, &bell->places[__builtin_ctzll(left)]);
 	tell(bell, due->freed);
@@ -266,11 +271,13 @@ bool tags_library_wake(struct tags_waits *waits, const struct tags_due *due)
 /* Wakes whom the hand told; and if one of those can't be notified, tells others in its place. */
 static void wake(struct tags_hand *hand, struct tags_due *due)
 {
+	struct tags_told told = { 0, 0 };
 	int kept = errno;
 
 	while (!tags_library_wake(hand->waits, due)) {
-		due->freed = 0;
-		tags_library_see_to(hand, 1, &due->told);
+		*due = (struct tags_due){ { 0, 0 }, 0 };
+		tags_library_see_to(hand, 1, &told);
+		note(tags_bell_of(hand->waits), &told, due);
 	}
 	errno = kept;
 }
@@ -287,9 +294,11 @@ void tags_library_ring(struct tags_hand *hand, uint64_t freed)
 
 void tags_library_settle(struct tags_hand *hand)
 {
+	struct tags_told told = { 0, 0 };
 	struct tags_due due = { { 0, 0 }, 0 };
 
-	tags_library_see_to_all(hand, &due.told);
+	tags_library_see_to_all(hand, &told);
+	note(tags_bell_of(hand->waits), &told, &due);
 	wake(hand, &due);
 }
 
