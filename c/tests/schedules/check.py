@@ -22,7 +22,7 @@ import mutants
 
 # These take long with each access as a step.
 TOO_LARGE_FOR_RACES = """three_of_two hider_two mixed_of_two loops_of_two loops_three loops_broken_of_two stop_taken shallow_pairs resized
-    tasks_of_two hider_tasks kept_posts timed_out""".split()
+    tasks_of_two hider_tasks kept_posts timed_out owes""".split()
 # These take seconds over the library itself, with those that need it.
 SMALL_FOR_TRUE = """sleepers again signals heir words prepared stop stop_listeners stop_timed stop_joins loop loops hider hider_loop hidden timed resizes closes
     resizes_reported closes_reported hires hires_timed hires_stop drains drains_kept drains_stop""".split()
