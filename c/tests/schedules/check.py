@@ -21,7 +21,7 @@ import build
 import mutants
 
 # These take long with each access as a step.
-TOO_LARGE_FOR_RACES = """three_of_two hider_two mixed_of_two loops_of_two loops_three loops_broken_of_two stop_taken shallow_pairs resized
+TOO_LARGE_FOR_RACES = """three_of_two hider_two mixed_of_two loops_of_two loops_three loops_broken_of_two shallow_pairs resized
     tasks_of_two hider_tasks kept_posts timed_out owes""".split()
 # These take seconds over the library itself, with those that need it.
 SMALL_FOR_TRUE = """sleepers again signals heir words prepared stop stop_listeners stop_timed stop_joins loop loops hider hider_loop hidden timed resizes closes
