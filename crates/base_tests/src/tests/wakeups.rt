@@ -3,4 +3,5 @@ mod book;
 mod groups;
 mod memory;
 mod rings;
+mod sleeps;
 mod threads;

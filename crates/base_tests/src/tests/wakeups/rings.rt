@@ -1,14 +1,17 @@
 //! Rings: that each wakes whom it is for, with and without grants. No clause says so.
-ghost use Rattle.std.specs.Prelude.{◌≡◌, ◌<◌, ◌≤◌, None};
+ghost use Rattle.std.specs.Prelude.{◌≡◌, ◌≤◌, None};
 ghost use Rattle.wake_book.specs.Groups.{IsWaiterOf, StandsAsBefore, standing_of};
 
-use crate::tests::wakeups::groups::{close, next_waiter, totals};
+use crate::tests::wakeups::groups::{close, totals};
+use crate::tests::wakeups::sleeps::hold_until;
+use std::process::Abort;
 use std::sync::Wait;
 use std::sync::atomic::AtomicU64;
 use std::sync::atomic::Ordering::SeqCst;
 use std::test::Fail;
 use std::thread;
-use wake_book::{Groups, Left, NO_GRANTS, Waiter};
+use std::time::Clock;
+use wake_book::{Groups, Waiter};
 
 /// Rounds in each of which two threads sleep in one group and a third wakes both.
 const ROUNDS: u64 = 1000;
@@ -27,57 +30,6 @@ pub(crate) fn wake(groups: &Groups, waiter: &mut Waiter, nr: u32) -> u32
     grants.woken
 }
 
-/// Nudges one sleeper of each group, or rings for a grant in this group alone.
-fn ring_for(groups: &Groups, waiter: &mut Waiter, group: usize, nudges: bool)
-    requires groups { IsWaiterOf groups.now waiter.old }
-    requires within { group < 8 }
-    ensures { IsWaiterOf groups.now waiter.new }
-{
-    if nudges {
-        groups.nudge(waiter, 1);
-        return;
-    }
-    let mut grants = NO_GRANTS;
-    grants.in_group[group] = 1;
-    groups.ring(waiter, grants);
-}
-
-/// Announces a sleep in the next group, lets the other waiter ring, and sleeps. Returns how the sleeper left.
-fn ring_and_sleep<R: Wait>(
-    rt: &R,
-    groups: &Groups,
-    sleeper: &mut Waiter,
-    ringer: &mut Waiter,
-    nudges: bool,
-) -> Left
-    requires groups { IsWaiterOf groups.now sleeper.old × IsWaiterOf groups.now ringer.old }
-    requires out { standing_of sleeper.old ≡ None }
-    ensures groups { IsWaiterOf groups.now sleeper.new × IsWaiterOf groups.now ringer.new }
-    ensures out { standing_of sleeper.new ≡ None }
-{
-    let group = groups.enter(sleeper) as usize;
-    let key = groups.announce(sleeper, &());
-    ring_for(groups, ringer, group, nudges);
-    groups.sleep(rt, sleeper, key);
-    groups.leave(rt, sleeper)
-}
-
-#[test]
-fn a_ring_ends_a_sleep_that_was_announced(rt: HostRuntime) -> Result<(), Fail> {
-    let (groups, mut waiters) = Groups::open(rt.alloc(), 2)?;
-    let (Some(mut second), Some(mut first)) = (
-        next_waiter(&groups, &mut waiters),
-        next_waiter(&groups, &mut waiters),
-    ) else {
-        return Err(Fail::new("fewer than two waiters"));
-    };
-    for turn in 0..16 {
-        let left = ring_and_sleep(&rt, &groups, &mut first, &mut second, turn < 8);
-        assert!(rt; left == Left::Unwoken, "in turn {turn}");
-    }
-    Ok(())
-}
-
 /// How far the three threads have come.
 #[derive(Drop)]
 struct Tally {
@@ -89,18 +41,13 @@ struct Tally {
     rounds: AtomicU64,
 }
 
-/// Holds the caller until the count is as high as this.
-fn hold_until<R: Wait>(rt: &R, count: &AtomicU64, least: u64) {
-    for _ in rt.forever() {
-        if count.load(SeqCst) >= least {
-            return;
-        }
-        thread::yield_now();
-    }
-}
-
 /// Sleeps once in each round.
-fn sleep_in_rounds<R: Wait>(rt: &R, groups: &Groups, waiter: &mut Waiter, tally: &Tally)
+fn sleep_in_rounds<R: Abort + Clock + Wait>(
+    rt: &R,
+    groups: &Groups,
+    waiter: &mut Waiter,
+    tally: &Tally,
+)
     requires groups { IsWaiterOf groups.now waiter.old }
     requires out { standing_of waiter.old ≡ None }
     ensures { IsWaiterOf groups.now waiter.new }
@@ -117,7 +64,7 @@ fn sleep_in_rounds<R: Wait>(rt: &R, groups: &Groups, waiter: &mut Waiter, tally:
 }
 
 /// Wakes two sleepers in each round, by a nudge or by grants.
-fn wake_in_rounds<R: Wait>(
+fn wake_in_rounds<R: Abort + Clock>(
     rt: &R,
     groups: &Groups,
     waiter: &mut Waiter,
@@ -149,7 +96,7 @@ fn wake_two(groups: &Groups, waiter: &mut Waiter, nudges: bool)
     }
 }
 
-fn sleep_or_wake<R: Wait>(
+fn sleep_or_wake<R: Abort + Clock + Wait>(
     rt: &R,
     groups: &Groups,
     waiter: &mut Waiter,

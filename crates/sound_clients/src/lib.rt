@@ -1,0 +1,6 @@
+//! Clients of the library whose last lines can be reached. An edit claims of each that it cannot.
+#![tactic(auto)]
+
+pub mod over_maps;
+pub mod over_queues;
+pub mod over_tags;
