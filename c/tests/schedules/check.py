@@ -7,7 +7,7 @@ races    the same, with each access to memory as a step, for all but the largest
 true     over the library itself, as assembly for x86-64: the scenarios that are small enough, with the calls that the model lacks, and C++
 large    four threads completely, few preemptions of larger scenarios, and schedules at random: seven minutes
 mutants  plants errors, one at a time, and looks whether they are found: three minutes. `mutants NAME..` plants these
-gate     what the merge gate runs: small, races, a part of true, and an error of each kind: two minutes
+gate     what the merge gate runs: small, races, a part of true, and an error of each kind: six minutes
 
 The minutes are of one processor, and it takes up to 2 GB. --seed N makes other schedules at random. It takes gcc, g++ and binutils, on x86-64 Linux.
 """
