@@ -87,7 +87,7 @@ bool tags_library_strike(struct tags_hand *hand, bool listens)
 }
 
 /* Wakes the thread that sleeps in a place, if there is one. */
-static void ring_in(struct tags_place *place)
+static void wake_sleeper(struct tags_place *place)
 {
 	tags_add(&place->rings, 1);
 	syscall(SYS_futex, &place->rings, TAGS_FUTEX_WAKE, 1, NULL, NULL, 0);
@@ -260,7 +260,7 @@ bool tags_library_wake(struct tags_waits *waits, const struct tags_due *due)
 	uint64_t left;
 
 	for (left = due->told.sleepers; left; left &= left - 1)
-		ring_in(&bell->places[__builtin_ctzll(left)]);
+		wake_sleeper(&bell->places[__builtin_ctzll(left)]);
 	for (left = due->told.listeners; left; left &= left - 1)
 		all_know &= notify_listener(bell, &bell->places[__builtin_ctzll(left)]);
 	tell(bell, due->freed);
@@ -315,7 +315,7 @@ void tags_library_stop(struct tags_waits *waits)
 	tags_store(&bell->waits.stopped, 1);
 	pthread_mutex_unlock(&bell->lock);
 	for (uint32_t i = 0; i < bell->hands; i++) {
-		ring_in(&bell->places[i]);
+		wake_sleeper(&bell->places[i]);
 		notify_listener(bell, &bell->places[i]);
 	}
 	while (tell_first(bell))
