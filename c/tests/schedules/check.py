@@ -22,7 +22,7 @@ import mutants
 
 # These take long with each access as a step.
 TOO_LARGE_FOR_RACES = """three_of_two hider_two mixed_of_two loops_of_two loops_three loops_broken_of_two shallow_pairs resized
-    tasks_of_two hider_tasks kept_posts timed_out owes""".split()
+    tasks_of_two hider_tasks timed_out owes""".split()
 # These take seconds over the library itself, with those that need it.
 SMALL_FOR_TRUE = """sleepers again signals heir words prepared stop stop_listeners stop_timed stop_joins loop loops hider hider_loop hidden timed resizes closes
     resizes_reported closes_reported hires hires_timed hires_stop drains drains_kept drains_stop""".split()
@@ -30,7 +30,7 @@ SMALL_FOR_TRUE = """sleepers again signals heir words prepared stop stop_listene
 RACES_FOR_TRUE = "posts masks reserved robin batches resizes hires drains_stop plus_owners plus_joins plus_stop plus_waits plus_loop plus_quits".split()
 TRUE_IN_GATE = "stop hidden loops posts masks reserved robin batches resizes resizes_reported hires drains_stop plus_owners plus_joins plus_stop".split()
 # Large, but complete. The others are too large for that, and one of them for two preemptions.
-COMPLETE = "kept_three four_sleepers four_loops".split()
+COMPLETE = "kept_posts kept_three four_sleepers four_loops".split()
 ONE_PREEMPTION = ["four_ways"]
 # One for each kind of fault that is looked for.
 IN_GATE = """clear_looks_first futex_is_not_woken get_looks_only_if_it_won take_out_forgets_the_last turn_is_lost load_is_relaxed
