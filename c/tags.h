@@ -657,7 +657,7 @@ static inline int tags_detail_is_stopped(const struct tags_hand *hand)
  * @options: its options
  *
  * All tags are free and all slots are 0. The pool allocates its memory here: about
- * 8.6 kB, 83 bytes for each tag, 130 for each word, and for each hand 1.9 kB and 8
+ * 8.6 kB, 83 bytes for each tag, 130 for each word, and for each hand 1.8 kB and 8
  * bytes for each word. tags_join() allocates some 540 bytes more.
  *
  * Return: TAGS_OK. Otherwise the first of TAGS_NOT_EMPTY, TAGS_BAD_FLAG,
