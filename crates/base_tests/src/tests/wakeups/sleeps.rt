@@ -217,7 +217,7 @@ fn end_each<R: Abort + Clock>(rt: &R, groups: &Groups, waiter: &mut Waiter, tall
 }
 
 #[test]
-fn a_sleep_lasts_until_somebody_ends_it(rt: HostRuntime) -> Result<(), Fail> {
+fn threads_sleep_until_somebody_ends_it(rt: HostRuntime) -> Result<(), Fail> {
     let (groups, mut waiters) = Groups::open(rt.alloc(), 2)?;
     let (Some(mut second), Some(mut first)) = (
         next_waiter(&groups, &mut waiters),
