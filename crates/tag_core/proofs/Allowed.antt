@@ -51,12 +51,12 @@ use Rattle.tag_core.proofs.Advance.{Owed}
 use Rattle.tag_core.proofs.Moving.{moved, kept, told, posted_unheld, held_one}
 
 -- the step posts no tag
-abbrev PostsNone : {R : Type 0} → Layout → ℕ → Step R → Type 0
+abbrev pub PostsNone : {R : Type 0} → Layout → ℕ → Step R → Type 0
 PostsNone {R} l c st = (t : ℕ) → ((q : Place) → place_after l (event_of l c st) t q ≡ posted → q ≡ posted)
     × ((before : maybe.Option R) → posted_by t st before ≡ before)
 
 -- a step on a word posts none
-word_posts_none : {R : Type 0} (l : Layout) (c : ℕ) (st : WordStep) → PostsNone {R = R} l c (Word st)
+pub word_posts_none : {R : Type 0} (l : Layout) (c : ℕ) (st : WordStep) → PostsNone {R = R} l c (Word st)
 word_posts_none l c st t = ((λ q e. grind arith), λ before. refl)
 
 -- nor does one on a list
@@ -70,7 +70,7 @@ not_posted b c q e = grind arith
 module _ (R : Type 0) (k : Shape) (narrow : k.layout.shift ≤ 6) (id : ℕ) (me : Me R (View R)) (r : Record R)
     (mine : me.0 ≡ own_view r) (carries : Carries k.layout r.held me.1) where
   -- how the posted tags come about
-  abbrev Posts : (s : State R (View R)) (sh : Shown k s) → Step R → Type 0
+  abbrev pub Posts : (s : State R (View R)) (sh : Shown k s) → Step R → Type 0
   Posts s sh st = (t : ℕ) → t < k.layout.depth
       → placed k.layout (event_of k.layout r.number st) (world_of k sh.history).place t ≡ posted
       → (((world_of k sh.history).place t ≡ posted)
@@ -78,26 +78,27 @@ module _ (R : Type 0) (k : Shape) (narrow : k.layout.shift ≤ 6) (id : ℕ) (me
       ⊎ (((world_of k sh.history).place t ≡ held r.number)
       × (last_post t ((r.number, st) ∷ sh.history) ≡ value_of me.1 t))
 
-  abbrev Answer : (s : State R (View R)) → Step R → List ℕ → Type 0
+  abbrev pub Answer : (s : State R (View R)) → Step R → List ℕ → Type 0
   Answer s st words' = (w : View R) × (a : Act R) × Valid s.homes me.1 a × Shown k record
       { words = words'; homes = homes_after s.homes me.1 a; views = set s.views id w }
-      × Stepped st r me (w, carried_after me.1 a)
+      × Stepped st r me (w, carried_after me.1 a) × (length (homes_after s.homes me.1 a) ≡ length s.homes)
 
   module _ (s : State R (View R)) (sh : Shown k s) (deep : length s.homes ≡ k.layout.depth)
       (at : get_elem? s.views id ≡ some me.0) where
     here : get_elem? s.views id ≡ some (own_view r)
     here = at ∙ ap some mine
 
-    ok : IsKnown k sh.history r
+    pub ok : IsKnown k sh.history r
     ok = (sh.records id (own_view r) here 0 r refl).0
 
-    answer : (st : Step R) (words' : List ℕ) → Owed R k s sh r st words' → Posts s sh st → Answer s st words'
+    pub answer : (st : Step R) (words' : List ℕ) → Owed R k s sh r st words' → Posts s sh st → Answer s st words'
     answer st words' owed posts = let go = moved R k s sh r st words' owed ok me.1 carries deep in (
       own_view (record_after st r),
       go.act,
       go.valid,
       kept R k s sh r st words' owed ok me.1 carries deep posts id here,
       told R k s sh r st words' owed ok me.1 carries deep posts id here me refl,
+      go.long,
     )
 
   -- a step that leaves the words owes the same where one of them is set to what it is
@@ -106,7 +107,7 @@ module _ (R : Type 0) (k : Shape) (narrow : k.layout.shift ≤ 6) (id : ℕ) (me
   unchanged s sh i {st} = subst (λ (ws : List ℕ). Owed R k s sh r st ws) (sym (set-get_or s.words i 0))
 
   -- what holds of this place and this record holds of the same under other names
-  renamed : (fact : ℕ → Record R → Type 0) {i i' : ℕ} → i ≡ i' → (r' : Record R) → me.0 ≡ own_view r' → fact i r → fact i' r'
+  pub renamed : (fact : ℕ → Record R → Type 0) {i i' : ℕ} → i ≡ i' → (r' : Record R) → me.0 ≡ own_view r' → fact i r → fact i' r'
   renamed fact same r' is = subst (λ (x : ℕ × Record R). fact x.0 x.1)
       (λ j. (same j, same_record r r' (sym mine ∙ is) j))
 
@@ -114,7 +115,7 @@ module _ (R : Type 0) (k : Shape) (narrow : k.layout.shift ≤ 6) (id : ℕ) (me
   G s sh = (world_of k sh.history).place
 
   -- what a look finds of the tags that are held
-  found_held : (s : State R (View R)) (sh : Shown k s) → IsKnown k sh.history r → (i : ℕ)
+  pub found_held : (s : State R (View R)) (sh : Shown k s) → IsKnown k sh.history r → (i : ℕ)
       → FindsHeld r i (get_or s.words (word_at i) 0) 1 × FindsHeld r i (get_or s.words (aside_at i) 0) 0
   found_held s sh o i = let same : k.layout ≡ r.shape.layout = ap (λ (z : Shape). z.layout) (sym o.shape) in
       subst (λ (z : Layout).

@@ -147,6 +147,17 @@ module _ {R : Type 0} (m : Map R) (old new : Caller R) (own : IsCallerOf m old) 
   adds_two_keeps first second adds is = keeps_all old new low (ap (λ (r : Record R). r.shape) adds.known) adds.slots
       (ap (λ (r : Record R). r.held) adds.known ∙ is)
 
+  -- steps that bring one tag into it
+  pub brings_one : new.shape.value ≡ old.shape.value
+      → ((tag : ℕ) → Holds old tag → Holds new tag → slot_of new tag ≡ slot_of old tag) → (u : ℕ)
+      → u < l.depth → ¬ (Holds old u)
+      → new.held.items ≡ joined old.held.items (word_of l u) (2 ^ place_of l u) → Acquires (λ t. t ≡ u) old new
+  brings_one same slots u below fresh is = acquired_as old new (IsInMask l (word_of l u) (2 ^ place_of l u)) (λ t. t ≡ u)
+      (alone_named old.shape.value low u) (named_alone old.shape.value low u)
+      (acquires old new low same slots (word_of l u) (2 ^ place_of l u) (word_of-below l u below)
+      (λ t named. subst (λ (z : ℕ). ¬ (Holds old z)) (sym (alone_named old.shape.value low u t named)) fresh)
+      (λ t named. subst (λ (z : ℕ). z < l.depth) (sym (alone_named old.shape.value low u t named)) below) is)
+
   -- a step that takes one tag out of it
   module _ (st : Step R) (adds : Adds st old new) (u : ℕ) where
     abbrev one_tag : Layout → ℕ → Type 0
@@ -164,10 +175,4 @@ module _ {R : Type 0} (m : Map R) (old new : Caller R) (own : IsCallerOf m old) 
     pub adds_acquires_one : u < l.depth → ¬ (Holds old u)
         → held_after l st old.held.items ≡ joined old.held.items (word_of l u) (2 ^ place_of l u)
         → Acquires (λ t. t ≡ u) old new
-    adds_acquires_one below fresh is = acquired_as old new (one_tag l) (λ t. t ≡ u) (alone_named old.shape.value low u)
-        (named_alone old.shape.value low u) (acquires old new low (shape st adds) adds.slots (word_of l u)
-        (2 ^ place_of l u)
-        (word_of-below l u below) (λ t named. subst (λ (z : ℕ). ¬ (Holds old z))
-        (sym (alone_named old.shape.value low u t named)) fresh)
-        (λ t named. subst (λ (z : ℕ). z < l.depth) (sym (alone_named old.shape.value low u t named)) below)
-        (held st adds ∙ is))
+    adds_acquires_one below fresh is = brings_one (shape st adds) adds.slots u below fresh (held st adds ∙ is)

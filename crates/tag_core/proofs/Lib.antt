@@ -13,8 +13,10 @@ pub mod Listing
 pub mod Acts
 pub mod Moving
 pub mod Allowed
+pub mod Keepings
 pub mod Passing
 pub mod Asking
+pub mod KeptRecords
 pub mod Marking
 pub mod InFront
 pub mod Sweepings
@@ -34,6 +36,7 @@ pub mod Reopenings
 pub mod Showings
 pub mod Holdings
 pub mod OneWord
+pub mod OnePlace
 pub mod Numbers
 pub mod FewCallers
 pub mod Ticking

@@ -2,11 +2,11 @@
 use Rattle.std.proofs.Common.{◌≡◌, ℕ, zero, suc, ◌+◌, ◌-◌, ◌*◌, ◌/◌, ◌%◌, ◌^◌, ◌<◌, ◌≤◌, min, max, bit_and, bit_or, arith, ap, ◌∙◌}
 use Rattle.std.specs.Int.{bit_at, w64}
 use Rattle.std.proofs.lemmas.Nat.Bits.{bit_at_and, bit_at_or, bit_at_not, bit_at-lt, bit_at-zero, bit_at-pow_other, and_pow, same_from_bits_below}
-use lib.Count.{ones_step}
+use lib.Count.{ones, ones_step}
 use lib.Bits.{and_step}
 use Rattle.std.proofs.Common.{count_ones}
 use Rattle.std.proofs.Math.Nat.{one-mul}
-use Rattle.std.proofs.lemmas.Nat.{and_le_l, ones-le, or_disjoint, or_lt, pow_below}
+use Rattle.std.proofs.lemmas.Nat.{and_le_l, ones-le, ones_cat, or_disjoint, or_lt, pow_below, pow_pos}
 use Rattle.tag_core.specs.Steps.{without}
 
 -- a clear bit is set by adding it
@@ -46,6 +46,11 @@ take_bit n b fits low one = let few = pow_below b 64 low in
   where
     among : (at : ℕ) → bit_at (2 ^ b) at ≡ 1 → bit_at n at ≡ 1
     among at here = grind (arith, bit_at-pow_other)
+
+-- a single bit is one
+pub ones_pow : (k : ℕ) → count_ones (2 ^ k) ≡ 1
+unfolding ones
+ones_pow k = let e : 2 ^ k ≡ 1 * 2 ^ k + 0 = omega arith in ap count_ones e ∙ ones_cat k 1 0 (pow_pos k)
 
 fewer : (d m x : ℕ) → m ≤ d → count_ones (bit_and m x) ≤ count_ones m
 fewer zero m x h = omega (arith, ones-le 0 (bit_and m x) (omega (arith, and_le_l m x)))

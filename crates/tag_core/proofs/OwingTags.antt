@@ -1,5 +1,5 @@
 -- What steps on one tag and sweeps owe.
-use Rattle.std.proofs.Common.{◌≡◌, Some, ℕ, suc, ◌-◌, ◌/◌, ◌%◌, ◌+◌, ◌^◌, ◌<◌, ◌≤◌, length, get_or, set, cond, nat_eq, bit_or, min, max, arith, refl, sym, ap, ◌∙◌, subst}
+use Rattle.std.proofs.Common.{◌≡◌, Some, ℕ, suc, ◌-◌, ◌/◌, ◌%◌, ◌+◌, ◌^◌, ◌<◌, ◌≤◌, length, count_ones, get_or, set, cond, nat_eq, bit_or, min, max, arith, refl, sym, ap, ◌∙◌, subst}
 use mathlib.Core.Option.{some}
 use Rattle.std.specs.Int.{bit_at}
 use Rattle.std.proofs.lemmas.Nat.{pow_pos, or_lt}
@@ -8,12 +8,12 @@ use Rattle.tag_core.specs.Views.{View}
 use Rattle.tag_layout.specs.Layout.{words, word_depth, word_of, place_of}
 use Rattle.tag_layout.proofs.PlaceFacts.{word_of-below}
 use Rattle.tag_model.specs.declared.place.Place.{Place}
-use Rattle.tag_model.specs.declared.place.Place.TheVariants.{Held as held, Posted as posted, Aside as aside}
+use Rattle.tag_model.specs.declared.place.Place.TheVariants.{Held as held, Posted as posted, Aside as aside, Sweep as sweep}
 use Rattle.tag_model.specs.declared.world.TheConstants.{MOST_WON}
 use Rattle.tag_model.specs.World.{World}
 use Rattle.tag_core.specs.declared.shape.Shape.{Shape}
 use Rattle.tag_core.specs.declared.step.Step.TheVariants.{Word, Post, Take}
-use Rattle.tag_core.specs.declared.word_step.WordStep.TheVariants.{Put, Swap, Spill}
+use Rattle.tag_core.specs.declared.word_step.WordStep.TheVariants.{Put, Swap, Keep, Spill}
 use Rattle.tag_core.specs.declared.record.Record.{Record}
 use Rattle.tag_core.specs.Steps.{changed_at, without}
 use Rattle.tag_core.specs.Spacing.{word_at, aside_at, state_at}
@@ -21,12 +21,12 @@ use Rattle.tag_core.specs.Bits.{word_bit, aside_bit, posted_bit, held_bit, sweep
 use Rattle.tag_core.specs.Histories.{Cells, cells_of, world_of, last_post}
 use Rattle.tag_core.specs.Records.{tag_bit}
 use Rattle.tag_core.specs.Rule.{IsKnown, Shown}
-use Rattle.tag_core.proofs.Picks.{only, only_one, pick_only, pick_swept, pick_spilled}
-use Rattle.tag_core.proofs.Turns.{puts, posts, takes, gathers, spills, posted_small, posted_from, aside_small, sweep_small, reshow, held_from}
+use Rattle.tag_core.proofs.Picks.{only, only_one, among, among_one, pick_among, pick_only, pick_swept, pick_spilled}
+use Rattle.tag_core.proofs.Turns.{puts, posts, takes, gathers, keeps, spills, posted_small, posted_from, aside_small, sweep_small, reshow, held_from, swept_from}
 use Rattle.tag_core.proofs.Masks.{minus_le}
 use Rattle.tag_core.proofs.Stand.{bit_tag, tag_mask_within}
 use Rattle.tag_core.proofs.Advance.{Owed}
-use Rattle.tag_core.proofs.TagBits.{or_bit, minus_bit, list_bit, only_among, tag_mask, only_small, only_is, among_as, none_left, tag_named}
+use Rattle.tag_core.proofs.TagBits.{or_bit, minus_bit, list_bit, only_among, tag_mask, only_small, only_is, among_as, among_small, none_left, tag_named}
 use Rattle.tag_core.proofs.Owing.{word_cells, aside_cells, state_cells, none_more, held_or, held_minus}
 
 -- a tag's state once one tag is posted
@@ -191,6 +191,40 @@ module _ (R : Type 0) (k : Shape) (narrow : k.layout.shift ≤ 6) (s : State R (
             ∙ sym tag.aside) z))
             ∙ or_bit k narrow (λ j. get_or r.swept j 0) i f t ∙ list_bit k narrow r.swept i _ t (swept_long i inside));
       }
+
+  -- the sweep with fewer bits of one word
+  swept_minus : (i m t : ℕ) → i < words k.layout → t < k.layout.depth → m < 2 ^ 64
+      → min (sweep_bit r.number (now_world.place t)) (1 - among k.layout.shift i m t) ≡ tag_bit k.layout
+      (set r.swept i (without (get_or r.swept i 0) m)) t
+  swept_minus i m t h l fits = ap (λ (z : ℕ). min z (1 - among k.layout.shift i m t)) (ok.swept t l)
+      ∙ minus_bit k narrow (λ j. get_or r.swept j 0) i m t fits
+      ∙ list_bit k narrow r.swept i _ t (swept_long i h)
+
+  module _ (i m : ℕ) (inside : i < words k.layout) (low : m < 2 ^ word_depth k.layout i) (fits : m < 2 ^ 64)
+      (room : r.won + count_ones m ≤ MOST_WON)
+      (has : (t : ℕ) → t < k.layout.depth → among k.layout.shift i m t ≡ 1 → tag_bit k.layout r.swept t ≡ 1) where
+    -- a swept tag of the mask
+    is_swept : (t : ℕ) → t < k.layout.depth → among k.layout.shift i m t ≡ 1 → now_world.place t ≡ sweep r.number
+    is_swept t l a = swept_from r.number (now_world.place t) (ok.swept t l ∙ has t l a)
+
+    -- what is kept of a sweep
+    pub keep_owed : Owed R k s sh r (Word (Keep i m)) s.words
+    keep_owed = record {
+      finds = tt;
+      own = tt;
+      value = tt;
+      needs = record {
+        in_layout = (inside, low);
+        caller = ok.number;
+        unspent = (let w : r.won ≡ now_world.won r.number = ok.won in omega arith);
+        places = λ t l named. is_swept t l (among_one k.layout i m t named);
+      };
+      cells = sh.cells;
+      tags = λ t l. let tag = sh.tags t l in let q : Place = now_world.place t in
+          reshow (keeps r.number q (among k.layout.shift i m t) (among_small k narrow i m t) (is_swept t l))
+          (pick_among k.layout i m t (held r.number) q) tag.word tag.aside tag.posted
+          (held_or R k narrow s sh r ok i m t inside l) (swept_minus i m t inside l fits);
+    }
 
   -- what was swept is taken
   pub swept_taken : (i : ℕ) → i < words k.layout → (b : ℕ) → bit_at (get_or r.swept i 0) b ≡ 1

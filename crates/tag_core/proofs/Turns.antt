@@ -45,6 +45,10 @@ posted_from q e = grind arith
 pub held_from : (c : ℕ) (q : Place) → held_bit c q ≡ 1 → q ≡ held c
 held_from c q e = grind (arith, ne_eqb)
 
+-- a tag whose bit in a caller's sweep is 1 was swept by that caller
+pub swept_from : (c : ℕ) (q : Place) → sweep_bit c q ≡ 1 → q ≡ sweep c
+swept_from c q e = grind (arith, ne_eqb)
+
 -- What a place shows after a move from q to p, by the caller c: the word's bit, the cleared bit, the state,
 -- and the bits of c's held and swept masks
 pub record Shows (c : ℕ) (q p : Place) (w a s h v : ℕ) : Type 0 where
@@ -99,6 +103,12 @@ pub gathers : (c : ℕ) (q : Place) (x : ℕ) → x < 2 →
     Shows c q (pick x (pick (aside_bit q) (sweep c) q) q) (word_bit q) (min (aside_bit q) (1 - x)) (posted_bit q)
     (held_bit c q) (max (sweep_bit c q) (min x (aside_bit q)))
 gathers c q x h = grind (arith, bits)
+
+-- a swept tag is kept
+pub keeps : (c : ℕ) (q : Place) (x : ℕ) → x < 2 → (x ≡ 1 → q ≡ sweep c)
+    → Shows c q (pick x (held c) q) (word_bit q) (aside_bit q) (posted_bit q)
+    (max (held_bit c q) x) (min (sweep_bit c q) (1 - x))
+keeps c q x h mine = grind (arith, bits)
 
 -- the sweep is freed
 pub spills : (c : ℕ) (q : Place) (x : ℕ) → x < 2 →

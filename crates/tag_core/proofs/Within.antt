@@ -32,4 +32,4 @@ module _ (l : Layout) where
   pub sweeps_within : {R : Type 0} (st : Step R) (c : Cells) → FindsIn st c
       → ((i : ℕ) → i < words l → IsWithin l i (c.words.aside i)) → (m : List ℕ) → length m ≡ words l
       → AllWithin m → AllWithin (swept_after st m)
-  sweeps_within st c finds aside m long fits = grind (arith, set_within, or_lt, pow_pos)
+  sweeps_within st c finds aside m long fits = grind (arith, set_within, parted_within, or_lt, pow_pos)

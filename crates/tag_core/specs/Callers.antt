@@ -72,3 +72,9 @@ pub record AddsTwo {R : Type 0} (first second : Step R) (old new : Caller R) : T
   pub known : record_of new ≡ record_after second (record_after first (record_of old))
   pub slots : (tag : ℕ) → Holds old tag → Holds new tag → slot_of new tag ≡ slot_of old tag
   pub same_map : SameMap old new
+
+-- three steps join the list, one after the other
+pub record AddsThree {R : Type 0} (first second third : Step R) (old new : Caller R) : Type 0 where
+  pub known : record_of new ≡ record_after third (record_after second (record_after first (record_of old)))
+  pub slots : (tag : ℕ) → Holds old tag → Holds new tag → slot_of new tag ≡ slot_of old tag
+  pub same_map : SameMap old new

@@ -13,7 +13,7 @@ use Rattle.tag_core.specs.declared.shape.Shape.{Shape}
 use Rattle.tag_core.specs.declared.step.Step.{Step}
 use Rattle.tag_core.specs.declared.step.Step.TheVariants.{Word, Post, Take, Bell}
 use Rattle.tag_core.specs.declared.word_step.WordStep.{WordStep}
-use Rattle.tag_core.specs.declared.word_step.WordStep.TheVariants.{Look, LookAside, Claimed, Give, Put, Swap, Spill}
+use Rattle.tag_core.specs.declared.word_step.WordStep.TheVariants.{Look, LookAside, Claimed, Give, Put, Swap, Keep, Spill}
 use Rattle.tag_core.specs.Steps.{Words, changed_at, without, Finds, words_after}
 use Rattle.tag_core.specs.Lists.{FindsListed, lists_after, IsBy}
 
@@ -50,6 +50,7 @@ event_of_word l caller (Claimed i mask found) = event.Win caller i (without mask
 event_of_word l caller (Give i mask found) = event.Give caller i mask
 event_of_word l caller (Put i mask found) = event.Put caller (tag_at l i (trailing_zeros w64 mask))
 event_of_word l caller (Swap i found) = event.Sweep caller i
+event_of_word l caller (Keep i mask) = event.Keep caller i mask
 event_of_word l caller (Spill i mask found) = event.Spill caller i
 
 -- what the caller's step changes of the world

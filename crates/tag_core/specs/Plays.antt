@@ -14,8 +14,9 @@ use Rattle.tag_model.specs.Event.{back_by}
 use Rattle.tag_core.specs.declared.step.Step.{Step}
 use Rattle.tag_core.specs.declared.step.Step.TheVariants.{Word, Post, Take, Bell}
 use Rattle.tag_core.specs.declared.bell_step.BellStep.TheVariants.{Enlist, Sight, Tell, GetUp}
-use Rattle.tag_core.specs.declared.word_step.WordStep.TheVariants.{Look, LookAside, Claimed, Give, Put, Swap, Spill}
+use Rattle.tag_core.specs.declared.word_step.WordStep.TheVariants.{Look, LookAside, Claimed, Give, Put, Swap, Keep, Spill}
 use Rattle.tag_core.specs.declared.record.Record.{Record}
+use Rattle.tag_core.specs.Steps.{least_bit}
 use Rattle.tag_core.specs.Spacing.{list_at, word_at, aside_at, state_at}
 use Rattle.tag_core.specs.Histories.{event_of}
 use Rattle.tag_core.specs.Records.{record_after, held_after, tag_bit, value_of, tags_from, but, Carries}
@@ -73,6 +74,14 @@ module _ {R : Type 0} (st : table.Step R) (me : Me R (View R)) (found : ℕ) (me
   -- a swap of a cleared set with 0
   abbrev pub swapped : Type 0
   swapped = (i : ℕ) (r : Record R) → st.word ≡ aside_at i → me.0 ≡ own_view r → Stepped (Word (Swap i found)) r me me'
+
+  -- a swap of a cleared set with 0, of which the caller keeps the least tag, if anything was aside
+  abbrev pub kept_least : Type 0
+  kept_least =
+      (i : ℕ) (r : Record R) → st.word ≡ aside_at i → me.0 ≡ own_view r
+      → FindsHeld r i found 0 × (found ≡ 0 → Stepped (Word (Swap i 0)) r me me')
+      × (found ≢ 0 → (mid : Me R (View R)) × Stepped (Word (Swap i found)) r me mid
+      × Stepped (Word (Keep i (least_bit found))) (record_after (Word (Swap i found)) r) mid me')
 
   -- a word less what the caller swept
   abbrev pub spilled : Type 0

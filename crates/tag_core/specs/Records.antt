@@ -9,7 +9,7 @@ use Rattle.tag_core.specs.declared.shape.Shape.{Shape}
 use Rattle.tag_core.specs.declared.step.Step.{Step}
 use Rattle.tag_core.specs.declared.step.Step.TheVariants.{Word, Post, Take, Bell}
 use Rattle.tag_core.specs.declared.word_step.WordStep.{WordStep}
-use Rattle.tag_core.specs.declared.word_step.WordStep.TheVariants.{Look, LookAside, Claimed, Give, Put, Swap, Spill}
+use Rattle.tag_core.specs.declared.word_step.WordStep.TheVariants.{Look, LookAside, Claimed, Give, Put, Swap, Keep, Spill}
 use Rattle.tag_core.specs.declared.record.Record.{Record}
 use Rattle.tag_core.specs.Steps.{without}
 use Rattle.tag_core.specs.Histories.{event_of}
@@ -30,6 +30,7 @@ held_after_word (Claimed i mask found) held = joined held i (without mask found)
 held_after_word (Give i mask found) held = parted held i mask
 held_after_word (Put i mask found) held = parted held i mask
 held_after_word (Swap i found) held = held
+held_after_word (Keep i mask) held = joined held i mask
 held_after_word (Spill i mask found) held = held
 
 -- the held set after the caller's step, one mask for each word
@@ -43,6 +44,7 @@ held_after l (Bell step) held = held
 -- the sweep after a step on a word
 abbrev pub swept_after_word : WordStep → List ℕ → List ℕ
 swept_after_word (Swap i found) swept = joined swept i found
+swept_after_word (Keep i mask) swept = parted swept i mask
 swept_after_word (Spill i mask found) swept = slice_set swept i 0
 swept_after_word _ swept = swept
 

@@ -1,7 +1,8 @@
 -- What a step on the words of a map finds, and what it leaves.
 use Rattle.std.specs.Prelude.{◌≡◌, ℕ, ◌-◌, ◌^◌, List, [], ◌∷◌, cond, nat_eq, bit_and, bit_or}
+use Rattle.std.specs.Int.{trailing_zeros, w64}
 use Rattle.tag_core.specs.declared.word_step.WordStep.{WordStep}
-use Rattle.tag_core.specs.declared.word_step.WordStep.TheVariants.{Look, LookAside, Claimed, Give, Put, Swap, Spill}
+use Rattle.tag_core.specs.declared.word_step.WordStep.TheVariants.{Look, LookAside, Claimed, Give, Put, Swap, Keep, Spill}
 
 -- each word by its index, and each word's cleared set: 1 is taken, and 1 is set aside
 pub record Words : Type 0 where
@@ -16,6 +17,10 @@ changed_at f at value i = cond (nat_eq i at) value (f i)
 abbrev pub without : ℕ → ℕ → ℕ
 without word mask = bit_and word (2 ^ 64 - 1 - mask)
 
+-- the lowest bit of a mask that is not 0
+abbrev pub least_bit : ℕ → ℕ
+least_bit mask = 2 ^ trailing_zeros w64 mask
+
 -- the step found what stands there
 abbrev pub Finds : WordStep → Words → Type 0
 Finds (Look i found) w = found ≡ w.word i
@@ -24,6 +29,7 @@ Finds (Claimed i mask found) w = found ≡ w.word i
 Finds (Give i mask found) w = found ≡ w.word i
 Finds (Put i mask found) w = found ≡ w.aside i
 Finds (Swap i found) w = found ≡ w.aside i
+Finds (Keep i mask) w = Unit {0}
 Finds (Spill i mask found) w = found ≡ w.word i
 
 -- the words after the step
@@ -34,6 +40,7 @@ words_after (Claimed i mask found) w = record w { word = changed_at w.word i (bi
 words_after (Give i mask found) w = record w { word = changed_at w.word i (without (w.word i) mask) }
 words_after (Put i mask found) w = record w { aside = changed_at w.aside i (bit_or (w.aside i) mask) }
 words_after (Swap i found) w = record w { aside = changed_at w.aside i 0 }
+words_after (Keep i mask) w = w
 words_after (Spill i mask found) w = record w { word = changed_at w.word i (without (w.word i) mask) }
 
 -- the words after a list of steps, the oldest first

@@ -11,6 +11,7 @@ ghost use Rattle.tag_core.specs.declared.bell_step.BellStep.TheVariants.{Enlist,
 use crate::caller::Caller;
 use crate::map::Map;
 use crate::plays::{Enlisting, GettingUp, Sighting, Telling, Turning};
+use crate::sleeps::TURN;
 use crate::spots::{clock_spot, list_spot, turn_spot};
 
 /// Number of lists of the callers that wait: one of those that sleep, and one of those that are told by other means.
@@ -93,7 +94,7 @@ impl<R> Map<R> {
         ensures unchanged { IsUnchanged caller.old caller.new }
     {
         let table = &self.table.shared;
-        let turn = table.fetch_add::<Turning>(&mut caller.seat, clock_spot(), 1);
+        let turn = table.fetch_add::<Turning>(&mut caller.seat, clock_spot(), TURN);
         table.store::<Turning>(&mut caller.seat, turn_spot(caller.number), turn);
     }
 

@@ -1,10 +1,11 @@
 //! Claims: how tags are won.
-ghost use Rattle.std.specs.Prelude.{◌≡◌, ℕ, ◌+◌, ◌<◌, ◌≤◌, ◌↔◌, count_ones, IfOk, IsErr, OnErr, IsTrue};
+ghost use Rattle.std.specs.Prelude.{◌≡◌, ℕ, ◌+◌, ◌<◌, ◌≤◌, ◌↔◌, count_ones, IfOk, IfErr, IsErr, OnErr, IsTrue};
 ghost use Rattle.std.specs.Int.{bit_at};
-ghost use Rattle.tag_layout.specs.Layout.{words, word_of, place_of, IsWithin};
+ghost use Rattle.tag_layout.specs.Layout.{words, word_depth, word_of, place_of, tag_at, IsWithin};
 ghost use Rattle.tag_core.specs.Steps.{without};
 ghost use Rattle.tag_core.specs.Callers.{layout_of, IsCallerOf, record_of, Holds, Adds};
-ghost use Rattle.tag_core.specs.Holdings.{IsInMask, Acquires};
+ghost use Rattle.tag_core.specs.Claims.{ClaimsPlace};
+ghost use Rattle.tag_core.specs.Holdings.{IsInMask, Acquires, KeepsAll};
 ghost use Rattle.tag_core.specs.declared.step.Step.TheVariants.{Word};
 ghost use Rattle.tag_core.specs.declared.word_step.WordStep.TheVariants.{Claimed};
 
@@ -41,6 +42,34 @@ impl<R> Map<R> {
         caller.held[word as usize] = held;
         caller.won += won.count_ones() as u64;
         Ok(Claim { won, found })
+    }
+
+    /// Claims one place, for which there is room in the caller's life. `Ok`: the place was clear, and the caller now holds
+    /// its tag. `Err`: it was taken; returns the word as the claim found it. One step, `fetch_or`.
+    #[inline(always)]
+    pub fn claim_one(&self, caller: &mut Caller<R>, word: u32, place: u32) -> Result<(), u64>
+        requires caller { IsCallerOf self.now caller.old }
+        requires within { (word < words (layout_of self.now)) × (place < word_depth (layout_of self.now) word) }
+        requires room { (record_of caller.old).won + 1 ≤ (record_of caller.old).shape.life }
+        ensures caller { IsCallerOf self.now caller.new }
+        ensures won { IfOk result (λ _. (found : ℕ) × (bit_at found place ≡ 0)
+            × ClaimsPlace (layout_of self.now) word place found caller.old caller.new) }
+        ensures acquired { IfOk result (λ _.
+            Acquires (λ t. t ≡ tag_at (layout_of self.now) word place) caller.old caller.new) }
+        ensures lost { IfErr result (λ found. (bit_at found place ≡ 1)
+            × ClaimsPlace (layout_of self.now) word place found caller.old caller.new) }
+        ensures kept { OnErr result (KeepsAll caller.old caller.new) }
+    {
+        let table = &self.table.shared;
+        let bit = 1u64 << place;
+        let found = table.fetch_or::<Claiming>(&mut caller.seat, word_spot(word), bit);
+        if found & bit != 0 {
+            return Err(found);
+        }
+        let held = caller.held[word as usize] | bit;
+        caller.held[word as usize] = held;
+        caller.won += 1;
+        Ok(())
     }
 }
 

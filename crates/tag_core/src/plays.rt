@@ -1,7 +1,7 @@
 //! What each kind of step tells. These types are for the proofs alone.
 ghost use Rattle.std.specs.Prelude.{[]};
 ghost use Rattle.step_ledger.specs.Views.{viewing, first_view, other_views, both_views};
-ghost use Rattle.tag_core.specs.Plays.{looked, looked_aside, claimed, gave, put_aside, swapped, spilled, posted, took, enlisted, sighted, told, got_up, turned, fronted, ordered, counted, met, settled};
+ghost use Rattle.tag_core.specs.Plays.{looked, looked_aside, claimed, gave, put_aside, swapped, kept_least, spilled, posted, took, enlisted, sighted, told, got_up, turned, fronted, ordered, counted, met, settled};
 
 use crate::record::View;
 use atomic_table::{Join, Play, Split};
@@ -41,6 +41,12 @@ pub(crate) struct Swapping;
 
 impl<R> Play<R, View<R>> for Swapping {
     ghost then = { swapped };
+}
+
+pub(crate) struct Keeping;
+
+impl<R> Play<R, View<R>> for Keeping {
+    ghost then = { kept_least };
 }
 
 pub(crate) struct Spilling;

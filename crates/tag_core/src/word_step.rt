@@ -15,6 +15,8 @@ pub enum WordStep {
     Put(u32, u64, u64),
     /// The cleared set is emptied, and its tags are the sweeper's.
     Swap(u32, u64),
+    /// The tags of the mask, which the caller swept, stay with it. It is made with a swap, and changes no word.
+    Keep(u32, u64),
     /// The bits of the mask are cleared in the word: tags that the caller swept.
     Spill(u32, u64, u64),
 }

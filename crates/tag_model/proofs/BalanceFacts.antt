@@ -6,7 +6,7 @@ use Rattle.tag_layout.specs.Layout.{Layout}
 use Rattle.tag_model.specs.declared.place.Place.{Place}
 use Rattle.tag_model.specs.declared.place.Place.TheVariants.{Free, Held, Posted, Aside}
 use Rattle.tag_model.specs.declared.event.Event.{Event}
-use Rattle.tag_model.specs.declared.event.Event.TheVariants.{Look, Win, Put, Give, Sweep, Spill, Post, Take}
+use Rattle.tag_model.specs.declared.event.Event.TheVariants.{Look, Win, Put, Give, Sweep, Keep, Spill, Post, Take}
 use Rattle.tag_model.specs.Event.{caller_of, is_in_mask, names, swept_by, spilled_by, won_by, back_by}
 use Rattle.tag_model.specs.World.{World, opened, place_after, plus_at, after, MayHappen}
 use Rattle.tag_model.specs.Runs.{after_all, MayRun, after_history, IsHistory}
@@ -85,6 +85,12 @@ module _ (l : Layout) where
         (λ t. out (w.place t)) l.depth
         (λ t h. stays (names l (Sweep caller word) t) (w.place t) (swept_by caller (w.place t))
         (λ named. out-swept caller (w.place t))) in omega arith
+    outs-after (Keep caller word mask) may =
+        let more = sum_below-add (λ t. out (place_after l (Keep caller word mask) t (w.place t))) (λ t. out (w.place t))
+        (λ t. one_if (is_in_mask l word mask t)) l.depth
+        (λ t h. comes (is_in_mask l word mask t) (w.place t) (Held caller)
+        (λ named. ap out (may.places t h named)) refl) in
+        let size = sum_below-mask l word mask may.in_layout.0 may.in_layout.1 in omega arith
     outs-after (Spill caller word) may =
         let same = sum_below-same (λ t. out (place_after l (Spill caller word) t (w.place t)))
         (λ t. out (w.place t)) l.depth

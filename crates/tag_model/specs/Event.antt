@@ -5,7 +5,7 @@ use Rattle.tag_layout.specs.Layout.{Layout, words, word_of, place_of, IsWithin}
 use Rattle.tag_model.specs.declared.place.Place.{Place}
 use Rattle.tag_model.specs.declared.place.Place.TheVariants.{Free, Held, Posted, Aside, Sweep as Swept}
 use Rattle.tag_model.specs.declared.event.Event.{Event}
-use Rattle.tag_model.specs.declared.event.Event.TheVariants.{Look, Win, Put, Give, Sweep, Spill, Post, Take}
+use Rattle.tag_model.specs.declared.event.Event.TheVariants.{Look, Win, Put, Give, Sweep, Keep, Spill, Post, Take}
 
 -- who makes the event; a look is anybody's, so the first caller's
 abbrev pub caller_of : Event → ℕ
@@ -14,6 +14,7 @@ caller_of (Win caller word mask) = caller
 caller_of (Put caller tag) = caller
 caller_of (Give caller word mask) = caller
 caller_of (Sweep caller word) = caller
+caller_of (Keep caller word mask) = caller
 caller_of (Spill caller word) = caller
 caller_of (Post caller tag) = caller
 caller_of (Take caller tag) = caller
@@ -29,6 +30,7 @@ names l (Win caller word mask) t = is_in_mask l word mask t
 names l (Put caller tag) t = t == tag
 names l (Give caller word mask) t = is_in_mask l word mask t
 names l (Sweep caller word) t = word_of l t == word
+names l (Keep caller word mask) t = is_in_mask l word mask t
 names l (Spill caller word) t = word_of l t == word
 names l (Post caller tag) t = t == tag
 names l (Take caller tag) t = t == tag
@@ -40,6 +42,7 @@ IsInLayout l (Win caller word mask) = (word < words l) × IsWithin l word mask
 IsInLayout l (Put caller tag) = tag < l.depth
 IsInLayout l (Give caller word mask) = (word < words l) × IsWithin l word mask
 IsInLayout l (Sweep caller word) = word < words l
+IsInLayout l (Keep caller word mask) = (word < words l) × IsWithin l word mask
 IsInLayout l (Spill caller word) = word < words l
 IsInLayout l (Post caller tag) = tag < l.depth
 IsInLayout l (Take caller tag) = tag < l.depth
@@ -51,6 +54,7 @@ Needs (Win caller word mask) place = place ≡ Free
 Needs (Put caller tag) place = place ≡ Held caller
 Needs (Give caller word mask) place = place ≡ Held caller
 Needs (Sweep caller word) place = Unit {0}
+Needs (Keep caller word mask) place = place ≡ Swept caller
 Needs (Spill caller word) place = Unit {0}
 Needs (Post caller tag) place = place ≡ Held caller
 Needs (Take caller tag) place = place ≡ Posted
@@ -78,6 +82,7 @@ brings (Win caller word mask) place = Held caller
 brings (Put caller tag) place = Aside
 brings (Give caller word mask) place = Free
 brings (Sweep caller word) place = swept_by caller place
+brings (Keep caller word mask) place = Held caller
 brings (Spill caller word) place = spilled_by caller place
 brings (Post caller tag) place = Posted
 brings (Take caller tag) place = Held caller
@@ -85,6 +90,7 @@ brings (Take caller tag) place = Held caller
 -- how many tags the event's caller wins by it
 abbrev pub won_by : Event → ℕ
 won_by (Win caller word mask) = count_ones mask
+won_by (Keep caller word mask) = count_ones mask
 won_by _ = 0
 
 -- how many tags the event's caller gives back by it

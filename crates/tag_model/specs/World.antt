@@ -4,9 +4,9 @@ use Rattle.tag_layout.specs.Layout.{Layout}
 use Rattle.tag_model.specs.declared.place.Place.{Place}
 use Rattle.tag_model.specs.declared.place.Place.TheVariants.{Free}
 use Rattle.tag_model.specs.declared.event.Event.{Event}
-use Rattle.tag_model.specs.declared.event.Event.TheVariants.{Win, Take}
+use Rattle.tag_model.specs.declared.event.Event.TheVariants.{Win, Keep, Take}
 use Rattle.tag_model.specs.declared.event.EventFault.{EventFault}
-use Rattle.tag_model.specs.declared.event.EventFault.TheVariants.{NoSuchTag, NoSuchCaller, Spent, NotFree, NotHeld, NotPosted}
+use Rattle.tag_model.specs.declared.event.EventFault.TheVariants.{NoSuchTag, NoSuchCaller, Spent, NotFree, NotHeld, NotPosted, NotSwept}
 use Rattle.tag_model.specs.declared.world.TheConstants.{MOST_WON}
 use Rattle.tag_model.specs.Event.{caller_of, names, IsInLayout, Needs, brings, won_by, back_by}
 
@@ -51,6 +51,7 @@ Misses l w event = (tag : ℕ) × (tag < l.depth) × IsTrue (names l event tag) 
 abbrev pub missing_of : Event → EventFault
 missing_of (Win caller word mask) = NotFree
 missing_of (Take caller tag) = NotPosted
+missing_of (Keep caller word mask) = NotSwept
 missing_of _ = NotHeld
 
 -- nothing is wrong with the event but where the tags are that it names
@@ -68,3 +69,4 @@ IsFirstFault l callers w event Spent = IsInLayout l event × (caller_of event < 
 IsFirstFault l callers w event NotFree = IsMisplaced l callers w event × (missing_of event ≡ NotFree)
 IsFirstFault l callers w event NotHeld = IsMisplaced l callers w event × (missing_of event ≡ NotHeld)
 IsFirstFault l callers w event NotPosted = IsMisplaced l callers w event × (missing_of event ≡ NotPosted)
+IsFirstFault l callers w event NotSwept = IsMisplaced l callers w event × (missing_of event ≡ NotSwept)

@@ -22,6 +22,8 @@ pub enum Event {
     Give(u32, u32, u64),
     /// The caller takes what is aside in a word.
     Sweep(u32, u32),
+    /// The caller keeps tags that it swept of a word: those whose bits are 1 in the mask.
+    Keep(u32, u32, u64),
     /// The caller frees what it swept of a word.
     Spill(u32, u32),
     /// The caller posts a tag that it holds.
@@ -45,6 +47,8 @@ pub enum EventFault {
     NotHeld,
     /// It takes a tag that isn't posted.
     NotPosted,
+    /// It keeps a tag that its caller has not swept.
+    NotSwept,
 }
 
 impl Event {
@@ -58,6 +62,7 @@ impl Event {
             Event::Put(caller, _) => caller,
             Event::Give(caller, _, _) => caller,
             Event::Sweep(caller, _) => caller,
+            Event::Keep(caller, _, _) => caller,
             Event::Spill(caller, _) => caller,
             Event::Post(caller, _) => caller,
             Event::Take(caller, _) => caller,
@@ -70,6 +75,7 @@ impl Event {
     {
         match self {
             Event::Win(_, _, mask) => mask.count_ones(),
+            Event::Keep(_, _, mask) => mask.count_ones(),
             _ => 0,
         }
     }
@@ -95,6 +101,7 @@ impl Event {
             Event::Put(_, tag) => tag < layout.depth(),
             Event::Give(_, word, mask) => is_mask_of(layout, word, mask),
             Event::Sweep(_, word) => word < layout.words(),
+            Event::Keep(_, word, mask) => is_mask_of(layout, word, mask),
             Event::Spill(_, word) => word < layout.words(),
             Event::Post(_, tag) => tag < layout.depth(),
             Event::Take(_, tag) => tag < layout.depth(),
@@ -113,6 +120,7 @@ impl Event {
             Event::Put(_, tag) => tag..tag + 1,
             Event::Give(_, word, _) => tags_of(layout, word),
             Event::Sweep(_, word) => tags_of(layout, word),
+            Event::Keep(_, word, _) => tags_of(layout, word),
             Event::Spill(_, word) => tags_of(layout, word),
             Event::Post(_, tag) => tag..tag + 1,
             Event::Take(_, tag) => tag..tag + 1,
@@ -130,6 +138,7 @@ impl Event {
             Event::Put(_, named) => tag == named,
             Event::Give(_, word, mask) => is_in_mask(layout, word, mask, tag),
             Event::Sweep(_, word) => layout.word_of(tag) == word,
+            Event::Keep(_, word, mask) => is_in_mask(layout, word, mask, tag),
             Event::Spill(_, word) => layout.word_of(tag) == word,
             Event::Post(_, named) => tag == named,
             Event::Take(_, named) => tag == named,
@@ -147,6 +156,7 @@ impl Event {
             Event::Put(_, tag) => Some((layout.word_of(tag), mask_of(layout, tag))),
             Event::Give(_, word, mask) => Some((word, mask)),
             Event::Sweep(_, word) => Some((word, layout.usable(word))),
+            Event::Keep(_, word, mask) => Some((word, mask)),
             Event::Spill(_, word) => Some((word, layout.usable(word))),
             Event::Post(_, tag) => Some((layout.word_of(tag), mask_of(layout, tag))),
             Event::Take(_, tag) => Some((layout.word_of(tag), mask_of(layout, tag))),
@@ -162,6 +172,7 @@ impl Event {
             Event::Win(_, _, _) => place == Place::Free,
             Event::Put(caller, _) => place == Place::Held(caller),
             Event::Give(caller, _, _) => place == Place::Held(caller),
+            Event::Keep(caller, _, _) => place == Place::Sweep(caller),
             Event::Post(caller, _) => place == Place::Held(caller),
             Event::Take(_, _) => place == Place::Posted,
         }
@@ -177,6 +188,7 @@ impl Event {
             Event::Put(_, _) => Place::Aside,
             Event::Give(_, _, _) => Place::Free,
             Event::Sweep(caller, _) => place.swept_by(caller),
+            Event::Keep(caller, _, _) => Place::Held(caller),
             Event::Spill(caller, _) => place.spilled_by(caller),
             Event::Post(_, _) => Place::Posted,
             Event::Take(caller, _) => Place::Held(caller),
@@ -190,6 +202,7 @@ impl Event {
         match self {
             Event::Win(_, _, _) => EventFault::NotFree,
             Event::Take(_, _) => EventFault::NotPosted,
+            Event::Keep(_, _, _) => EventFault::NotSwept,
             _ => EventFault::NotHeld,
         }
     }

@@ -1,0 +1,12 @@
+-- The caller's turn is one of the table's words.
+use Rattle.std.proofs.Common.{arith}
+use Rattle.tag_core.specs.Callers.{layout_of}
+use Rattle.tag_core.proofs.FewCallers.{few}
+use Rattle.tag_core.proofs.Stand.{turn_apart}
+use Rattle.tag_core.proofs.map.Map.peek_own_turn.Goals as goal
+
+pub peek-requires : goal.peek-requires
+peek-requires g c =
+    let m = c.args.self.now in let w = c.args.caller.now in
+    let inside = (turn_apart (layout_of m) w.number (few m w c.requires)).in_table in
+    let is = c.turn_spot.ensures in let wide = m.wide.0 in omega arith
