@@ -4,3 +4,5 @@ pub mod OneStep
 pub mod EachStep
 pub mod Safe
 pub mod Rung
+pub mod Rousing
+pub mod StillThere

@@ -6,7 +6,7 @@ use native.Mathlib.Decide.{ℕ_discrete}
 use Rattle.std.specs.Int.{bit_at}
 use Rattle.std.proofs.lemmas.Nat.Bits.{bit_at_or, bit_at-lt, bit_at-zero}
 use Rattle.tag_core.specs.declared.word_step.WordStep.{WordStep}
-use Rattle.tag_core.specs.declared.word_step.WordStep.TheVariants.{Look, LookAside, Claimed, Give, Put, Swap, Spill}
+use Rattle.tag_core.specs.declared.word_step.WordStep.TheVariants.{Look, LookAside, Claimed, Give, Put, Swap, Keep, Spill}
 use Rattle.tag_core.specs.Steps.{Words, changed_at, without, Finds, words_after}
 use Rattle.tag_bell.specs.declared.spot.Spot.{Spot}
 use Rattle.tag_bell.specs.declared.spot.Spot.TheVariants.{InWord, InAside}
@@ -51,6 +51,7 @@ shut (Put i mask found) w spot is shuts free = shuts
 shut (Swap i found) w (InWord word bit) is shuts free = shuts
 shut (Swap i found) w (InAside word bit) is shuts free =
     let none = changed_bit w.aside i 0 word bit shuts.0 in let zero = bit_at-zero bit in omega arith
+shut (Keep i mask) w spot is shuts free = shuts
 shut (Spill i mask found) w spot is shuts free = shuts
 
 -- a word less a mask: where the bit is 0 then, it was 0 before, or it was cleared
@@ -96,5 +97,6 @@ opened (Swap i found) w (InAside word bit) is free = dite (ℕ_discrete word i)
     (λ (e : word ≡ i).
     let none = changed_bit w.aside i 0 word bit e in let zero = bit_at-zero bit in absurd (omega arith))
     (λ (ne : word ≢ i). inl (sym (kept_bit w.aside i 0 word bit ne) ∙ free))
+opened (Keep i mask) w spot is free = inl free
 opened (Spill i mask found) w (InWord word bit) is free = cleared i mask found w word bit is free
 opened (Spill i mask found) w (InAside word bit) is free = inl free

@@ -7,7 +7,7 @@ use Rattle.tag_core.specs.declared.bell_step.BellStep.TheVariants.{Enlist, Sight
 use Rattle.tag_core.specs.declared.step.Step.{Step}
 use Rattle.tag_core.specs.declared.step.Step.TheVariants.{Word, Post, Take, Bell}
 use Rattle.tag_core.specs.declared.word_step.WordStep.{WordStep}
-use Rattle.tag_core.specs.declared.word_step.WordStep.TheVariants.{Look, LookAside, Claimed, Give, Put, Swap, Spill}
+use Rattle.tag_core.specs.declared.word_step.WordStep.TheVariants.{Look, LookAside, Claimed, Give, Put, Swap, Keep, Spill}
 use Rattle.tag_core.specs.Steps.{without}
 use Rattle.tag_bell.specs.declared.spot.Spot.{Spot}
 use Rattle.tag_bell.specs.declared.spot.Spot.TheVariants.{InWord, InAside}
@@ -30,6 +30,7 @@ Shuts (Claimed i mask found) = IsInWord i (λ bit. (bit_at found bit ≡ 1) ⊎ 
 Shuts (Give i mask found) = λ spot. ⊥
 Shuts (Put i mask found) = λ spot. ⊥
 Shuts (Swap i found) = IsInAside i (λ bit. Unit {0})
+Shuts (Keep i mask) = λ spot. ⊥
 Shuts (Spill i mask found) = λ spot. ⊥
 
 -- a word less the mask has a 0 where the word has a 1
@@ -44,6 +45,7 @@ Opens (Claimed i mask found) = λ spot. ⊥
 Opens (Give i mask found) = IsInWord i (IsCleared found mask)
 Opens (Put i mask found) = IsInAside i (λ bit. bit_at mask bit ≡ 1)
 Opens (Swap i found) = λ spot. ⊥
+Opens (Keep i mask) = λ spot. ⊥
 Opens (Spill i mask found) = IsInWord i (IsCleared found mask)
 
 -- 1 if the caller has listed itself there, and not got up since, else 0

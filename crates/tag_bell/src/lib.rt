@@ -4,6 +4,7 @@
 
 mod laws;
 mod settling;
+mod sleeping;
 mod spot;
 mod telling;
 mod told;
@@ -13,6 +14,7 @@ pub use laws::{
     each_state_is_safe, no_tag_is_forgotten, nobody_is_forgotten, nobody_rests_beside_a_free_tag,
 };
 pub use settling::settle;
+pub use sleeping::{Woken, sleep, wake};
 pub use spot::Spot;
 pub use telling::{finds_waiters, see_to};
 pub use told::{LISTENERS, SLEEPERS, Told};

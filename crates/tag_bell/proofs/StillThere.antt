@@ -1,0 +1,50 @@
+-- What a call that leaves its caller unchanged keeps of what was said of it.
+use Rattle.std.proofs.Common.{◌≡◌, ℕ, ◌<◌, sym, ◌∙◌, subst}
+use Rattle.tag_core.specs.declared.caller.Caller.{Caller}
+use Rattle.tag_core.specs.declared.record.Record.{Record}
+use Rattle.tag_core.specs.Callers.{IsUnchanged, Holds, record_of}
+use Rattle.tag_core.specs.Holdings.{KeepsAll}
+use Rattle.tag_core.specs.Records.{tag_bit}
+use Rattle.tag_bell.specs.declared.told.Told.{Told}
+use Rattle.tag_bell.specs.Callers.{OwesNothing, WaitsAsBefore}
+use Rattle.tag_bell.specs.Calls.{Tells}
+use Rattle.tag_bell.specs.Waiting as steps
+
+module _ {R : Type 0} (old new : Caller R) (unchanged : IsUnchanged old new) where
+  -- the same facts hold of its record
+  of_record : (fact : Record R → Type 0) → fact (record_of old) → fact (record_of new)
+  of_record fact = subst fact (sym unchanged.known)
+
+  -- it has no more to see to
+  pub owes_still : (list : ℕ) → OwesNothing list old → OwesNothing list new
+  owes_still list = of_record (λ r. steps.OwesNothing r.shape.layout list r.steps)
+
+  -- it waits where it waited
+  pub waits_still : (first : Caller R) (list : ℕ) → WaitsAsBefore list first old → WaitsAsBefore list first new
+  waits_still first list = of_record (λ r. steps.waits list r.steps ≡ steps.waits list (record_of first).steps)
+
+  -- it holds what it held
+  abbrev holds_of : (tag : ℕ) → Record R → Type 0
+  holds_of tag r = (tag < r.shape.layout.depth) × (tag_bit r.shape.layout r.held tag ≡ 1)
+
+  pub holds_still : (tag : ℕ) → Holds old tag → Holds new tag
+  holds_still tag = of_record (holds_of tag)
+
+  pub held_before : (tag : ℕ) → Holds new tag → Holds old tag
+  held_before tag = subst (holds_of tag) unchanged.known
+
+  pub keeps_still : (first : Caller R) → KeepsAll first old → KeepsAll first new
+  keeps_still first keeps = record {
+    kept = λ tag has. let was = keeps.kept tag has in (holds_still tag was.0, unchanged.slots tag ∙ was.1);
+    none_else = λ tag has. keeps.none_else tag (held_before tag has);
+  }
+
+  -- it told those whom it had told
+  pub tells_still : (most : ℕ) (told : Told) (first : Caller R) → Tells most told first old → Tells most told first new
+  tells_still most told first tells = record {
+    steps = tells.steps;
+    only = record { known = unchanged.known ∙ tells.only.known; same_map = unchanged.same_map ∙ tells.only.same_map };
+    few = tells.few;
+    sleepers = tells.sleepers;
+    listeners = tells.listeners;
+  }
