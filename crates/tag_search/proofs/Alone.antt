@@ -1,5 +1,5 @@
 -- The effect of passes and visits if no other caller steps.
-use Rattle.std.proofs.Common.{◌≡◌, ℕ, ◌<◌, ◌≤◌, Bool, true, false, ◌||◌, nat_eq, List, [], ◌∷◌, ◌++◌, get_or, Option, Some, None, arith, refl}
+use Rattle.std.proofs.Common.{◌≡◌, ℕ, ◌<◌, ◌≤◌, Bool, true, false, not, ◌&&◌, ◌||◌, nat_eq, eq-eqb, List, [], ◌∷◌, ◌++◌, get_or, Option, Some, None, arith, refl}
 use Rattle.std.proofs.Common.{sym, ap, ◌∙◌, subst}
 use Rattle.std.specs.Prelude.{All}
 use Rattle.std.specs.Int.{bit_at}
@@ -9,8 +9,9 @@ use Rattle.tag_search.specs.Choice.{IsFree, IsSet, IsAside, IsBusy, IsFirst}
 use Rattle.tag_search.specs.PlainLaws.{words_after-append}
 use Rattle.tag_search.specs.Pool.{Pool, pool_of, freed_in, taken_at}
 use Rattle.tag_search.specs.Search.{AllTaken, IsTries, none_left, wins, loses, IsPass, pass, IsSweep, IsRetry, no_turn}
-use Rattle.tag_search.specs.Search.{turn_won, turn_passed, IsVisit, at_once, retried}
+use Rattle.tag_search.specs.Search.{turn_won, turn_kept, turn_passed, IsVisit, at_once, retried}
 use Rattle.tag_search.proofs.Passes.{all_behind}
+use Rattle.tag_search.proofs.KeptPlaces.{kept_has, kept_pool, kept_aside, kept_first}
 use Rattle.tag_search.proofs.Pools.{free_here, aside_of_open, freed_twice}
 use Rattle.tag_search.proofs.Sweeps.{clear_of, set_of, claim_one, sweep_pool}
 
@@ -123,6 +124,11 @@ busy_turns p i (turn_won {place = place} {sweep = sweep} {second = second} s aga
     let f : pool_of mid ≡ freed_in (i ∷ []) p = sweep_pool s w parts.0 ∙ ap (freed_in (i ∷ [])) e ∙ freed_again i p in
     let tells = busy_pass p i (Some place) again mid f busy within parts.1 in
     absurd (let no : Some place ≡ None = tells.0 in cc)
+busy_turns p i (turn_kept {place = place} s first) w e busy within quiet =
+    let is = kept_aside s first w within quiet in
+    let gone : (pool_of w).aside i place ≡ false = ap (λ (q : Pool). q.aside i place) e
+    ∙ ap (λ (b : Bool). not (b || false) && p.aside i place) (eq-eqb i i refl) in
+    absurd (let no : true ≡ false = sym is ∙ gone in cc)
 busy_turns p i (turn_passed {sweep = sweep} {second = second} {rest = rest} s again more) w e busy within quiet =
     let outer = quiet-split (sweep ++ second) rest w quiet in
     let parts = quiet-split sweep second w outer.0 in let mid = words_after_all sweep w in
@@ -150,6 +156,9 @@ retry_alone : {i : ℕ} {rank : List ℕ} {turns : ℕ} {steps : List WordStep} 
     → VisitTells (pool_of w) i rank answer (pool_of (words_after_all steps w))
 retry_alone no_turn some w within set quiet = absurd (omega arith)
 retry_alone (turn_won s again) some w within set quiet = turn_alone s again w within set quiet
+retry_alone {i = i} (turn_kept {place = place} s first) some w within set quiet =
+    let small = kept_has (λ b. b < 64) first within in let taken = kept_has (IsSet (pool_of w) i) first set in
+    wins_aside set (kept_first s first w within set quiet) (kept_pool s w small taken quiet)
 retry_alone {i = i} {rank = rank} {answer = answer}
     (turn_passed {sweep = sweep} {second = second} {rest = rest} s again more) some w within set quiet =
     let outer = quiet-split (sweep ++ second) rest w quiet in let tells = turn_alone s again w within set outer.0 in

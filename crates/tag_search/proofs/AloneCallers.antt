@@ -11,7 +11,7 @@ use Rattle.tag_core.specs.declared.step.Step.TheVariants.{Word, Post, Take, Bell
 use Rattle.tag_core.specs.declared.bell_step.BellStep.{BellStep}
 use Rattle.tag_core.specs.declared.bell_step.BellStep.TheVariants.{Enlist, Sight, Tell, GetUp}
 use Rattle.tag_core.specs.declared.word_step.WordStep.{WordStep}
-use Rattle.tag_core.specs.declared.word_step.WordStep.TheVariants.{Look, LookAside, Claimed, Give, Put, Swap, Spill}
+use Rattle.tag_core.specs.declared.word_step.WordStep.TheVariants.{Look, LookAside, Claimed, Give, Put, Swap, Keep, Spill}
 use Rattle.tag_core.specs.declared.record.Record.{Record}
 use Rattle.tag_core.specs.declared.caller.Caller.{Caller}
 use Rattle.tag_core.specs.Steps.{Words, Finds, Quiet, words_after_all}
@@ -35,6 +35,7 @@ finds_prop (Claimed i mask found) w = ℕ_set found (w.word i)
 finds_prop (Give i mask found) w = ℕ_set found (w.word i)
 finds_prop (Put i mask found) w = ℕ_set found (w.aside i)
 finds_prop (Swap i found) w = ℕ_set found (w.aside i)
+finds_prop (Keep i mask) w = hlevel
 finds_prop (Spill i mask found) w = ℕ_set found (w.word i)
 
 listed_prop : (step : BellStep) (lists : ℕ → ℕ) → IsProp (FindsListed step lists)

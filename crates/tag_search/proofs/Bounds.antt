@@ -8,7 +8,7 @@ use Rattle.tag_core.specs.declared.word_step.WordStep.{WordStep}
 use Rattle.tag_layout.specs.Layout.{Layout, word_bits, words, word_depth}
 use Rattle.tag_search.specs.Order.{numbers}
 use Rattle.tag_search.specs.Search.{IsTries, none_left, wins, loses, IsPass, pass, IsSweep, unseen, empty, spilled}
-use Rattle.tag_search.specs.Search.{IsRetry, no_turn, turn_won, turn_passed, IsVisit, at_once, retried, Visit}
+use Rattle.tag_search.specs.Search.{IsRetry, no_turn, turn_won, turn_kept, turn_passed, IsKeepingSweep, kept_alone, kept_one, IsVisit, at_once, retried, Visit}
 use Rattle.tag_search.specs.Search.{IsSearch, over, won, passed, most_turns}
 use Rattle.tag_search.specs.Visits.{Reach, visit_of, visits}
 use Rattle.tag_search.proofs.Orders.{length-scan_order, all_numbers}
@@ -35,6 +35,11 @@ sweep_bound unseen = omega arith
 sweep_bound (empty some) = omega arith
 sweep_bound (spilled some has fits) = omega arith
 
+-- one that keeps a place is a load, a swap, what is kept and, if the swap found others, a spill
+kept_bound : {i mask place : ℕ} {steps : List WordStep} → IsKeepingSweep i mask place steps → length steps ≤ 4
+kept_bound (kept_alone some fits none) = omega arith
+kept_bound (kept_one some fits others) = omega arith
+
 -- the most steps of so many turns over so many places
 abbrev turn_steps : ℕ → ℕ → ℕ
 turn_steps zero places = 0
@@ -45,6 +50,7 @@ retry_bound : {i : ℕ} {rank : List ℕ} {turns : ℕ} {steps : List WordStep} 
 retry_bound no_turn = omega arith
 retry_bound (turn_won {sweep = first} {second = second} sweep again) =
     let a = sweep_bound sweep in let b = pass_bound again in let e = length-append first second in omega arith
+retry_bound (turn_kept sweep first) = let a = kept_bound sweep in omega arith
 retry_bound (turn_passed {sweep = first} {second = second} {rest = rest} sweep again more) =
     let a = sweep_bound sweep in let b = pass_bound again in let c = retry_bound more in
     let e = length-append first second in let f = length-append (first ++ second) rest in omega arith

@@ -16,7 +16,7 @@ use Rattle.tag_bell.specs.declared.spot.Spot.{Spot}
 use Rattle.tag_bell.specs.declared.spot.Spot.TheVariants.{InWord, InAside}
 use Rattle.tag_bell.specs.Waiting.{Shuts, Opens, Tried, Owes}
 use Rattle.tag_search.specs.AloneLaws.{own_after}
-use Rattle.tag_search.specs.Search.{IsTries, none_left, wins, loses, IsPass, pass, IsSweep, unseen, empty, spilled, IsRetry, no_turn, turn_won, turn_passed, IsVisit, at_once, retried, Visit, IsSearch, over, won, passed}
+use Rattle.tag_search.specs.Search.{IsTries, none_left, wins, loses, IsPass, pass, IsSweep, unseen, empty, spilled, IsKeepingSweep, kept_alone, kept_one, IsRetry, no_turn, turn_won, turn_kept, turn_passed, IsVisit, at_once, retried, Visit, IsSearch, over, won, passed}
 
 -- it found no tag free at the spot, and has nothing to see to there
 abbrev pub IsClosed : {R : Type 0} → ℕ → List (Step R) → Spot → Type 0
@@ -153,12 +153,20 @@ module _ (R : Type 0) where
   sweep_leaves (spilled some more fits) (InWord j b) far = ((λ o. o), ((λ o. o), ((λ o. far o.0), tt)))
   sweep_leaves (spilled some more fits) (InAside j b) far = ((λ o. o), ((λ o. o), ((λ o. o), tt)))
 
+  -- nor does one that keeps a place
+  kept_leaves : {i mask place : ℕ} {sweep : List WordStep} → IsKeepingSweep i mask place sweep → (spot : Spot)
+      → IsElsewhere i spot → Leaves sweep spot
+  kept_leaves (kept_alone some fits none) spot far = ((λ o. o), ((λ o. o), ((λ o. o), tt)))
+  kept_leaves (kept_one some fits others) (InWord j b) far = ((λ o. o), ((λ o. o), ((λ o. o), ((λ o. far o.0), tt))))
+  kept_leaves (kept_one some fits others) (InAside j b) far = ((λ o. o), ((λ o. o), ((λ o. o), ((λ o. o), tt))))
+
   -- steps that win nothing leave what is in other words
   retry_leaves : {i : ℕ} {rank : List ℕ} {turns : ℕ} {steps : List WordStep} {answer : Option ℕ}
       → IsRetry i rank turns steps answer → (spot : Spot) → IsElsewhere i spot → Leaves steps spot
   retry_leaves no_turn spot far = tt
   retry_leaves (turn_won {sweep = sweep} {second = second} first more) spot far =
       leaves-append sweep second spot (sweep_leaves first spot far) (pass_leaves more spot)
+  retry_leaves (turn_kept sweep first) spot far = kept_leaves sweep spot far
   retry_leaves (turn_passed {sweep = sweep} {second = second} {rest = rest} first more others) spot far =
       leaves-append (sweep ++ second) rest spot
       (leaves-append sweep second spot (sweep_leaves first spot far) (pass_leaves more spot))
@@ -189,6 +197,7 @@ module _ (R : Type 0) where
       → IsRetry i rank turns steps answer → answer ≡ None → (spot : Spot) → IsOf i rank spot → Settles steps spot
   retry_settles no_turn e spot is = inr tt
   retry_settles (turn_won first more) e spot is = absurd cc
+  retry_settles (turn_kept sweep first) e spot is = absurd cc
   retry_settles (turn_passed {sweep = sweep} {second = second} {rest = rest} first more others) e spot is =
       inl (closes_on (sweep ++ second) rest spot (turn_closes first more spot is) (retry_settles others e spot is))
 
@@ -197,6 +206,7 @@ module _ (R : Type 0) where
       → Closes R steps spot
   retry_closes no_turn e some spot is = absurd (omega arith)
   retry_closes (turn_won first more) e some spot is = absurd cc
+  retry_closes (turn_kept sweep first) e some spot is = absurd cc
   retry_closes (turn_passed {sweep = sweep} {second = second} {rest = rest} first more others) e some spot is =
       closes_on (sweep ++ second) rest spot (turn_closes first more spot is) (retry_settles others e spot is)
 

@@ -14,7 +14,7 @@ use Rattle.tag_core.specs.declared.caller.Caller.{Caller}
 use Rattle.tag_core.specs.declared.record.Record.{Record}
 use Rattle.tag_core.specs.declared.step.Step.TheVariants.{Word}
 use Rattle.tag_core.specs.declared.word_step.WordStep.{WordStep}
-use Rattle.tag_core.specs.declared.word_step.WordStep.TheVariants.{Look, LookAside, Claimed, Give, Put, Swap, Spill}
+use Rattle.tag_core.specs.declared.word_step.WordStep.TheVariants.{Look, LookAside, Claimed, Give, Put, Swap, Keep, Spill}
 use Rattle.tag_core.specs.Callers.{layout_of, record_of}
 use Rattle.tag_core.specs.Records.{record_after}
 use Rattle.tag_search.specs.declared.shared.Shared.{Shared}
@@ -44,6 +44,7 @@ latest_of_some (Claimed i mask found ∷ steps) one other some = latest_of_some 
 latest_of_some (Give i mask found ∷ steps) one other some = latest_of_some steps one other (omega arith)
 latest_of_some (Put i mask found ∷ steps) one other some = latest_of_some steps one other (omega arith)
 latest_of_some (Swap i found ∷ steps) one other some = latest_of_some steps one other (omega arith)
+latest_of_some (Keep i mask ∷ steps) one other some = latest_of_some steps one other (omega arith)
 
 -- steps that free no tag leave what their caller has freed
 pub freed_same : {R : Type 0} (old new : Caller R) (steps : List WordStep) → AddsAll steps old new
@@ -78,6 +79,7 @@ spilled_most (Claimed i mask found) fits = omega arith
 spilled_most (Give i mask found) fits = omega arith
 spilled_most (Put i mask found) fits = omega arith
 spilled_most (Swap i found) fits = omega arith
+spilled_most (Keep i mask) fits = omega arith
 
 -- a step spills at most one word
 total_most : (steps : List WordStep) → AllByRecursion FindsWord steps → total spilled steps ≤ 64 * length steps

@@ -4,6 +4,7 @@ use Rattle.std.specs.Prelude.{All, IfSome}
 use Rattle.std.specs.List.{AllByRecursion}
 use Rattle.std.specs.Int.{bit_at}
 use Rattle.std.proofs.lemmas.List.Elements.{All-head, All-tail}
+use Rattle.std.proofs.lemmas.Nat.Bits.{bit_at-pow_same}
 use Rattle.tag_layout.specs.Layout.{Layout, word_bits, word_of, place_of, word_depth, tag_at}
 use Rattle.tag_layout.proofs.PlaceFacts.{word_of-tag_at, place_of-tag_at}
 use Rattle.tag_layout.proofs.Scans.{bit_at-shr}
@@ -17,7 +18,7 @@ use Rattle.tag_core.proofs.Masks.{bit_minus}
 use Rattle.tag_search.specs.Batch.{run_mask, run_won, IsBatchVisit, no_run, run_lost, run_taken, IsBatchSearch}
 use Rattle.tag_search.specs.Batch.{batch_over, batch_won, batch_passed}
 use Rattle.tag_search.specs.Gains.{IsInRun}
-use Rattle.tag_search.specs.Search.{IsTries, none_left, wins, loses, IsPass, pass, IsRetry, no_turn, turn_won}
+use Rattle.tag_search.specs.Search.{IsTries, none_left, wins, loses, IsPass, pass, IsKeepingSweep, kept_alone, kept_one, IsRetry, no_turn, turn_won, turn_kept}
 use Rattle.tag_search.specs.Search.{turn_passed, IsVisit, at_once, retried, Visit, IsSearch, over, won, passed}
 use Rattle.tag_search.specs.Shared.{FindsWord, FindsHeldBy}
 use Rattle.tag_search.proofs.RunFacts.{inside as won_inside}
@@ -45,11 +46,21 @@ module _ {R : Type 0} (c : Caller R) where
       → Blocks steps → IfSome answer (IsNew i)
   pass_new (pass more) blocks = tries_new more blocks.1
 
+  -- no sweep keeps a tag that the caller held
+  kept_new : {i mask place : ℕ} {steps : List WordStep} → IsKeepingSweep i mask place steps → Blocks steps → IsNew i place
+  kept_new {place = place} (kept_alone some fits none) blocks = λ tag has is at.
+      let clear : bit_at (2 ^ place) place ≡ 0 = ap (bit_at (2 ^ place)) (sym at) ∙ blocks.1.1.0 tag has is in
+      let one = bit_at-pow_same place in absurd (omega arith)
+  kept_new {place = place} (kept_one some fits others) blocks = λ tag has is at.
+      let clear : bit_at (2 ^ place) place ≡ 0 = ap (bit_at (2 ^ place)) (sym at) ∙ blocks.1.1.0 tag has is in
+      let one = bit_at-pow_same place in absurd (omega arith)
+
   retry_new : {i : ℕ} {rank : List ℕ} {turns : ℕ} {steps : List WordStep} {answer : Option ℕ}
       → IsRetry i rank turns steps answer → Blocks steps → IfSome answer (IsNew i)
   retry_new no_turn blocks = tt
   retry_new (turn_won {sweep = first} {second = second} sweep again) blocks = pass_new again
       (each-split (FindsHeldBy c) first second blocks).1
+  retry_new (turn_kept sweep first) blocks = kept_new sweep blocks
   retry_new (turn_passed {sweep = first} {second = second} {rest = rest} sweep again more) blocks = retry_new more
       (each-split (FindsHeldBy c) (first ++ second) rest blocks).1
 

@@ -11,6 +11,7 @@ pub mod Turns
 pub mod Bounds
 pub mod Pools
 pub mod Sweeps
+pub mod KeptPlaces
 pub mod Alone
 pub mod Choices
 pub mod GetFacts

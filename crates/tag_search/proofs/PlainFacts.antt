@@ -8,7 +8,7 @@ use native.Mathlib.Decide.{ℕ_discrete}
 use Rattle.std.proofs.lemmas.Nat.{pow_pos}
 use Rattle.std.proofs.lemmas.Nat.Bits.{and_pow}
 use Rattle.std.specs.Int.{bit_at}
-use Rattle.tag_core.specs.declared.word_step.WordStep.TheVariants.{LookAside, Claimed, Give, Put, Swap, Spill}
+use Rattle.tag_core.specs.declared.word_step.WordStep.TheVariants.{LookAside, Claimed, Give, Put, Swap, Keep, Spill}
 use Rattle.tag_core.specs.Steps.{changed_at, without}
 use Rattle.tag_search.specs.Plain.{Plain, RunsAlone, IsTaken}
 use Rattle.tag_search.proofs.OneTag.{bit_is}
@@ -76,6 +76,25 @@ pub ran_sweep : (p : Plain) (i mask found : ℕ) → Reads p.word i found → Re
 ran_sweep p i mask found word aside = let now = written p.word i found (λ x. without x mask) word in record {
   layout = refl;
   quiet = (aside.is, (aside.is, (word.is, tt)));
+  leaves = λ z. record { word = now z; aside = set_changed p.aside i 0 aside.within z };
+}
+
+-- one that keeps all that it found writes the cleared set
+pub ran_kept : (p : Plain) (i mask bit : ℕ) → Reads p.aside i mask
+    → RunsAlone p (LookAside i mask ∷ Swap i mask ∷ Keep i bit ∷ []) (record p { aside = set p.aside i 0 })
+ran_kept p i mask bit aside = record {
+  layout = refl;
+  quiet = (aside.is, (aside.is, (tt, tt)));
+  leaves = λ z. record { word = λ j. get_or p.word j 0; aside = set_changed p.aside i 0 aside.within z };
+}
+
+-- and one that keeps a part writes both
+pub ran_keeping : (p : Plain) (i mask bit rest found : ℕ) → Reads p.word i found → Reads p.aside i mask
+    → RunsAlone p (LookAside i mask ∷ Swap i mask ∷ Keep i bit ∷ Spill i rest found ∷ [])
+    (record p { word = set p.word i (without found rest); aside = set p.aside i 0 })
+ran_keeping p i mask bit rest found word aside = let now = written p.word i found (λ x. without x rest) word in record {
+  layout = refl;
+  quiet = (aside.is, (aside.is, (tt, (word.is, tt))));
   leaves = λ z. record { word = now z; aside = set_changed p.aside i 0 aside.within z };
 }
 

@@ -1,26 +1,37 @@
 -- The steps that calls on a shared map add, in the form of the port's clauses.
-use Rattle.std.proofs.Common.{◌≡◌, ℕ, ◌+◌, ◌^◌, ◌<◌, List, [], ◌∷◌, length, get_or, bit_or}
-use Rattle.std.proofs.Common.{get_or-set_same, get_or-set_other, arith, sym, ap, ◌∙◌}
+use Rattle.std.proofs.Common.{◌≡◌, ℕ, ◌≢◌, ◌+◌, ◌^◌, ◌<◌, List, [], ◌∷◌, length, get_or, bit_or, count_ones, Result, Ok, Err, inl, inr}
+use Rattle.std.proofs.Common.{get_or-set_same, get_or-set_other, arith, sym, ap, ◌∙◌, subst}
+use Rattle.std.specs.Prelude.{IfOk, IfErr}
 use mathlib.Core.Logic.{dite}
 use native.Mathlib.Decide.{ℕ_discrete}
 use Rattle.std.specs.Int.{bit_at}
 use Rattle.std.proofs.lemmas.Nat.Bits.{bit_at_or, bit_at-lt}
 use Rattle.step_ledger.specs.History.{total}
-use Rattle.tag_layout.specs.Layout.{Layout, word_of, place_of}
+use Rattle.tag_layout.specs.Layout.{Layout, word_of, place_of, tag_at, words}
+use Rattle.tag_layout.proofs.PlaceFacts.{tag_at-back}
 use Rattle.tag_core.specs.declared.caller.Caller.{Caller}
 use Rattle.tag_core.specs.declared.record.Record.{Record}
+use Rattle.tag_core.specs.declared.shape.Shape.{Shape}
 use Rattle.tag_core.specs.declared.step.Step.TheVariants.{Word}
 use Rattle.tag_core.specs.declared.word_step.WordStep.{WordStep}
-use Rattle.tag_core.specs.declared.word_step.WordStep.TheVariants.{LookAside, Claimed, Swap, Spill}
-use Rattle.tag_core.specs.Callers.{Holds, Adds, AddsTwo}
+use Rattle.tag_core.specs.declared.word_step.WordStep.TheVariants.{LookAside, Claimed, Swap, Keep, Spill}
+use Rattle.tag_core.specs.declared.map.Map.{Map}
+use Rattle.tag_core.specs.Callers.{layout_of, IsCallerOf, Holds, Adds, AddsTwo}
+use Rattle.tag_core.specs.Holdings.{Acquires}
+use Rattle.tag_core.specs.Keeping.{KeepsLeast}
 use Rattle.tag_core.specs.Records.{joined, held_after_word, tag_bit}
 use Rattle.tag_core.specs.Steps.{without}
+use Rattle.tag_core.proofs.Masks.{minus_le}
+use Rattle.tag_core.proofs.TagBits.{small_word}
+use Rattle.tag_search.proofs.OneTag.{bit_is, one_place}
+use Rattle.tag_core.specs.Claims.{ClaimsPlace}
+use Rattle.tag_core.proofs.OnePlace.{none_where_taken, count_ones-zero}
 use Rattle.tag_search.specs.declared.shared.Shared.{Shared}
-use Rattle.tag_search.specs.Added.{AddsSteps as Ports}
+use Rattle.tag_search.specs.Added.{AddsSteps as Ports, SameRoom}
 use Rattle.tag_search.specs.Freed.{spilled as freed_by}
-use Rattle.tag_search.specs.Search.{IsSweep}
+use Rattle.tag_search.specs.Search.{IsSweep, IsKeepingSweep, kept_alone, kept_one, IsLeastKept}
 use Rattle.tag_search.specs.SharedLaws.{adds_on}
-use Rattle.tag_search.specs.Shared.{FindsWord, FindsHeldBy, AddsAll, AddsThrough, latest_of, latest_after_all}
+use Rattle.tag_search.specs.Shared.{HasRoom, FindsWord, FindsHeldBy, AddsAll, AddsThrough, latest_of, latest_after_all}
 
 -- adding bits to a word keeps the bit of a tag
 pub bit_kept : (l : Layout) (held : List ℕ) (i mask tag : ℕ) → i < length held → tag_bit l held tag ≡ 1
@@ -87,14 +98,14 @@ pub adds_claim : {R : Type 0} (i mask found : ℕ) (old new : Caller R) → i < 
 adds_claim i mask found old new near fits found_held a = adds_one (Claimed i mask found) old new a fits found_held
     (λ tag. bit_kept old.shape.value.layout old.held.items i (without mask found) tag near)
 
--- a load of the cleared set, and the steps of a sweep after it, on a port that counts what they free
-pub swept : {R : Type 0} (i mask seen : ℕ) (rest : List WordStep) (old new : Shared R) (mid : Caller R)
+-- a load of the cleared set, and the steps after it, on a port that counts what they free
+pub swept_so : {R : Type 0} (fact : List WordStep → Type 0) (i seen : ℕ) (rest : List WordStep) (old new : Shared R)
+    (mid : Caller R)
     → new.map.now ≡ old.map.now → new.caller.ghost_name ≡ old.caller.ghost_name
     → (old.freed + total freed_by rest < 2 ^ 64 → new.freed ≡ old.freed + total freed_by rest)
     → latest_of new ≡ latest_after_all rest (latest_of old) → Adds (Word (LookAside i seen)) old.caller.now mid
-    → AddsAll rest mid new.caller.now → IsSweep i mask (LookAside i seen ∷ rest)
-    → Ports AddsThrough old new (IsSweep i mask)
-swept i mask seen rest old new mid map lent counts latest look more is = record {
+    → AddsAll rest mid new.caller.now → fact (LookAside i seen ∷ rest) → Ports AddsThrough old new fact
+swept_so fact i seen rest old new mid map lent counts latest look more is = record {
   steps = LookAside i seen ∷ rest;
   added = record {
     added = adds_on old.caller.now mid new.caller.now (LookAside i seen ∷ []) rest
@@ -106,3 +117,114 @@ swept i mask seen rest old new mid map lent counts latest look more is = record 
   };
   holds = is;
 }
+
+-- where they are the steps of a sweep
+pub swept : {R : Type 0} (i mask seen : ℕ) (rest : List WordStep) (old new : Shared R) (mid : Caller R)
+    → new.map.now ≡ old.map.now → new.caller.ghost_name ≡ old.caller.ghost_name
+    → (old.freed + total freed_by rest < 2 ^ 64 → new.freed ≡ old.freed + total freed_by rest)
+    → latest_of new ≡ latest_after_all rest (latest_of old) → Adds (Word (LookAside i seen)) old.caller.now mid
+    → AddsAll rest mid new.caller.now → IsSweep i mask (LookAside i seen ∷ rest)
+    → Ports AddsThrough old new (IsSweep i mask)
+swept i mask = swept_so (IsSweep i mask) i
+
+-- a sweep that kept the least tag, on a map of the caller
+module _ {R : Type 0} (m : Map R) (old new : Caller R) (own : IsCallerOf m old) (i place rest : ℕ)
+    (kept : KeepsLeast (layout_of m) i place rest old new)
+    (gains : Acquires (λ t. t ≡ tag_at (layout_of m) i place) old new) where
+  -- what was swept is a word of 64 bits
+  pub mask_small : kept.mask < 2 ^ 64
+  mask_small = small_word m.shape m.small.1 i kept.mask kept.within
+
+  -- the caller held no tag that it kept
+  unheld : FindsHeldBy old (Keep i (2 ^ place))
+  unheld tag has here = elim (bit_is (2 ^ place) (place_of old.shape.value.layout tag)) [
+    | inl one ↦ absurd (gains.fresh tag (named tag here (one_place place (place_of old.shape.value.layout tag) one)) has)
+    | inr none ↦ none
+  ]
+    where
+      named : (tag : ℕ) → word_of old.shape.value.layout tag ≡ i → place_of old.shape.value.layout tag ≡ place
+          → tag ≡ tag_at (layout_of m) i place
+      named tag here at = sym (tag_at-back old.shape.value.layout tag)
+          ∙ (λ z. tag_at (own.1 z).layout (here z) (at z))
+
+  -- its steps where it kept all, and where it freed the rest
+  pub adds_alone : rest ≡ 0 → AddsAll (Swap i kept.mask ∷ Keep i (2 ^ place) ∷ []) old new
+  adds_alone none = let a = kept.alone none in record {
+    known = a.known;
+    kept = gains.kept;
+    finds = (tt, (tt, tt));
+    finds_held = (tt, (unheld, tt));
+    same_map = a.same_map;
+  }
+
+  pub adds_others : (some : rest ≢ 0)
+      → AddsAll (Swap i kept.mask ∷ Keep i (2 ^ place) ∷ Spill i rest (kept.others some).0 ∷ []) old new
+  adds_others some = let a = (kept.others some).1 in let few = minus_le kept.mask (2 ^ place) in
+      let small = mask_small in let is = kept.rest_is in record {
+        known = a.known;
+        kept = gains.kept;
+        finds = (tt, (tt, (omega arith, tt)));
+        finds_held = (tt, (unheld, (tt, tt)));
+        same_map = a.same_map;
+      }
+
+  -- behind a load that saw something aside, they are a sweep that kept the least place
+  pub least_alone : (seen : ℕ) → seen ≢ 0 → rest ≡ 0
+      → IsLeastKept i place (LookAside i seen ∷ Swap i kept.mask ∷ Keep i (2 ^ place) ∷ [])
+  least_alone seen some none = record {
+    mask = kept.mask;
+    least = kept.least;
+    sweep = kept_alone some mask_small (sym kept.rest_is ∙ none);
+  }
+
+  pub least_others : (seen found : ℕ) → seen ≢ 0 → rest ≢ 0
+      → IsLeastKept i place (LookAside i seen ∷ Swap i kept.mask ∷ Keep i (2 ^ place) ∷ Spill i rest found ∷ [])
+  least_others seen found some others = record {
+    mask = kept.mask;
+    least = kept.least;
+    sweep = subst (λ (x : ℕ). IsKeepingSweep i kept.mask place
+        (LookAside i seen ∷ Swap i kept.mask ∷ Keep i (2 ^ place) ∷ Spill i x found ∷ [])) (sym kept.rest_is)
+        (kept_one some mask_small (λ none. others (kept.rest_is ∙ none)));
+  }
+
+-- a claim of one place in a word of the map, by the port's caller
+pub through_claim : {R : Type 0} (old new : Shared R) (i place found : ℕ) → IsCallerOf old.map.now old.caller.now
+    → i < words (layout_of old.map.now) → new.map.now ≡ old.map.now → new.caller.ghost_name ≡ old.caller.ghost_name
+    → (new.freed ≡ old.freed) × (latest_of new ≡ latest_of old)
+    → ClaimsPlace (layout_of old.map.now) i place found old.caller.now new.caller.now
+    → AddsThrough old (Claimed i (2 ^ place) found ∷ []) new
+through_claim old new i place found own inside map lent same claim =
+    let w = old.caller.now in
+    let near : i < length w.held.items =
+    subst (λ (n : ℕ). i < n) (sym w.wide) (subst (λ (k : Shape). i < words k.layout) (sym own.1) inside) in
+    let finds : FindsHeldBy w (Claimed i (2 ^ place) found) = λ tag has is.
+    ap (λ (k : Shape). bit_at found (place_of k.layout tag)) own.1
+    ∙ claim.held tag has (ap (λ (k : Shape). word_of k.layout tag) (sym own.1) ∙ is) in
+    record {
+      added = adds_claim i (2 ^ place) found w new.caller.now near claim.fits finds claim.step;
+      map = map;
+      lent = lent;
+      freed = λ fits. let freed = same.0 in omega arith;
+      latest = same.1;
+    }
+
+-- a claim of one place that found it taken keeps the caller's room
+pub same_room_lost : {R : Type 0} (old new : Caller R) (i place found : ℕ) → place < 64 → found < 2 ^ 64
+    → bit_at found place ≡ 1 → Adds (Word (Claimed i (2 ^ place) found)) old new → SameRoom HasRoom old new
+same_room_lost old new i place found low fits taken adds n =
+    let none = none_where_taken found place fits low taken in
+    let won = ap (λ (r : Record _). r.won) adds.known
+    ∙ ap (λ (x : ℕ). old.won + count_ones x) none ∙ ap (λ (x : ℕ). old.won + x) count_ones-zero in
+    let life = ap (λ (r : Record _). r.shape.life) adds.known in (
+      (λ h. let z : HasRoom new n = omega arith in z),
+      (λ h. let z : HasRoom old n = omega arith in z),
+    )
+
+-- a fact of each answer of a kind gives another
+pub if_ok : {T E : Type 0} {P Q : T → Type 0} (r : Result T E) → ((x : T) → P x → Q x) → IfOk r P → IfOk r Q
+if_ok (Ok x) to p = to x p
+if_ok (Err e) to p = tt
+
+pub if_err : {T E : Type 0} {P Q : E → Type 0} (r : Result T E) → ((e : E) → P e → Q e) → IfErr r P → IfErr r Q
+if_err (Ok x) to p = tt
+if_err (Err e) to p = to e p

@@ -18,13 +18,14 @@ use Rattle.tag_core.specs.Records.{record_after, joined}
 use Rattle.tag_core.specs.Steps.{without}
 use Rattle.tag_search.specs.Gains.{held_with, count_of}
 use Rattle.tag_search.specs.Search.{IsTries, none_left, wins, loses, IsPass, pass, IsSweep, unseen, empty, spilled}
-use Rattle.tag_search.specs.Search.{IsRetry, no_turn, turn_won, turn_passed, IsVisit, at_once, retried, Visit}
+use Rattle.tag_search.specs.Search.{IsKeepingSweep, kept_alone, kept_one, IsRetry, no_turn, turn_won, turn_kept, turn_passed, IsVisit, at_once, retried, Visit}
 use Rattle.tag_search.specs.Search.{IsSearch, over, won, passed}
 use Rattle.tag_search.specs.Shared.{record_after_all, FindsWord}
 use Rattle.tag_search.specs.SharedLaws.{record_after-append}
 pub use Rattle.tag_search.proofs.Claims.{count_ones-zero}
 use Rattle.tag_search.proofs.Claims.{count_ones-pow, won_where_clear, none_where_taken}
 use Rattle.tag_search.proofs.Inside.{IsInside}
+use Rattle.tag_search.proofs.KeptPlaces.{kept_has}
 use Rattle.tag_search.proofs.Passes.{all_left}
 
 -- the held set with the place won in a word, if there is one
@@ -154,11 +155,33 @@ module _ {R : Type 0} (bits i : ℕ) (narrow : bits ≤ 64) where
       took_more r first second (sweep_took r sweep)
       (pass_took (record_after_all first r) again (each-split FindsWord first second finds).1 small)
 
+  -- a sweep that keeps a place wins it, and nothing else
+  kept_took : {mask place : ℕ} {steps : List WordStep} (r : Record R) → IsKeepingSweep i mask place steps → place < bits
+      → TookPlace bits i (Some place) r (record_after_all steps r)
+  kept_took {place = place} r (kept_alone some fits none) below = let one = count_ones-pow place in record {
+    shape = refl;
+    number = refl;
+    held = refl;
+    won = omega arith;
+    back = omega arith;
+    fact = below;
+  }
+  kept_took {place = place} r (kept_one some fits others) below = let one = count_ones-pow place in record {
+    shape = refl;
+    number = refl;
+    held = refl;
+    won = omega arith;
+    back = omega arith;
+    fact = below;
+  }
+
   retry_took : {rank : List ℕ} {turns : ℕ} {steps : List WordStep} {answer : Option ℕ} (r : Record R)
       → IsRetry i rank turns steps answer → AllByRecursion FindsWord steps → All (λ place. place < bits) rank
       → TookPlace bits i answer r (record_after_all steps r)
   retry_took r no_turn finds small = took_none r
   retry_took r (turn_won sweep again) finds small = turn_took r sweep again finds small
+  retry_took r (turn_kept sweep first) finds small =
+      kept_took r sweep (kept_has (λ place. place < bits) first small)
   retry_took r (turn_passed {sweep = first} {second = second} {rest = rest} sweep again more) finds small =
       let split = each-split FindsWord (first ++ second) rest finds in
       took_more r (first ++ second) rest (turn_took r sweep again split.0 small)

@@ -109,7 +109,7 @@ kept_bit true y a k none = sym (ap (λ (c : Bool). is_clear y k || c)
     (none_of a k (ap (λ (n : ℕ). bit_at n k) (none refl) ∙ bit_at-zero k)) ∙ or_false (is_clear y k))
 kept_bit false y a k none = sym (or_false (is_clear y k))
 
-swap_bit : (b : Bool) (a k : ℕ) → is_one (cond b 0 a) k ≡ (not (b || false) && is_one a k)
+pub swap_bit : (b : Bool) (a k : ℕ) → is_one (cond b 0 a) k ≡ (not (b || false) && is_one a k)
 swap_bit true a k = none_of 0 k (bit_at-zero k)
 swap_bit false a k = refl
 

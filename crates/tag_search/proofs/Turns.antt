@@ -1,9 +1,11 @@
 -- The state between the turns of a visit.
-use Rattle.std.proofs.Common.{◌≡◌, ℕ, suc, List, [], ◌++◌, Some, None, sym, subst}
+use Rattle.std.proofs.Common.{◌≡◌, ℕ, suc, ◌<◌, true, List, [], ◌++◌, Some, None, sym, subst}
 use Rattle.tag_core.specs.declared.word_step.WordStep.{WordStep}
 use Rattle.tag_search.specs.Added.{AddsSteps}
-use Rattle.tag_search.specs.Search.{IsPass, IsSweep, IsRetry, no_turn, turn_won, turn_passed}
-use Rattle.tag_search.proofs.Joined.{Begins, adds_joined, adds_further, adds_ended, adds_over}
+use Rattle.tag_search.specs.Order.{scan_order}
+use Rattle.tag_search.specs.Search.{IsPass, IsSweep, IsLeastKept, IsFirstSwept, IsRetry, no_turn, turn_won, turn_kept, turn_passed}
+use Rattle.tag_search.proofs.KeptPlaces.{first_swept}
+use Rattle.tag_search.proofs.Joined.{Begins, adds_weaker, adds_joined, adds_further, adds_ended, adds_over}
 
 module _ {Port : Type 0} (adds : Port → List WordStep → Port → Type 0)
     (more : (p q r : Port) (xs ys : List WordStep) → adds p xs q → adds q ys r → adds p (xs ++ ys) r) (i : ℕ)
@@ -29,6 +31,20 @@ module _ {Port : Type 0} (adds : Port → List WordStep → Port → Type 0)
       (λ xs. IsRetry i rank left xs (Some place))
       (λ xs ys swept passed. subst (λ n. IsRetry i rank n (xs ++ ys) (Some place)) (sym e) (turn_won swept passed))
       sweep second)
+
+-- a turn whose sweep kept the least place that it swept, of all places of the word
+pub turn_keeps : {Port : Type 0} (adds : Port → List WordStep → Port → Type 0)
+    (more : (p q r : Port) (xs ys : List WordStep) → adds p xs q → adds q ys r → adds p (xs ++ ys) r) (i : ℕ)
+    (rank : List ℕ) (all : ℕ) (p q r : Port) (left less depth place : ℕ) → left ≡ suc less
+    → rank ≡ scan_order 0 depth true → place < depth
+    → AddsSteps adds p q (Begins (IsRetry i rank left) (IsRetry i rank all)) → AddsSteps adds q r (IsLeastKept i place)
+    → AddsSteps adds p r (λ xs. IsRetry i rank all xs (Some place))
+turn_keeps adds more i rank all p q r left less depth place e whole low begun kept =
+    adds_ended adds more p q r (IsRetry i rank left) (IsRetry i rank all) (Some place) begun
+    (adds_weaker adds q r (IsLeastKept i place) (λ xs. IsRetry i rank left xs (Some place))
+    (λ xs least. subst (λ n. IsRetry i rank n xs (Some place)) (sym e)
+    (turn_kept least.sweep (subst (λ order. IsFirstSwept least.mask order place) (sym whole)
+    (first_swept least.mask place depth low least.least)))) kept)
 
 -- no turn is left
 pub turns_over : {Port : Type 0} (adds : Port → List WordStep → Port → Type 0) (i : ℕ) (rank : List ℕ) (all : ℕ)

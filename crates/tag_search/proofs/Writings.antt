@@ -156,11 +156,11 @@ writes_place xs r i found bit place e b has =
     (λ k q. one_place place k (subst (λ (x : ℕ). IsIn x k) b q))
     (writes_or xs r found bit has))
 
--- a sweep that found a mask
-pub tidy_sweep : (p : Plain) (i mask found : ℕ) → IsTidy p → Reads p.word i found → Reads p.aside i mask
+-- a sweep that emptied the cleared set, and removed a mask from the word
+pub tidy_sweep : (p : Plain) (i mask seen found : ℕ) → IsTidy p → Reads p.word i found → Reads p.aside i seen
     → found < 2 ^ 64 → mask < 2 ^ 64
     → IsTidy (record p { word = set p.word i (without found mask); aside = set p.aside i 0 })
-tidy_sweep p i mask found tidy word aside fits narrow =
+tidy_sweep p i mask seen found tidy word aside fits narrow =
     let empty : get_or (set p.aside i 0) i 0 ≡ 0 = get_or-set_same p.aside i 0 0 aside.within in
     let none : (k : ℕ) → bit_at (get_or (set p.aside i 0) i 0) k ≡ 0 = λ k. ap (λ (x : ℕ). bit_at x k) empty
     ∙ bit_at-zero k in

@@ -3,7 +3,9 @@ use Rattle.std.specs.Prelude.{◌≡◌, ◌≢◌, ℕ, suc, ◌^◌, ◌<◌, 
 use Rattle.std.specs.Int.{bit_at}
 use Rattle.tag_layout.specs.Layout.{Layout, tag_at}
 use Rattle.tag_core.specs.declared.word_step.WordStep.{WordStep}
-use Rattle.tag_core.specs.declared.word_step.WordStep.TheVariants.{Look, LookAside, Claimed, Swap, Spill}
+use Rattle.tag_core.specs.declared.word_step.WordStep.TheVariants.{Look, LookAside, Claimed, Swap, Keep, Spill}
+use Rattle.tag_core.specs.Steps.{without}
+use Rattle.tag_core.specs.Keeping.{IsLeastIn}
 
 -- each of the places is taken in the word
 abbrev pub AllTaken : ℕ → List ℕ → Type 0
@@ -44,13 +46,44 @@ pub data IsSweep (i : ℕ) : ℕ → List WordStep → Type 0 where
       {seen mask found : ℕ}
       → seen ≢ 0 → mask ≢ 0 → mask < 2 ^ 64 → IsSweep i mask (LookAside i seen ∷ Swap i mask ∷ Spill i mask found ∷ [])
 
--- at most so many turns, each a sweep and a pass, up to the first pass that wins
+-- the same where something was set aside at the swap: one place of the mask stays with the caller, and the rest, if any,
+-- is removed from the word
+pub data IsKeepingSweep (i : ℕ) : ℕ → ℕ → List WordStep → Type 0 where
+  kept_alone :
+      {seen mask place : ℕ}
+      → seen ≢ 0 → mask < 2 ^ 64 → without mask (2 ^ place) ≡ 0
+      → IsKeepingSweep i mask place (LookAside i seen ∷ Swap i mask ∷ Keep i (2 ^ place) ∷ [])
+  kept_one :
+      {seen mask place found : ℕ}
+      → seen ≢ 0 → mask < 2 ^ 64 → without mask (2 ^ place) ≢ 0
+      → IsKeepingSweep i mask place
+      (LookAside i seen ∷ Swap i mask ∷ Keep i (2 ^ place) ∷ Spill i (without mask (2 ^ place)) found ∷ [])
+
+-- a sweep that kept the least place that it swept
+pub record IsLeastKept (i place : ℕ) (steps : List WordStep) : Type 0 where
+  pub mask : ℕ
+  pub least : IsLeastIn mask place
+  pub sweep : IsKeepingSweep i mask place steps
+
+-- the place is the first of the rank that is in the mask
+pub record IsFirstSwept (mask : ℕ) (rank : List ℕ) (place : ℕ) : Type 0 where
+  pub before : List ℕ
+  pub behind : List ℕ
+  pub order : rank ≡ before ++ place ∷ behind
+  pub others : All (λ other. bit_at mask other ≡ 0) before
+  pub is : bit_at mask place ≡ 1
+
+-- at most so many turns, each a sweep and a pass, up to the first pass that wins, or the first sweep that keeps a place
 pub data IsRetry (i : ℕ) (rank : List ℕ) : ℕ → List WordStep → Option ℕ → Type 0 where
   no_turn : IsRetry i rank 0 [] None
   turn_won :
       {turns mask place : ℕ} {sweep second : List WordStep}
       → IsSweep i mask sweep → IsPass i rank second (Some place)
       → IsRetry i rank (suc turns) (sweep ++ second) (Some place)
+  turn_kept :
+      {turns mask place : ℕ} {sweep : List WordStep}
+      → IsKeepingSweep i mask place sweep → IsFirstSwept mask rank place
+      → IsRetry i rank (suc turns) sweep (Some place)
   turn_passed :
       {turns mask : ℕ} {sweep second rest : List WordStep} {answer : Option ℕ}
       → IsSweep i mask sweep → IsPass i rank second None → IsRetry i rank turns rest answer

@@ -8,7 +8,7 @@ use Rattle.tag_core.specs.declared.caller.Caller.{Caller}
 use Rattle.tag_core.specs.declared.record.Record.{Record}
 use Rattle.tag_core.specs.declared.step.Step.TheVariants.{Word}
 use Rattle.tag_core.specs.declared.word_step.WordStep.{WordStep}
-use Rattle.tag_core.specs.declared.word_step.WordStep.TheVariants.{Claimed, Spill}
+use Rattle.tag_core.specs.declared.word_step.WordStep.TheVariants.{Claimed, Keep, Spill}
 use Rattle.tag_core.specs.Callers.{record_of, slot_of, Holds, SameMap}
 use Rattle.tag_core.specs.Records.{record_after}
 use Rattle.tag_search.specs.declared.shared.Shared.{Shared}
@@ -30,15 +30,18 @@ FindsWord (Claimed i mask found) = found < 2 ^ 64
 FindsWord (Spill i mask found) = mask < 2 ^ 64
 FindsWord _ = Unit {0}
 
--- a claim found the bit set of each tag of its word that the caller holds
+-- a claim found the bit set of each tag of its word that the caller holds, and no sweep kept such a tag
 abbrev pub FindsHeldBy : {R : Type 0} → Caller R → WordStep → Type 0
 FindsHeldBy c (Claimed i mask found) =
     (tag : ℕ) → Holds c tag → word_of c.shape.value.layout tag ≡ i
     → bit_at found (place_of c.shape.value.layout tag) ≡ 1
+FindsHeldBy c (Keep i mask) =
+    (tag : ℕ) → Holds c tag → word_of c.shape.value.layout tag ≡ i
+    → bit_at mask (place_of c.shape.value.layout tag) ≡ 0
 FindsHeldBy c _ = Unit {0}
 
 -- the steps are added to the caller's list, and its record is the one after them; the caller keeps each tag that it
--- held, with the value of its slot, and no claim found the bit of such a tag clear
+-- held, with the value of its slot, no claim found the bit of such a tag clear, and no sweep kept such a tag
 pub record AddsAll {R : Type 0} (steps : List WordStep) (old new : Caller R) : Type 0 where
   pub known : record_of new ≡ record_after_all steps (record_of old)
   pub kept : (tag : ℕ) → Holds old tag → Holds new tag × (slot_of new tag ≡ slot_of old tag)

@@ -13,7 +13,7 @@ use Rattle.tag_search.specs.declared.shared.Shared.{Shared}
 use Rattle.std.specs.Int.{bit_at}
 use Rattle.tag_layout.specs.Layout.{word_of, place_of}
 use Rattle.tag_core.specs.declared.shape.Shape.{Shape}
-use Rattle.tag_core.specs.declared.word_step.WordStep.TheVariants.{Look, LookAside, Claimed, Give, Put, Swap, Spill}
+use Rattle.tag_core.specs.declared.word_step.WordStep.TheVariants.{Look, LookAside, Claimed, Give, Put, Swap, Keep, Spill}
 use Rattle.tag_search.specs.Freed.{spilled, latest_after}
 use Rattle.tag_search.specs.Shared.{record_after_all, latest_after_all, latest_of, FindsWord, FindsHeldBy, AddsAll, AddsThrough}
 
@@ -40,6 +40,9 @@ held_earlier : {R : Type 0} (c d : Caller R) → d.shape.value ≡ c.shape.value
     → FindsHeldBy d step → FindsHeldBy c step
 held_earlier c d shape kept (Claimed i mask found) f = λ tag held is.
     ap (λ (k : Shape). bit_at found (place_of k.layout tag)) (sym shape)
+    ∙ f tag (kept tag held) (ap (λ (k : Shape). word_of k.layout tag) shape ∙ is)
+held_earlier c d shape kept (Keep i mask) f = λ tag held is.
+    ap (λ (k : Shape). bit_at mask (place_of k.layout tag)) (sym shape)
     ∙ f tag (kept tag held) (ap (λ (k : Shape). word_of k.layout tag) shape ∙ is)
 held_earlier c d shape kept (Look i found) f = tt
 held_earlier c d shape kept (LookAside i found) f = tt

@@ -1,7 +1,8 @@
 -- A pass that is left after its first try.
-use Rattle.std.specs.Prelude.{◌≡◌, ℕ, List, [], ◌++◌, Option, Some, None}
+use Rattle.std.specs.Prelude.{◌≡◌, ℕ, List, [], ◌++◌, Option, Some, None, count_ones}
 use Rattle.step_ledger.specs.History.{total}
 use Rattle.tag_core.specs.declared.word_step.WordStep.{WordStep}
+use Rattle.tag_core.specs.declared.word_step.WordStep.TheVariants.{Give, Put}
 use Rattle.tag_search.specs.declared.pass.Missed.{Missed}
 use Rattle.tag_search.specs.declared.pass.Missed.TheVariants.{Full, Lost}
 use Rattle.tag_search.specs.Freed.{spilled}
@@ -18,11 +19,18 @@ abbrev pub IsRestOfPass : ℕ → Missed → List WordStep → Option ℕ → Ty
 IsRestOfPass word Full steps answer = (steps ≡ []) × (answer ≡ None)
 IsRestOfPass word (Lost rest found) steps answer = IsTries word (places_of rest) found steps answer
 
--- the steps of a first try that won nothing: with any rest they are a pass, and they freed no tag
+-- how many tags the caller gives back by a step
+abbrev pub given : WordStep → ℕ
+given (Give i mask found) = count_ones mask
+given (Put i mask found) = 1
+given _ = 0
+
+-- the steps of a first try that won nothing: with any rest they are a pass, and they freed no tag and gave none back
 pub record IsMissed (word : ℕ) (rank : List ℕ) (missed : Missed) (steps : List WordStep) : Type 0 where
   pub goes_on : (rest : List WordStep) (answer : Option ℕ) → IsRestOfPass word missed rest answer
       → IsPass word rank (steps ++ rest) answer
   pub freed : total spilled steps ≡ 0
+  pub kept : total given steps ≡ 0
 
 -- the steps of a first try that won this place: they are a pass, and they freed no tag
 pub record IsFirstWin (word : ℕ) (rank : List ℕ) (place : ℕ) (steps : List WordStep) : Type 0 where

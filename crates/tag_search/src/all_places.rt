@@ -9,7 +9,7 @@ ghost use Rattle.tag_search.specs.Search.{IsPass, IsSearch};
 ghost use Rattle.tag_search.specs.Tries.{left_to_try, IsMissed};
 ghost use Rattle.tag_search.specs.Visits.{visit_of, visits, plain_reach};
 
-use crate::pass::{Missed, TURNS, pass_after, retry};
+use crate::pass::{Missed, TURNS, pass_after, retry_keeping};
 use crate::port::Port;
 use crate::rank::Rank;
 use crate::scan::Scan;
@@ -67,7 +67,7 @@ fn search_on<P: Port>(port: &mut P, layout: Layout, first: u32) -> Option<u32>
         (seen : List WordStep) → IsPass first (scan_order 0 (word_depth layout first) true) seen None
         → IsSearch layout (visits layout first (plain_reach layout false 0)) (seen ++ steps) result) }
 {
-    match retry(port, first, all_places(layout, first), TURNS) {
+    match retry_keeping(port, first, all_places(layout, first), TURNS) {
         Some(place) => Some(layout.tag_at(first, place)),
         None => search_others(port, layout, first),
     }

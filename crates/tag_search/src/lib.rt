@@ -23,5 +23,5 @@ pub use hint::{Hint, after_clear};
 pub use laws::{alone_batches_choose, alone_gets_choose};
 pub use plain::PlainPort;
 pub use port::Port;
-pub use search::{get, get_batch, get_shallow};
+pub use search::{Unfinished, get, get_batch, get_shallow};
 pub use shared::Shared;

@@ -1,5 +1,5 @@
 //! Gets and clears by one of the callers of a shared map.
-ghost use Rattle.std.specs.Prelude.{◌≡◌, ℕ, ◌^◌, ◌↔◌, ◌⊎◌, ◌≤◌, false, List, IsTrue, IsOk, IfOk, IfErr, IfNone, OnErr, Some};
+ghost use Rattle.std.specs.Prelude.{◌≡◌, ◌≢◌, ℕ, ◌^◌, ◌↔◌, ◌⊎◌, ◌≤◌, false, List, IsTrue, IsOk, IfOk, IfErr, IfNone, OnErr, Some, Err};
 ghost use Rattle.tag_layout.specs.Layout.{word_bits, word_of, place_of};
 ghost use Rattle.tag_core.specs.Callers.{layout_of, IsCallerOf, Holds, Adds};
 ghost use Rattle.tag_core.specs.Holdings.{Releases};
@@ -7,7 +7,8 @@ ghost use Rattle.tag_core.specs.declared.step.Step.TheVariants.{Word};
 ghost use Rattle.tag_core.specs.declared.word_step.WordStep.TheVariants.{Give, Put};
 ghost use Rattle.tag_core.specs.declared.word_step.WordStep.{WordStep};
 ghost use Rattle.tag_search.specs.Batch.{IsBatchGet};
-ghost use Rattle.tag_search.specs.Begun.{CanFinish, IsBegun, IsRestOfGet, IsWonAtOnce};
+ghost use Rattle.tag_search.specs.Begun.{CanTry, CanFinish, IsBegun, IsRestOfGet, IsWonAtOnce};
+ghost use Rattle.tag_search.specs.declared.search.Unfinished.TheVariants.{NotBegun};
 ghost use Rattle.tag_search.specs.Follows.{HintFollows, BatchFollows, ClearFollows};
 ghost use Rattle.tag_search.specs.Freed.{left_free};
 ghost use Rattle.tag_search.specs.Gains.{Gains, GainsRun};
@@ -56,18 +57,18 @@ pub fn get<R>(map: &Map<R>, caller: &mut Caller<R>, hint: &mut Hint) -> Result<F
     if !caller.room(1) {
         return Err(Spent);
     }
-    match begin_get(map, caller, hint) {
+    match begin(map, caller, hint) {
         Ok(tag) => Ok(Found {
             answer: Some(tag),
             left: 0,
         }),
-        Err(rest) => Ok(finish_get(map, caller, hint, rest)),
+        Err(rest) => Ok(finish(map, caller, hint, rest)),
     }
 }
 
-/// Begins a get by its first try.
+/// Begins a get, for which there is room: makes its first try, which is the whole of most gets. `finish` does the rest.
 #[inline(always)]
-fn begin_get<R>(map: &Map<R>, caller: &mut Caller<R>, hint: &mut Hint) -> Result<u32, Unfinished>
+pub fn begin<R>(map: &Map<R>, caller: &mut Caller<R>, hint: &mut Hint) -> Result<u32, Unfinished>
     requires caller { IsCallerOf map.now caller.old }
     requires room { HasRoom caller.old 1 }
     ensures caller { IsCallerOf map.now caller.new }
@@ -77,6 +78,8 @@ fn begin_get<R>(map: &Map<R>, caller: &mut Caller<R>, hint: &mut Hint) -> Result
     ensures rest { IfErr result (CanFinish (layout_of map.now) hint.old) }
     ensures room { OnErr result (HasRoom caller.new 1) }
     ensures unmoved { OnErr result (hint.new ≡ hint.old) }
+    ensures tries { CanTry (layout_of map.now) hint.old → IfErr result (λ rest. rest ≢ NotBegun) }
+    ensures unchanged { result ≡ Err NotBegun → caller.new ≡ caller.old }
 {
     let tag = search::begin(&mut Shared::new(map, caller), hint)?;
     Ok(tag)
@@ -85,7 +88,7 @@ fn begin_get<R>(map: &Map<R>, caller: &mut Caller<R>, hint: &mut Hint) -> Result
 /// Finishes a get that won nothing at its first try. It is out of line and makes a port of its own: the port of the first
 /// try then needs no memory.
 #[inline(never)]
-fn finish_get<R>(
+pub fn finish<R>(
     map: &Map<R>,
     caller: &mut Caller<R>,
     hint: &mut Hint,

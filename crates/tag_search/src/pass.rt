@@ -1,11 +1,9 @@
 //! Passes over the places of one word, and visits of a word.
-ghost use Rattle.std.specs.Prelude.{◌≡◌, ℕ, ◌<◌, ◌≤◌, ◌^◌, [], ◌∷◌, ◌++◌, All, IfSome, IfNone, IfOk, IfErr, OnErr};
-ghost use Rattle.std.specs.Int.{bit_at};
-ghost use Rattle.tag_core.specs.declared.word_step.WordStep.TheVariants.{Claimed};
+ghost use Rattle.std.specs.Prelude.{◌≡◌, ◌<◌, ◌≤◌, ◌++◌, true, All, IfSome, IfNone, IfOk, IfErr, OnErr};
 ghost use Rattle.tag_layout.specs.Layout.{words, word_depth};
 ghost use Rattle.tag_search.specs.Search.{IsTries, IsPass, IsRetry, IsVisit};
 ghost use Rattle.tag_search.specs.Added.{AddsSteps, SameRoom};
-ghost use Rattle.tag_search.specs.Order.{numbers};
+ghost use Rattle.tag_search.specs.Order.{numbers, scan_order};
 ghost use Rattle.tag_search.specs.Places.{places_of};
 ghost use Rattle.tag_search.specs.Tries.{left_to_try, IsRestOfPass, IsMissed, IsFirstWin};
 
@@ -14,31 +12,6 @@ use crate::rank::Rank;
 
 /// Turns of the visit of the hint's word, each a sweep and a pass.
 pub const TURNS: u32 = 4;
-
-/// Claims one place. If the place was taken, returns the word as the claim found it.
-#[inline]
-fn claim_place<P: Port>(port: &mut P, word: u32, place: u32) -> Result<(), u64>
-    requires port { P.ready port.old }
-    requires word { word < words (P.sizes port.old) }
-    requires room { P.has_room port.old 1 }
-    requires place { place < word_depth (P.sizes port.old) word }
-    requires width { place < 64 }
-    ensures port { P.ready port.new }
-    ensures sizes { P.sizes port.new ≡ P.sizes port.old }
-    ensures won { IfOk result (λ _. (found : ℕ) × (bit_at found place ≡ 0)
-        × P.adds port.old (Claimed word (2 ^ place) found ∷ []) port.new) }
-    ensures lost { IfErr result (λ found. (bit_at found place ≡ 1) × SameRoom P.has_room port.old port.new
-        × P.adds port.old (Claimed word (2 ^ place) found ∷ []) port.new) }
-{
-    let Ok(claim) = port.claim(word, 1 << place) else {
-        unreachable!()
-    };
-    if claim.won != 0 {
-        Ok(())
-    } else {
-        Err(claim.found)
-    }
-}
 
 /// What a pass has still to do after a first try that won nothing.
 #[derive(Clone, Copy)]
@@ -69,7 +42,7 @@ pub fn try_first<P: Port>(port: &mut P, word: u32, rank: Rank) -> Result<u32, Mi
     let Some(place) = rest.next(found) else {
         return Err(Missed::Full);
     };
-    match claim_place(port, word, place) {
+    match port.claim_one(word, place) {
         Ok(()) => Ok(place),
         Err(found) => Err(Missed::Lost { rest, found }),
     }
@@ -140,7 +113,7 @@ fn pass_on<P: Port>(
     let mut found = lost;
     let mut left = Rank { from, limit, then };
     while let Some(place) = left.next(found) {
-        match claim_place(port, word, place) {
+        match port.claim_one(word, place) {
             Ok(()) => return Some(place),
             Err(next) => found = next,
         }
@@ -184,6 +157,33 @@ pub fn retry<P: Port>(port: &mut P, word: u32, rank: Rank, turns: u32) -> Option
 {
     for _ in 0..turns {
         port.sweep(word);
+        if let Some(place) = pass(port, word, rank) {
+            return Some(place);
+        }
+    }
+    None
+}
+
+/// Continues a visit of all places of a word after a pass that won nothing, as `retry` does, but the least tag that a sweep
+/// takes, the first in the word's order, stays with the caller and ends the visit. If it were freed too, the caller would
+/// have to claim it again, and another could win it first.
+#[inline(always)]
+pub fn retry_keeping<P: Port>(port: &mut P, word: u32, rank: Rank, turns: u32) -> Option<u32>
+    requires port { P.ready port.old }
+    requires word { word < words (P.sizes port.old) }
+    requires room { P.has_room port.old 1 }
+    requires places { All (λ place. place < word_depth (P.sizes port.old) word) (places_of rank) }
+    requires whole { places_of rank ≡ scan_order 0 (word_depth (P.sizes port.old) word) true }
+    ensures port { P.ready port.new }
+    ensures sizes { P.sizes port.new ≡ P.sizes port.old }
+    ensures room { IfNone result (SameRoom P.has_room port.old port.new) }
+    ensures place { IfSome result (λ place. place < word_depth (P.sizes port.old) word) }
+    ensures retry { AddsSteps P.adds port.old port.new (λ steps. IsRetry word (places_of rank) turns steps result) }
+{
+    for _ in 0..turns {
+        if let Some(place) = port.sweep_keeping(word) {
+            return Some(place);
+        }
         if let Some(place) = pass(port, word, rank) {
             return Some(place);
         }

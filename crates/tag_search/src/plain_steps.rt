@@ -1,11 +1,11 @@
 //! The port to plain words. No other caller steps between the steps of a call.
-ghost use Rattle.std.specs.Prelude.{◌≡◌, ◌≢◌, ℕ, ◌^◌, ◌<◌, ◌↔◌, ⊤, [], ◌∷◌, slice_index, IsTrue, IfOk, IsOkAnd, MatchBool};
-ghost use Rattle.tag_layout.specs.Layout.{words, IsWithin};
+ghost use Rattle.std.specs.Prelude.{◌≡◌, ◌≢◌, ℕ, ◌^◌, ◌<◌, ◌↔◌, ⊤, [], ◌∷◌, slice_index, IsTrue, IfOk, IfSome, IfNone, IsOkAnd, MatchBool};
+ghost use Rattle.tag_layout.specs.Layout.{words, word_depth, IsWithin};
 ghost use Rattle.tag_core.specs.declared.word_step.WordStep.TheVariants.{Look, Claimed};
 ghost use Rattle.tag_core.specs.Steps.{without};
 ghost use Rattle.tag_search.specs.Added.{AddsSteps};
 ghost use Rattle.tag_search.specs.Plain.{RunsAlone};
-ghost use Rattle.tag_search.specs.Search.{IsSweep};
+ghost use Rattle.tag_search.specs.Search.{IsSweep, IsLeastKept};
 ghost use Rattle.tag_search.specs.Writes.{WritesBits, IsIn, IsTidy};
 
 use crate::plain::PlainPort;
@@ -67,6 +67,18 @@ impl Port for PlainPort {
         })
     }
 
+    #[inline]
+    fn claim_one(&mut self, word: u32, place: u32) -> Result<(), u64> {
+        let Ok(claim) = self.claim(word, 1 << place) else {
+            unreachable!()
+        };
+        if claim.won != 0 {
+            Ok(())
+        } else {
+            Err(claim.found)
+        }
+    }
+
     fn sweep(&mut self, word: u32) -> u64
         requires word { word < words self.old.layout }
         ensures layout { self.new.layout ≡ self.old.layout }
@@ -83,5 +95,26 @@ impl Port for PlainPort {
         self.cleared[at] = 0;
         self.word[at] &= !mask;
         mask
+    }
+
+    fn sweep_keeping(&mut self, word: u32) -> Option<u32>
+        requires word { word < words self.old.layout }
+        ensures layout { self.new.layout ≡ self.old.layout }
+        ensures place { IfSome result (λ place. place < word_depth self.old.layout word) }
+        ensures kept { IfSome result (λ place. AddsSteps RunsAlone self.old self.new (IsLeastKept word place)) }
+        ensures none { IfNone result (AddsSteps RunsAlone self.old self.new (IsSweep word 0)) }
+    {
+        let at = word as usize;
+        let mask = self.cleared[at];
+        if mask == 0 {
+            return None;
+        }
+        let place = mask.trailing_zeros();
+        let rest = mask & !(1u64 << place);
+        self.cleared[at] = 0;
+        if rest != 0 {
+            self.word[at] &= !rest;
+        }
+        Some(place)
     }
 }

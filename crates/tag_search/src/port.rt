@@ -1,10 +1,11 @@
 //! The interface of a search to the words.
-ghost use Rattle.std.specs.Prelude.{◌≡◌, ℕ, ◌+◌, ◌^◌, ◌<◌, ◌↔◌, List, [], ◌∷◌, ◌++◌, IsTrue, IfOk, IsOk, OnErr, count_ones};
-ghost use Rattle.tag_layout.specs.Layout.{Layout as Sizes, words, IsWithin};
+ghost use Rattle.std.specs.Prelude.{◌≡◌, ℕ, ◌+◌, ◌^◌, ◌<◌, ◌↔◌, List, [], ◌∷◌, ◌++◌, IsTrue, IfOk, IfSome, IfNone, IsOk, OnErr, count_ones, IfErr};
+ghost use Rattle.std.specs.Int.{bit_at};
+ghost use Rattle.tag_layout.specs.Layout.{Layout as Sizes, words, word_depth, IsWithin};
 ghost use Rattle.tag_core.specs.declared.word_step.WordStep.{WordStep};
 ghost use Rattle.tag_core.specs.declared.word_step.WordStep.TheVariants.{Look, Claimed};
 ghost use Rattle.tag_core.specs.Steps.{without};
-ghost use Rattle.tag_search.specs.Search.{IsSweep};
+ghost use Rattle.tag_search.specs.Search.{IsSweep, IsLeastKept};
 ghost use Rattle.tag_search.specs.Added.{AddsSteps, SameRoom};
 
 use tag_core::{Claim, Spent};
@@ -56,6 +57,20 @@ pub trait Port {
         ensures step { IfOk result (λ claim. adds self.old (Claimed word mask claim.found ∷ []) self.new) }
         ensures err { OnErr result (self.new ≡ self.old) };
 
+    /// Claims one place, for which there is room. If it was taken, returns the word as the claim found it.
+    fn claim_one(&mut self, word: u32, place: u32) -> Result<(), u64>
+        requires port { ready self.old }
+        requires room { has_room self.old 1 }
+        requires word { word < words (sizes self.old) }
+        requires place { place < word_depth (sizes self.old) word }
+        requires width { place < 64 }
+        ensures port { ready self.new }
+        ensures sizes { sizes self.new ≡ sizes self.old }
+        ensures won { IfOk result (λ _. (found : ℕ) × (bit_at found place ≡ 0)
+            × adds self.old (Claimed word (2 ^ place) found ∷ []) self.new) }
+        ensures lost { IfErr result (λ found. (bit_at found place ≡ 1) × SameRoom has_room self.old self.new
+            × adds self.old (Claimed word (2 ^ place) found ∷ []) self.new) };
+
     /// Frees the tags of a word that were set aside, and returns their mask.
     fn sweep(&mut self, word: u32) -> u64
         requires port { ready self.old }
@@ -64,6 +79,19 @@ pub trait Port {
         ensures sizes { sizes self.new ≡ sizes self.old }
         ensures room { SameRoom has_room self.old self.new }
         ensures steps { AddsSteps adds self.old self.new (IsSweep word result) };
+
+    /// Takes the tags of a word that were set aside, of which the least stays with the caller and the others become free.
+    /// Returns its place. `None` if there were none.
+    fn sweep_keeping(&mut self, word: u32) -> Option<u32>
+        requires port { ready self.old }
+        requires word { word < words (sizes self.old) }
+        requires room { has_room self.old 1 }
+        ensures port { ready self.new }
+        ensures sizes { sizes self.new ≡ sizes self.old }
+        ensures room { IfNone result (SameRoom has_room self.old self.new) }
+        ensures place { IfSome result (λ place. place < word_depth (sizes self.old) word) }
+        ensures kept { IfSome result (λ place. AddsSteps adds self.old self.new (IsLeastKept word place)) }
+        ensures none { IfNone result (AddsSteps adds self.old self.new (IsSweep word 0)) };
 
     /// No steps lead from a state to itself.
     ghost adds_none: { (p : Self) → adds p [] p };

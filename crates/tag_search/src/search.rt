@@ -1,23 +1,27 @@
 //! Gets: the search for a free tag, from a caller's hint.
-ghost use Rattle.std.specs.Prelude.{◌≡◌, ℕ, ◌↔◌, ◌⊎◌, ◌<◌, ◌≤◌, ◌+◌, ◌-◌, false, IsTrue, IsOk, IfOk, IfErr, IfSome, OnErr, Some};
-ghost use Rattle.tag_layout.specs.Layout.{Layout as Sizes, word_bits, word_of, words};
+ghost use Rattle.std.specs.Prelude.{◌≡◌, ℕ, ◌↔◌, ◌⊎◌, ◌<◌, ◌≤◌, ◌+◌, ◌-◌, ◌≢◌, List, ◌++◌, All, false, IsTrue, IsOk, IfOk, IfErr, IfSome, OnErr, Some, Err};
+ghost use Rattle.tag_layout.specs.Layout.{Layout as Sizes, word_bits, word_depth, word_of, words};
 ghost use Rattle.tag_search.specs.Search.{IsSearch};
 ghost use Rattle.tag_search.specs.Added.{AddsSteps, SameRoom};
-ghost use Rattle.tag_search.specs.Begun.{CanFinish, IsBegun, IsRestOfGet, IsWonAtOnce};
+ghost use Rattle.tag_core.specs.declared.word_step.WordStep.{WordStep};
+ghost use Rattle.tag_search.specs.declared.search.Unfinished.TheVariants.{NotBegun};
+ghost use Rattle.tag_search.specs.Begun.{visits_from, all_places_of, CanTry, CanFinish, IsBegun, IsRestOfGet, IsWonAtOnce};
+ghost use Rattle.tag_search.specs.Tries.{left_to_try, IsMissed};
 ghost use Rattle.tag_search.specs.Gets.{IsGet};
 ghost use Rattle.tag_search.specs.Batch.{IsBatchGet};
 ghost use Rattle.tag_search.specs.Hints.{reduced};
 ghost use Rattle.tag_search.specs.Follows.{HintFollows, BatchFollows};
 ghost use Rattle.tag_search.specs.Visits.{plain_visits, shallow_visits};
 
-use crate::all_places::{all_places, search_after};
+use crate::all_places::search_after;
 use crate::batch::search_run;
 use crate::hint::Hint;
-use crate::pass::{Missed, try_first};
+use crate::pass::Missed;
 use crate::port::Port;
+use crate::rank::Rank;
 use crate::scan::Scan;
 use tag_core::Spent;
-use tag_layout::Layout;
+use tag_layout::{Layout, first_clear};
 
 /// Takes a free tag for the caller. `None` means that each place tried was found taken at some moment of the call, not
 /// that all were taken at one moment. `Spent` if the port has no room for one more tag.
@@ -46,14 +50,17 @@ pub fn get<P: Port>(port: &mut P, hint: &mut Hint) -> Result<Option<u32>, Spent>
 
 /// What a get has still to do after `begin`.
 pub enum Unfinished {
-    /// All of it: the hint is not below the depth, or gets are round robin.
+    /// All of it: no try was made.
     NotBegun,
-    /// What its first try missed.
-    Tried(Missed),
+    /// What follows a pass that found the hint's word full.
+    Full,
+    /// What follows a lost claim in the hint's word, from the next place on, in the word as that claim found it.
+    Lost { from: u32, found: u64 },
 }
 
 /// Begins a get: tries the first clear place of the hint's word, and moves the hint if it won it. That is the whole of
-/// most gets, so `finish` stays out of line.
+/// most gets, so `finish` stays out of line. Where the hint is not below the depth, and under round robin, it makes no
+/// try.
 #[inline(always)]
 pub(crate) fn begin<P: Port>(port: &mut P, hint: &mut Hint) -> Result<u32, Unfinished>
     requires port { P.ready port.old }
@@ -67,6 +74,8 @@ pub(crate) fn begin<P: Port>(port: &mut P, hint: &mut Hint) -> Result<u32, Unfin
     ensures begun { IfErr result (λ rest. AddsSteps P.adds port.old port.new (IsBegun (P.sizes port.old) hint.old rest)) }
     ensures rest { IfErr result (CanFinish (P.sizes port.old) hint.old) }
     ensures unmoved { OnErr result (hint.new ≡ hint.old) }
+    ensures tries { CanTry (P.sizes port.old) hint.old → IfErr result (λ rest. rest ≢ NotBegun) }
+    ensures unchanged { result ≡ Err NotBegun → port.new ≡ port.old }
 {
     let layout = port.layout();
     let before = *hint;
@@ -74,14 +83,17 @@ pub(crate) fn begin<P: Port>(port: &mut P, hint: &mut Hint) -> Result<u32, Unfin
         return Err(Unfinished::NotBegun);
     }
     let word = layout.word_of(before.at);
-    match try_first(port, word, all_places(layout, word)) {
-        Ok(place) => {
-            let tag = layout.tag_at(word, place);
-            hint.at = before.after_get(layout.depth(), before.at, Some(tag));
-            Ok(tag)
-        }
-        Err(missed) => Err(Unfinished::Tried(missed)),
+    let found = port.look(word);
+    let Some(place) = first_clear(found, 0, layout.word_depth(word)) else {
+        return Err(Unfinished::Full);
+    };
+    if let Err(found) = port.claim_one(word, place) {
+        let from = place + 1;
+        return Err(Unfinished::Lost { from, found });
     }
+    let tag = layout.tag_at(word, place);
+    hint.at = before.after_get(layout.depth(), before.at, Some(tag));
+    Ok(tag)
 }
 
 /// Finishes a get that `begin` did not.
@@ -99,13 +111,39 @@ pub(crate) fn finish<P: Port>(port: &mut P, hint: &mut Hint, rest: Unfinished) -
     let layout = port.layout();
     match rest {
         Unfinished::NotBegun => get_by_scan(port, hint, layout),
-        Unfinished::Tried(missed) => {
-            let before = *hint;
-            let answer = search_after(port, layout, layout.word_of(before.at), missed);
-            hint.at = before.after_get(layout.depth(), before.at, answer);
-            answer
+        Unfinished::Full => finish_try(port, hint, layout, Missed::Full),
+        Unfinished::Lost { from, found } => {
+            let limit = layout.word_depth(layout.word_of(hint.at));
+            let rest = Rank {
+                from,
+                limit,
+                then: 0,
+            };
+            finish_try(port, hint, layout, Missed::Lost { rest, found })
         }
     }
+}
+
+/// Finishes a get whose first try missed.
+#[inline(always)]
+fn finish_try<P: Port>(port: &mut P, hint: &mut Hint, layout: Layout, missed: Missed) -> Option<u32>
+    requires port { P.ready port.old }
+    requires layout { P.sizes port.old ≡ layout }
+    requires room { P.has_room port.old 1 }
+    requires hint { CanTry layout hint.old }
+    requires places { All (λ place. place < word_depth layout (word_of layout hint.old.at)) (left_to_try missed) }
+    ensures port { P.ready port.new }
+    ensures sizes { P.sizes port.new ≡ P.sizes port.old }
+    ensures tag { IfSome result (λ tag. tag < layout.depth) }
+    ensures steps { AddsSteps P.adds port.old port.new (λ steps. (tried : List WordStep)
+        → IsMissed (word_of layout hint.old.at) (all_places_of layout hint.old) missed tried
+        → IsGet layout (visits_from layout hint.old) result (tried ++ steps)) }
+    ensures hint { HintFollows layout.depth hint.old hint.new result }
+{
+    let before = *hint;
+    let answer = search_after(port, layout, layout.word_of(before.at), missed);
+    hint.at = before.after_get(layout.depth(), before.at, answer);
+    answer
 }
 
 /// Makes a get from any hint, with round robin or without.

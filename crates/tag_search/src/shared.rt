@@ -93,6 +93,11 @@ impl<R> Port for Shared<'_, R> {
     }
 
     #[inline]
+    fn claim_one(&mut self, word: u32, place: u32) -> Result<(), u64> {
+        self.map.claim_one(self.caller, word, place)
+    }
+
+    #[inline]
     fn sweep(&mut self, word: u32) -> u64 {
         if self.map.look_aside(self.caller, word) == 0 {
             return 0;
@@ -105,5 +110,20 @@ impl<R> Port for Shared<'_, R> {
         self.word = word;
         self.mask = mask;
         mask
+    }
+
+    #[inline]
+    fn sweep_keeping(&mut self, word: u32) -> Option<u32> {
+        let seen = self.map.look_aside(self.caller, word);
+        if seen == 0 {
+            return None;
+        }
+        let kept = self.map.keep_least(self.caller, word)?;
+        if kept.rest != 0 {
+            self.freed = self.freed.saturating_add(kept.rest.count_ones() as u64);
+            self.word = word;
+            self.mask = kept.rest;
+        }
+        Some(kept.place)
     }
 }

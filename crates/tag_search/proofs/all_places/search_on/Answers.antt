@@ -12,7 +12,7 @@ pub returns-in-Some-clause-search : goal.returns-in-Some-clause-search
 returns-in-Some-clause-search g c =
     let l = c.args.layout in let first = c.args.first in let place = c.in-Some.place in let h = c.requires.first in
     let all = visits l first (plain_reach l false 0) in
-    adds_weaker (λ p xs q. g.P.Port.adds p xs q) c.args.port.now c.retry.new.port
+    adds_weaker (λ p xs q. g.P.Port.adds p xs q) c.args.port.now c.retry_keeping.new.port
     (λ xs. IsRetry first (places l first h) most_turns xs (Some place))
     (λ xs. (seen : List WordStep) → IsPass first (places l first h) seen None
     → IsSearch l all (seen ++ xs) (Some c.tag_at.result))
@@ -24,7 +24,7 @@ pub returns-in-None-clause-search : goal.returns-in-None-clause-search
 returns-in-None-clause-search g c =
     let l = c.args.layout in let first = c.args.first in let h = c.requires.first in
     let all = visits l first (plain_reach l false 0) in let answer = c.search_others.result in
-    adds_joined (λ p xs q. g.P.Port.adds p xs q) g.met.P.Port.adds_more c.args.port.now c.retry.new.port
+    adds_joined (λ p xs q. g.P.Port.adds p xs q) g.met.P.Port.adds_more c.args.port.now c.retry_keeping.new.port
     c.search_others.new.port (λ xs. IsRetry first (places l first h) most_turns xs None)
     (λ ys. IsSearch l (others l first h) ys answer)
     (λ xs. (seen : List WordStep) → IsPass first (places l first h) seen None → IsSearch l all (seen ++ xs) answer)

@@ -10,7 +10,7 @@ use Rattle.tag_search.proofs.on_map.get.Goals as goal
 
 pub returns-in-Ok : goal.returns-in-Ok
 returns-in-Ok g c =
-    let old = c.args.caller.now in let new = c.begin_get.new.caller in let won = c.in-Ok.ensures.won in
+    let old = c.args.caller.now in let new = c.begin.new.caller in let won = c.in-Ok.ensures.won in
     let got = won_got c.args.map.now old new c.requires.caller c.args.hint.now c.in-Ok.tag won in
     record {
       caller = search rules;
@@ -26,20 +26,20 @@ returns-in-Ok g c =
 
 pub returns-in-Err : goal.returns-in-Err
 returns-in-Err g c =
-    let old = c.args.caller.now in let middle = c.begin_get.new.caller in let new = c.finish_get.new.caller in
+    let old = c.args.caller.now in let middle = c.begin.new.caller in let new = c.finish.new.caller in
     let hint = c.args.hint.now in let rest = c.in-Err.rest in let begun = c.in-Err.ensures.begun in
     let none = begun_frees_none (layout_of c.args.map.now) hint rest begun.steps begun.holds in
-    let got = rest_got c.args.map.now old new c.requires.caller middle hint rest c.finish_get.result.answer begun
-    (rw c.in-Err.ensures.unmoved at c.finish_get.ensures.steps) in
+    let got = rest_got c.args.map.now old new c.requires.caller middle hint rest c.finish.result.answer begun
+    (rw c.in-Err.ensures.unmoved at c.finish.ensures.steps) in
     record {
       caller = search rules;
       room = search rules;
       gains = got.gains;
       steps = got.steps;
-      vain = none_found c.args.map.now old new c.requires.caller hint c.finish_get.result.answer got.steps;
+      vain = none_found c.args.map.now old new c.requires.caller hint c.finish.result.answer got.steps;
       alone = got.alone;
       hint = search rules;
-      left = c.finish_get.ensures.left
+      left = c.finish.ensures.left
           ∙ left_since old middle new (freed_same old middle begun.steps begun.added none);
       err = search rules;
     }

@@ -22,13 +22,13 @@ loop-place-init g c = record {
   };
 }
 
-pub claim_place-requires-clause-place : goal.claim_place-requires-clause-place
-claim_place-requires-clause-place g c =
+pub claim_one-requires-clause-place : goal.claim_one-requires-clause-place
+claim_one-requires-clause-place g c =
     rw c.loop-place.invariant.sizes (all_left (λ place. place < word_depth (g.P.Port.sizes c.args.port.now) c.args.word)
     c.loop-place.found _ _ c.in-Some.place c.in-Some.ensures.next c.loop-place.invariant.places).0
 
-pub claim_place-requires-clause-width : goal.claim_place-requires-clause-width
-claim_place-requires-clause-width g c = c.in-Some.ensures.within
+pub claim_one-requires-clause-width : goal.claim_one-requires-clause-width
+claim_one-requires-clause-width g c = c.in-Some.ensures.within
 
 pub returns-in-Ok-clause-place : goal.returns-in-Ok-clause-place
 returns-in-Ok-clause-place g c =
@@ -39,7 +39,7 @@ pub returns-in-Ok-clause-tries : goal.returns-in-Ok-clause-tries
 returns-in-Ok-clause-tries g c =
     let claim = c.in-Ok.ensures.won in let place = c.in-Some.place in
     adds_ended (λ p xs q. g.P.Port.adds p xs q) g.met.P.Port.adds_more c.args.port.now c.loop-place.port
-    c.claim_place.new.port (IsTries c.args.word (places_of c.loop-place.left) c.loop-place.found)
+    c.claim_one.new.self (IsTries c.args.word (places_of c.loop-place.left) c.loop-place.found)
     (IsTries c.args.word (numbers c.args.from c.args.limit ++ numbers 0 c.args.then) c.args.lost) (Some place)
     c.loop-place.invariant.begun (record {
       steps = Claimed c.args.word (2 ^ place) claim.0 ∷ [];
@@ -54,12 +54,12 @@ loop-place-preserved g c =
     record {
       port = c.in-Err.ensures.port;
       sizes = c.in-Err.ensures.sizes ∙ c.loop-place.invariant.sizes;
-      room = same_room_joined (λ p n. g.P.Port.has_room p n) c.args.port.now c.loop-place.port c.claim_place.new.port
+      room = same_room_joined (λ p n. g.P.Port.has_room p n) c.args.port.now c.loop-place.port c.claim_one.new.self
           c.loop-place.invariant.room claim.1;
       places = (all_left (λ place. place < word_depth (g.P.Port.sizes c.args.port.now) c.args.word) c.loop-place.found _
           _ c.in-Some.place c.in-Some.ensures.next c.loop-place.invariant.places).1;
       begun = adds_further (λ p xs q. g.P.Port.adds p xs q) g.met.P.Port.adds_more c.args.port.now c.loop-place.port
-          c.claim_place.new.port (IsTries i (places_of c.next.new.self) c.in-Err.next)
+          c.claim_one.new.self (IsTries i (places_of c.next.new.self) c.in-Err.next)
           (IsTries i (places_of c.loop-place.left) c.loop-place.found) (IsTries i all c.args.lost)
           c.loop-place.invariant.begun (record {
             steps = Claimed i (2 ^ c.in-Some.place) c.in-Err.next ∷ [];

@@ -14,11 +14,12 @@ returns-in_default-clause-missed g c = record {
   holds = record {
     goes_on = full_pass c.args.word (places_of c.args.rank) c.look-found.result c.in_default.ensures.next;
     freed = refl;
+    kept = refl;
   };
 }
 
-pub claim_place-requires-clause-place : goal.claim_place-requires-clause-place
-claim_place-requires-clause-place g c =
+pub claim_one-requires-clause-place : goal.claim_one-requires-clause-place
+claim_one-requires-clause-place g c =
     rw c.look-found.ensures.sizes (all_left (λ place. place < word_depth (g.P.Port.sizes c.args.port.now) c.args.word)
     c.look-found.result _ _ c.in-Some.place c.in-Some.ensures.next c.requires.places).0
 
@@ -39,7 +40,7 @@ returns-in-Ok-clause-won g c =
     let step = Claimed c.args.word (2 ^ c.in-Some.place) claim.0 in
     record {
       steps = look ∷ step ∷ [];
-      added = g.met.P.Port.adds_more c.args.port.now c.look-found.new.self c.claim_place.new.port (look ∷ [])
+      added = g.met.P.Port.adds_more c.args.port.now c.look-found.new.self c.claim_one.new.self (look ∷ [])
           (step ∷ []) c.look-found.ensures.step claim.2;
       holds = record { pass = pass (wins c.in-Some.ensures.next claim.1); freed = refl };
     }
@@ -51,10 +52,11 @@ returns-in-Err-clause-missed g c =
     let step = Claimed c.args.word (2 ^ c.in-Some.place) c.in-Err.found in
     record {
       steps = look ∷ step ∷ [];
-      added = g.met.P.Port.adds_more c.args.port.now c.look-found.new.self c.claim_place.new.port (look ∷ [])
+      added = g.met.P.Port.adds_more c.args.port.now c.look-found.new.self c.claim_one.new.self (look ∷ [])
           (step ∷ []) c.look-found.ensures.step claim.2;
       holds = record {
         goes_on = λ rest answer tries. pass (loses c.in-Some.ensures.next claim.0 tries);
         freed = refl;
+        kept = refl;
       };
     }

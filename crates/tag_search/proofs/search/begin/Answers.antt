@@ -1,35 +1,67 @@
--- A first try that wins is the whole search, as a hint below the depth is reduced already.
-use Rattle.std.proofs.Common.{◌≡◌, ◌<◌, Some, arith, subst}
-use Rattle.tag_layout.specs.Layout.{Layout}
-use Rattle.tag_search.specs.Begun.{IsWonAtOnce}
-use Rattle.tag_search.specs.Places.{places_of}
-use Rattle.tag_search.specs.Search.{at_once}
-use Rattle.tag_search.specs.Tries.{IsFirstWin}
+-- A first try that wins is the whole search, as a hint below the depth is reduced already. One that wins nothing is
+-- the beginning of a pass.
+use Rattle.std.proofs.Common.{rules, ◌≡◌, ◌^◌, ◌<◌, ◌≤◌, [], ◌∷◌, Some, arith, ap, refl, subst, ◌∙◌}
+use Rattle.tag_layout.specs.Layout.{Layout, word_of, word_depth}
+use Rattle.tag_core.specs.declared.word_step.WordStep.TheVariants.{Look, Claimed}
+use Rattle.tag_search.specs.Search.{at_once, pass, wins}
 use Rattle.tag_search.proofs.AllPlaces.{whole_won}
+use Rattle.tag_search.proofs.BegunFacts.{begun_full, begun_lost, first_whole}
 use Rattle.tag_search.proofs.GetFacts.{plain_get, plain_follows}
-use Rattle.tag_search.proofs.Joined.{adds_weaker}
 use Rattle.tag_search.proofs.search.begin.Goals as goal
 
-pub returns-in-Ok-clause-won : goal.returns-in-Ok-clause-won
-returns-in-Ok-clause-won g c =
+pub returns-in_default-clause-begun : goal.returns-in_default-clause-begun
+returns-in_default-clause-begun g c =
+    let l = g.P.Port.sizes c.args.port.now in let at = c.args.hint.now.at in let word = c.word_of-word.result in
+    let same = c.layout-layout.ensures.value in
+    let is : word ≡ word_of l at = c.word_of-word.ensures.value ∙ ap (λ (x : Layout). word_of x at) same in
+    record {
+      steps = Look word c.look-found.result ∷ [];
+      added = c.look-found.ensures.step;
+      holds = begun_full l c.args.hint.now word c.word_depth.result c.look-found.result is
+          (c.word_depth.ensures.value ∙ (λ z. word_depth (same z) (is z))) c.in_default.ensures;
+    }
+
+pub returns-in-Err-clause-begun : goal.returns-in-Err-clause-begun
+returns-in-Err-clause-begun g c =
+    let l = g.P.Port.sizes c.args.port.now in let at = c.args.hint.now.at in let word = c.word_of-word.result in
+    let same = c.layout-layout.ensures.value in let place = c.in-Some.place in let lost = c.in-Err.ensures.lost in
+    let is : word ≡ word_of l at = c.word_of-word.ensures.value ∙ ap (λ (x : Layout). word_of x at) same in
+    let look = Look word c.look-found.result in let claim = Claimed word (2 ^ place) c.in-Err.found in
+    record {
+      steps = look ∷ claim ∷ [];
+      added = g.met.P.Port.adds_more c.args.port.now c.look-found.new.self c.claim_one.new.self (look ∷ [])
+          (claim ∷ []) c.look-found.ensures.step lost.2;
+      holds = begun_lost l c.args.hint.now word c.word_depth.result c.look-found.result is
+          (c.word_depth.ensures.value ∙ (λ z. word_depth (same z) (is z))) place c.in-Err.found
+          c.word_depth.ensures.within.1 c.in-Some.ensures lost.0;
+    }
+
+pub returns-clause-won : goal.returns-clause-won
+returns-clause-won g c =
     let l = g.P.Port.sizes c.args.port.now in let layout = c.layout-layout.result in let hint = c.args.hint.now in
     let same : layout ≡ l = c.layout-layout.ensures.value in let word = c.word_of-word.result in
     let low : hint.at < layout.depth = let d = c.depth.ensures.value in let f = c.if-before-depth.false in omega arith in
-    let inside = c.word_of-word.ensures.within in let tag = c.tag_at-tag.result in let place = c.in-Ok.place in
-    adds_weaker (λ p xs q. g.P.Port.adds p xs q) c.args.port.now c.try_first.new.port
-    (IsFirstWin word (places_of c.all_places.result) place) (IsWonAtOnce l hint tag)
-    (λ xs win. record {
-      get = plain_get layout l hint same (subst (λ (x : Layout). hint.at < x.depth) same low) word
-          c.word_of-word.ensures.value c.if-before.false c.all_places.ensures.shift (omega arith) (Some tag) xs
-          (rw c.tag_at-tag.ensures.value (whole_won layout word inside xs place (at_once
-          (rw c.all_places.ensures.rank at win.pass))));
-      freed = win.freed;
-    })
-    c.in-Ok.ensures.won
+    let inside = c.word_of-word.ensures.within in let narrow : layout.shift ≤ 6 = search rules in
+    let place = c.in-Some.place in let won = c.in_default-claim_one.ensures.won in
+    let look = Look word c.look-found.result in let claim = Claimed word (2 ^ place) won.0 in
+    record {
+      steps = look ∷ claim ∷ [];
+      added = g.met.P.Port.adds_more c.args.port.now c.look-found.new.self c.claim_one.new.self (look ∷ [])
+          (claim ∷ []) c.look-found.ensures.step won.2;
+      holds = record {
+        get = plain_get layout l hint same (subst (λ (x : Layout). hint.at < x.depth) same low) word
+            c.word_of-word.ensures.value c.if-before.false narrow (omega arith) (Some c.tag_at-tag.result)
+            (look ∷ claim ∷ [])
+            (rw c.tag_at-tag.ensures.value (whole_won layout word inside (look ∷ claim ∷ []) place (at_once
+            (pass (wins (rw c.word_depth.ensures.value
+            at (first_whole c.look-found.result c.word_depth.result place c.in-Some.ensures)) won.1)))));
+        freed = refl;
+      };
+    }
 
-pub returns-in-Ok-clause-hint : goal.returns-in-Ok-clause-hint
-returns-in-Ok-clause-hint g c =
+pub returns-clause-hint : goal.returns-clause-hint
+returns-clause-hint g c =
     let layout = c.layout-layout.result in let hint = c.args.hint.now in let same = c.layout-layout.ensures.value in
     let low : hint.at < layout.depth = let d = c.depth.ensures.value in let f = c.if-before-depth.false in omega arith in
-    plain_follows layout _ hint same (subst (λ (x : Layout). hint.at < x.depth) same low) c.depth-in-Ok.result
-    c.after_get-hint.result (Some c.tag_at-tag.result) c.depth-in-Ok.ensures.value c.after_get-hint.ensures
+    plain_follows layout _ hint same (subst (λ (x : Layout). hint.at < x.depth) same low) c.depth-2.result
+    c.after_get-hint.result (Some c.tag_at-tag.result) c.depth-2.ensures.value c.after_get-hint.ensures

@@ -22,7 +22,7 @@ invariant_of-self c =
     let p = seen c.self.inside in
     let i = c.args.word in let mask = c.index-mask.result.now in let found = c.index_mut-2.result.now in
     let fits : found < 2 ^ 64 = omega arith in let narrow : mask < 2 ^ 64 = omega arith in
-    tidy_sweep p i mask found c.self.invariant
+    tidy_sweep p i mask mask found c.self.invariant
     (reads_word p _ c.self.view_is c.self.invariant i c.requires.word found c.index_mut-2.ensures.value)
     (reads_aside p _ c.self.view_is c.self.invariant i c.requires.word mask c.index-mask.ensures) fits narrow
 

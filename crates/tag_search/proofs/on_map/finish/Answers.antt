@@ -5,7 +5,7 @@ use Rattle.tag_core.specs.declared.map.Map.{Map}
 use Rattle.tag_core.specs.Callers.{layout_of}
 use Rattle.tag_search.specs.Begun.{IsBegun}
 use Rattle.tag_search.proofs.FreedFacts.{left_is}
-use Rattle.tag_search.proofs.on_map.finish_get.Goals as goal
+use Rattle.tag_search.proofs.on_map.finish.Goals as goal
 
 pub returns-clause-left : goal.returns-clause-left
 returns-clause-left g c =

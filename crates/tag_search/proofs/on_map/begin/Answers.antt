@@ -2,7 +2,7 @@
 use Rattle.std.proofs.Common.{rules, sym, subst}
 use Rattle.tag_core.specs.declared.caller.Caller.{Caller}
 use Rattle.tag_search.specs.Shared.{HasRoom}
-use Rattle.tag_search.proofs.on_map.begin_get.Goals as goal
+use Rattle.tag_search.proofs.on_map.begin.Goals as goal
 
 pub returns-in_err-tag-clause-room : goal.returns-in_err-tag-clause-room
 returns-in_err-tag-clause-room g c =

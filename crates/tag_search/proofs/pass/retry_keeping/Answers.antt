@@ -1,0 +1,51 @@
+-- A sweep that keeps a place ends the visit. A turn that wins nothing is followed by the turns left.
+use Rattle.std.proofs.Common.{◌≡◌, suc, ◌-◌, ◌+◌, ◌<◌, arith, ◌∙◌, subst}
+use Rattle.tag_layout.specs.Layout.{Layout, word_depth}
+use Rattle.tag_search.specs.Places.{places_of}
+use Rattle.tag_search.specs.Search.{IsPass}
+use Rattle.tag_search.specs.Added.{AddsSteps}
+use Rattle.tag_search.proofs.Joined.{same_room_joined}
+use Rattle.tag_search.proofs.Turns.{turn_further, turn_ends, turn_keeps, turns_over}
+use Rattle.tag_search.proofs.pass.retry_keeping.Goals as goal
+
+pub returns-in-Some-clause-retry : goal.returns-in-Some-clause-retry
+returns-in-Some-clause-retry g c =
+    let turn = c.loop.counter in let turns = c.args.turns in let low = c.loop-test.true in
+    let e : turns - turn ≡ suc (turns - (turn + 1)) = omega arith in
+    turn_keeps (λ p xs q. g.P.Port.adds p xs q) g.met.P.Port.adds_more c.args.word (places_of c.args.rank)
+    c.args.turns c.args.port.now c.loop.port c.sweep_keeping.new.self (turns - turn) (turns - (turn + 1))
+    (word_depth (g.P.Port.sizes c.args.port.now) c.args.word) c.in-Some.place e c.requires.whole
+    (subst (λ (l : Layout). c.in-Some.place < word_depth l c.args.word) c.loop.invariant.sizes c.in-Some.ensures.place)
+    c.loop.invariant.begun c.in-Some.ensures.kept
+
+pub returns-in-Some-pass-clause-retry : goal.returns-in-Some-pass-clause-retry
+returns-in-Some-pass-clause-retry g c =
+    let turn = c.loop.counter in let turns = c.args.turns in let low = c.loop-test.true in
+    let e : turns - turn ≡ suc (turns - (turn + 1)) = omega arith in
+    turn_ends (λ p xs q. g.P.Port.adds p xs q) g.met.P.Port.adds_more c.args.word (places_of c.args.rank)
+    c.args.turns 0 c.args.port.now c.loop.port c.sweep_keeping.new.self c.pass.new.port (turns - turn)
+    (turns - (turn + 1)) e c.in-Some-pass.place c.loop.invariant.begun
+    c.in_default.ensures.none c.in-Some-pass.ensures.pass
+
+pub loop-preserved : goal.loop-preserved
+loop-preserved g c =
+    let turn = c.loop.counter in let turns = c.args.turns in let low = c.loop-test.true in
+    let e : turns - turn ≡ suc (turns - (turn + 1)) = omega arith in
+    record {
+      port = c.pass.ensures.port;
+      sizes = c.pass.ensures.sizes ∙ c.sweep_keeping.ensures.sizes ∙ c.loop.invariant.sizes;
+      room = same_room_joined (λ p n. g.P.Port.has_room p n) c.args.port.now c.loop.port c.pass.new.port
+          c.loop.invariant.room (same_room_joined (λ p n. g.P.Port.has_room p n) c.loop.port
+          c.sweep_keeping.new.self c.pass.new.port c.in_default.ensures.room c.in_default-pass.ensures.room);
+      begun = turn_further (λ p xs q. g.P.Port.adds p xs q) g.met.P.Port.adds_more c.args.word (places_of c.args.rank)
+          c.args.turns 0 c.args.port.now c.loop.port c.sweep_keeping.new.self c.pass.new.port (turns - turn)
+          (turns - (turn + 1)) e c.loop.invariant.begun c.in_default.ensures.none
+          (subst (λ answer. AddsSteps (λ p xs q. g.P.Port.adds p xs q) c.sweep_keeping.new.self c.pass.new.port
+          (λ xs. IsPass c.args.word (places_of c.args.rank) xs answer)) c.in_default-pass.is c.pass.ensures.pass);
+    }
+
+pub returns-clause-retry : goal.returns-clause-retry
+returns-clause-retry g c =
+    let done = c.loop-test.false in
+    turns_over (λ p xs q. g.P.Port.adds p xs q) c.args.word (places_of c.args.rank) c.args.turns c.args.port.now
+    c.loop.port (c.args.turns - c.loop.counter) (omega arith) c.loop.invariant.begun

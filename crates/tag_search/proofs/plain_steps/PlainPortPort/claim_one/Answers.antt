@@ -1,0 +1,27 @@
+-- The mask is one bit, and a claim wins exactly if it found the bit clear.
+use Rattle.std.proofs.Common.{◌^◌, ◌<◌, arith, sym, ◌∙◌}
+use Rattle.std.proofs.lemmas.Nat.{one_shl, pow_below}
+use Rattle.tag_search.proofs.Claims.{clear_where_won, taken_where_lost}
+use Rattle.tag_search.proofs.plain_steps.PlainPortPort.claim_one.Goals as goal
+
+pub claim-requires-clause-mask : goal.claim-requires-clause-mask
+claim-requires-clause-mask c = rw (one_shl c.args.place 64 c.requires.width)
+    (pow_below c.args.place _ c.requires.place)
+
+pub returns-then-claim-ne0-clause-won : goal.returns-then-claim-ne0-clause-won
+returns-then-claim-ne0-clause-won c =
+    let found = c.in-Ok.claim.found in let e = one_shl c.args.place 64 c.requires.width in
+    let fits : found < 2 ^ 64 = omega arith in let won = rw e at c.in-Ok.ensures.won in (
+      found,
+      clear_where_won found c.args.place fits c.requires.width (λ none. c.if-claim-ne0.true (won ∙ none)),
+      rw e at c.in-Ok.ensures.step,
+    )
+
+pub returns-else-claim-ne0-clause-lost : goal.returns-else-claim-ne0-clause-lost
+returns-else-claim-ne0-clause-lost c =
+    let found = c.in-Ok.claim.found in let e = one_shl c.args.place 64 c.requires.width in
+    let fits : found < 2 ^ 64 = omega arith in let won = rw e at c.in-Ok.ensures.won in (
+      taken_where_lost found c.args.place fits c.requires.width (sym won ∙ c.if-claim-ne0.false),
+      (λ n. (λ x. x, λ x. x)),
+      rw e at c.in-Ok.ensures.step,
+    )
