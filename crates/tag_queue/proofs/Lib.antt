@@ -1,4 +1,5 @@
 pub mod Getting
+pub mod Begun
 pub mod SameParts
 pub mod Looking
 pub mod Rounds
@@ -22,3 +23,4 @@ pub mod Resized
 pub mod Refusals
 pub mod OneByOne
 pub mod Placed
+mod Sleeping

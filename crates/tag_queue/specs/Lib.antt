@@ -7,6 +7,7 @@ pub mod Masks
 pub mod Slots
 pub mod Waits
 pub mod Freed
+pub mod Begun
 pub mod Blocking
 pub mod Parts
 pub mod Gathering
@@ -18,3 +19,4 @@ pub mod Placing
 pub mod Tallies
 pub mod Refusals
 pub mod Bell
+pub mod Sleeping

@@ -13,6 +13,7 @@ use tag_search::Found;
 
 mod blocking;
 mod freed;
+mod sleeping;
 
 impl<R: Copy> Queue<R> {
     /// Takes a free tag, which this agent alone holds until it clears or posts the tag. `None` means that each tag that

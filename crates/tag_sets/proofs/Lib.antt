@@ -3,6 +3,7 @@ pub mod Lifting
 pub mod Told
 pub mod Passing
 pub mod Getting
+pub mod Begun
 pub mod Standing
 pub mod Looking
 pub mod Uniting
@@ -24,3 +25,4 @@ pub mod Resized
 pub mod Placed
 pub mod MaskNumbers
 pub mod MaskAnswers
+pub mod Sleeping

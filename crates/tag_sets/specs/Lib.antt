@@ -6,6 +6,7 @@ pub mod Slots
 pub mod Clears
 pub mod Gets
 pub mod Freed
+pub mod Begun
 pub mod Waits
 pub mod Meeting
 pub mod Opening
@@ -24,3 +25,4 @@ pub mod Resizing
 pub mod Tallies
 pub mod Refusals
 pub mod Calls
+pub mod Sleeping

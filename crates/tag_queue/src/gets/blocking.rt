@@ -101,7 +101,7 @@ impl<R: Copy> Queue<R> {
     }
 
     /// Makes a get for an agent that may win one more tag.
-    fn try_get(&self, agent: &mut Agent<R>) -> Option<u32>
+    pub(super) fn try_get(&self, agent: &mut Agent<R>) -> Option<u32>
         requires agent { IsAgentOf self.now agent.old }
         requires room { HasRoom agent.old 1 }
         ensures agent { IsAgentOf self.now agent.new }

@@ -1,6 +1,9 @@
 //! Gets that look for no sleeper and tell how many tags they left free, and the look that follows them.
-ghost use Rattle.std.specs.Prelude.{◌≡◌, ◌+◌, ◌<◌, ◌≤◌, false, IfOk, IsTrue, IsOkAnd, None};
-ghost use Rattle.tag_queue.specs.Agents.{layout_of, IsAgentOf, caller_of, hint_of, step_count};
+ghost use Rattle.std.specs.Prelude.{◌≡◌, ◌≢◌, ◌+◌, ◌<◌, ◌≤◌, false, IfOk, IfErr, IsTrue, IsOkAnd, Some, None};
+ghost use Rattle.tag_search.specs.declared.search.Unfinished.TheVariants.{NotBegun};
+ghost use Rattle.tag_search.specs.Begun.{CanTry};
+ghost use Rattle.tag_queue.specs.Agents.{layout_of, IsAgentOf, HasRoom, caller_of, hint_of, step_count};
+ghost use Rattle.tag_queue.specs.Begun.{GetsFreed, TriesFirst, BeginsGet};
 ghost use Rattle.tag_queue.specs.Freed.{LooksAfter};
 ghost use Rattle.tag_queue.specs.Gets.{GetsPlain, GetsShallow, GetsBatch, most_steps, CountsBatch};
 ghost use Rattle.tag_search.specs.Freed.{left_free};
@@ -10,7 +13,7 @@ ghost use Rattle.tag_queue.specs.Refusals.{get_checks, shallow_checks, batch_che
 use crate::agent::Agent;
 use crate::fault::QueueFault;
 use crate::queue::Queue;
-use tag_search::{Found, on_map};
+use tag_search::{Found, Unfinished, on_map};
 
 impl<R: Copy> Queue<R> {
     /// Like `get`, but looks for no sleeper: `left` is how many tags its sweeps freed and it did not take, 0 for none.
@@ -28,6 +31,36 @@ impl<R: Copy> Queue<R> {
             return Err(QueueFault::Spent);
         };
         Ok(found)
+    }
+
+    /// Begins a get as `get_freed` makes it: its first try is the whole of most gets, and left no tag free if it won one.
+    /// `finish_get` does what is left. `NotBegun` means that no try was made: there is no room for a tag, the hint is not
+    /// below the depth, or gets are round robin; nothing has changed then, and `get_freed` does it all.
+    #[inline(always)]
+    pub fn begin_get(&self, agent: &mut Agent<R>) -> Result<u32, Unfinished>
+        requires agent { IsAgentOf self.now agent.old }
+        ensures agent { IsAgentOf self.now agent.new }
+        ensures won { IfOk result (λ tag. GetsFreed self.now (record { answer = Some tag; left = 0 }) agent.old agent.new) }
+        ensures begins { IfErr result (λ rest. BeginsGet self.now rest agent.old agent.new) }
+        ensures tries { HasRoom agent.old 1 → CanTry (layout_of self.now) (hint_of agent.old)
+            → IfErr result (λ rest. rest ≢ NotBegun) }
+    {
+        if !agent.caller.room(1) {
+            return Err(Unfinished::NotBegun);
+        }
+        on_map::begin(&self.map, &mut agent.caller, &mut agent.hint)
+    }
+
+    /// Finishes a get whose first try won nothing. The two are together one call of `get_freed`.
+    #[inline(always)]
+    pub fn finish_get(&self, agent: &mut Agent<R>, rest: Unfinished) -> Found<u32>
+        requires agent { IsAgentOf self.now agent.old }
+        requires begun { (before : Agent R) × TriesFirst self.now rest before agent.old }
+        ensures agent { IsAgentOf self.now agent.new }
+        ensures finishes { (before : Agent R) → TriesFirst self.now rest before agent.old
+            → GetsFreed self.now result before agent.new }
+    {
+        on_map::finish(&self.map, &mut agent.caller, &mut agent.hint, rest)
     }
 
     /// Like `get_shallow`, but looks for no sleeper (see `get_freed`). It is refused as `get_shallow` is: `TooShallow`,

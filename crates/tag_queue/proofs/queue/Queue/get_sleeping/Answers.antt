@@ -1,0 +1,21 @@
+-- Once the agent has a tag, it sees to all others.
+use Rattle.std.proofs.Common.{◌≡◌, ◌∙◌}
+use Rattle.tag_bell.specs.declared.told.TheConstants.{SLEEPERS}
+use Rattle.tag_queue.specs.Agents.{layout_of, caller_of}
+use Rattle.tag_queue.proofs.Sleeping.{gains_then_keeps, gains_it, waits_so, up_again, counts_none}
+use Rattle.tag_queue.proofs.queue.Queue.get_sleeping.Goals as goal
+
+pub returns-clause-gets : goal.returns-clause-gets
+returns-clause-gets g c =
+    let l = layout_of c.args.self.now in let tag = c.win-tag.result in let old = c.args.agent.now in
+    let won = c.win-tag.new.agent in let new = c.wake_next.new.agent in let wins = c.win-tag.ensures.wins in
+    let wakes = c.wake_next.ensures.wakes in record {
+      won = won;
+      wins = wins;
+      wakes = wakes;
+      more = gains_then_keeps (λ other. other ≡ tag) (caller_of old) (caller_of won) (caller_of new)
+          (gains_it l tag old won wins) wakes.holds;
+      up = λ up. wakes.waits SLEEPERS ∙ up_again l tag old won wins up;
+      others = λ other ne. wakes.waits other ∙ waits_so l tag old won wins other ne;
+      counts = wakes.same.1.0 ∙ counts_none l tag old won wins;
+    }
