@@ -1,45 +1,36 @@
 -- What a clear owes its user, from what becomes of the tag.
-use Rattle.std.proofs.Common.{◌≡◌, ℕ, Result, Ok, Err, IfOk, OnOk, inl}
+use Rattle.std.proofs.Common.{ℕ, Ok}
 use Rattle.refusals.specs.Refusals.{PassesAll}
-use Rattle.wake_book.specs.declared.grants.Grants.{Grants}
-use Rattle.tag_sets.specs.declared.fault.TagFault.{TagFault}
+use Rattle.wake_book.specs.declared.groups.Waiter.{Waiter}
+use Rattle.tag_sets.specs.Hands.{waiter_of}
 use Rattle.tag_sets.specs.declared.tags.Tags.{Tags}
 use Rattle.tag_cache.specs.declared.cache.Cache.{Cache}
-use Rattle.tag_cache.specs.Caches.{IsCacheOf, IsKnown}
-use Rattle.tag_cache.specs.Clears.{Goes, GoesOrdinary}
-use Rattle.tag_cache.specs.Holding.{HoldsLess}
+use Rattle.tag_cache.specs.Calls.{DoesClear}
+use Rattle.tag_cache.specs.Caches.{IsCacheOf, IsKnown, LeavesWindow}
+use Rattle.tag_cache.specs.Changes.{KnowsLess}
+use Rattle.tag_cache.specs.Clears.{Goes}
 use Rattle.tag_cache.specs.Refusals.{tag_checks}
-use Rattle.tag_cache.specs.Tallies.{Tallies}
 use Rattle.tag_cache.proofs.Below.{held_below}
 use Rattle.tag_cache.proofs.Going.{goes_less, goes_tallies}
-use Rattle.tag_cache.proofs.Reusing.{known_held, known_ordinary_of}
+use Rattle.tag_cache.proofs.Reusing.{known_held}
 
-module _ {R : Type 0} (tags : Tags R) (tag : ℕ) (old new : Cache R) where
-  -- every check passed, the user holds the tag no more, the clear went its way with so many woken, and one tag was
-  -- taken back
-  pub record Cleared (woken : ℕ) : Type 0 where
-    pub passes : PassesAll (tag_checks tags old tag)
-    pub less : HoldsLess (λ other. other ≡ tag) old new
-    pub way : Goes tags tag woken old new
-    pub tally : Tallies 0 1 old new
+-- a tag that the user is known to hold passes every check
+pub known_passes : {R : Type 0} (tags : Tags R) (tag : ℕ) (cache : Cache R) → IsCacheOf tags cache → IsKnown cache tag
+    → PassesAll (tag_checks tags cache tag)
+known_passes tags tag cache own known = let held = known_held cache tag known in
+    (held_below tags cache.hand tag own held.0, (held, tt))
 
-  -- of a tag that the user is known to hold, which is then an ordinary one
-  pub cleared : (woken : ℕ) → IsCacheOf tags old → IsKnown old tag → GoesOrdinary tags tag woken old new → Cleared woken
-  cleared woken own known ordinary = let held = known_held old tag known in
-      let goes : Goes tags tag woken old new = inl (known_ordinary_of tags old tag own known, ordinary) in record {
-        passes = (held_below tags old.hand tag own held.0, (held, tt));
-        less = goes_less tags tag woken old new held.1 goes;
-        way = goes;
-        tally = goes_tallies tags tag woken old new goes;
-      }
-
-  -- what a clear answers
-  pub less_on : (r : Result Grants TagFault) → OnOk r (PassesAll (tag_checks tags old tag))
-      → IfOk r (λ grants. Goes tags tag grants.woken old new) → OnOk r (HoldsLess (λ other. other ≡ tag) old new)
-  less_on (Ok grants) passes goes = goes_less tags tag grants.woken old new passes.1.0.1 goes
-  less_on (Err fault) passes goes = tt
-
-  pub tally_on : (r : Result Grants TagFault) → IfOk r (λ grants. Goes tags tag grants.woken old new)
-      → OnOk r (Tallies 0 1 old new)
-  tally_on (Ok grants) goes = goes_tallies tags tag grants.woken old new goes
-  tally_on (Err fault) goes = tt
+module _ {R Told : Type 0} (tags : Tags R) (tag : ℕ) (old new : Cache R) where
+  -- every check passed, and the tag went its way
+  pub does_clear : (woken : Told → ℕ) (Tells : Told → Waiter → Waiter → Type 0) (told : Told)
+      → PassesAll (tag_checks tags old tag) → Goes tags tag (woken told) old new
+      → Tells told (waiter_of old.hand) (waiter_of new.hand) → (LeavesWindow tag old → KnowsLess tag old new)
+      → DoesClear woken Tells tag tags (Ok told) old new
+  does_clear woken Tells told passes goes tells knows = record {
+    refusals = record { first = tt; passes = passes; same = tt };
+    less = goes_less tags tag (woken told) old new goes;
+    way = goes;
+    tells = tells;
+    knows = knows;
+    tally = goes_tallies tags tag (woken told) old new goes;
+  }

@@ -1,17 +1,20 @@
 -- What becomes of a tag that is cleared, and what that is for the user and for the tallies.
-use Rattle.std.proofs.Common.{arith, ◌≡◌, ℕ, ◌≤◌, ◌∙◌, subst, ⊎_elim}
+use Rattle.std.proofs.Common.{arith, ◌≡◌, ℕ, ◌<◌, ◌≤◌, sym, ap, ◌∙◌, subst, ⊎_elim}
 use Rattle.tag_sets.specs.declared.hand.Hand.{Hand}
 use Rattle.tag_sets.specs.declared.tags.Tags.{Tags}
 use Rattle.tag_sets.specs.Hands.{reserved_of}
+use Rattle.tag_sets.specs.Tallies.{won_in_both, back_in_both}
 use Rattle.tag_sets.specs.Holding as hand_holding
 use Rattle.tag_cache.specs.declared.cache.Cache.{Cache}
-use Rattle.tag_cache.specs.Caches.{IsKept, KeepsNone}
+use Rattle.tag_cache.specs.declared.way.Way.{Way}
+use Rattle.tag_cache.specs.declared.way.Way.TheVariants.{Keep, KeepInstead, GiveBack, GiveBackAll}
+use Rattle.tag_cache.specs.Caches.{KeepsNone}
 use Rattle.tag_cache.specs.Holding.{HoldsLess}
 use Rattle.tag_cache.specs.Tallies.{Tallies}
-use Rattle.tag_cache.specs.Clears.{LooksOnce, GivesKept, KeptUnseen, KeptInstead, GoesAlone, GoesWithKept, GoesWithAll, GoesLast, GoesReserved, GoesOrdinary, Goes}
+use Rattle.tag_cache.specs.Clears.{LooksOnce, GivesKept, GivesAlone, GoesBy, GoesOrdinary, Goes}
 use Rattle.tag_cache.proofs.Carrying.{less}
 use Rattle.tag_cache.proofs.Reusing.{keeping, no_count}
-use Rattle.tag_cache.proofs.Tallying.{stays_moves}
+use Rattle.tag_cache.proofs.Tallying.{Moves, stays_moves}
 use Rattle.tag_cache.proofs.Giving.{kept_less, kept_moves, gives_moves}
 
 module _ {R : Type 0} (tags : Tags R) where
@@ -39,16 +42,14 @@ module _ {R : Type 0} (tags : Tags R) where
         );
       }
 
-  with_kept_less : (tag found woken : ℕ) (old new : Cache R) → GoesWithKept tags tag found woken old new
+  -- what becomes of the tag after a look, on each way
+  way_less : (way : Way) (tag woken : ℕ) (old new : Cache R) (looked : Hand R)
+      → hand_holding.HoldsSame old.hand looked → GoesBy way tags tag woken old looked new
       → HoldsLess (λ other. other ≡ tag) old new
-  with_kept_less tag found woken old new g = both_less g.gives.sooner old new g.between g.gives.between
-      (λ other. other ≡ tag) g.looked.stays.same g.gives.kept g.gives.gives.clears.less g.none
-
-  -- the kept tags went back, and this one is kept
-  instead_less : (tag woken : ℕ) (old new : Cache R) → KeptInstead tags tag woken old new → ¬ (IsKept old tag)
-      → HoldsLess (λ other. other ≡ tag) old new
-  instead_less tag woken old new g out = let s = g.looked.stays.same in
-      let given = kept_less tags woken old g.between new.hand g.gives in record {
+  way_less Keep tag woken old new looked s g = keeping old new tag
+      (subst (λ (h : Hand R). hand_holding.HoldsSame old.hand h) (sym g.hand) s) g.also
+  way_less KeepInstead tag woken old new looked s g =
+      let given = kept_less tags woken old looked new.hand g.gives in record {
         gone = λ other e h. h.1 ((g.only.only other).1 e);
         kept = λ other n h. let x = s.kept other h.0 in let y = given.kept other h.1 x.0 in
             ((y.0, λ k. n ((g.only.only other).0 k)), y.1 ∙ x.1);
@@ -57,65 +58,43 @@ module _ {R : Type 0} (tags : Tags R) where
           λ k. given.gone other k h.0,
         );
       }
+  way_less GiveBack tag woken old new looked s g = less old new g.kept (λ other. other ≡ tag)
+      (looks_less old.hand looked new.hand (λ other. other ≡ tag) s g.gives.clears.less)
+  way_less GiveBackAll tag woken old new looked s g = both_less g.gives.sooner old new looked g.gives.between
+      (λ other. other ≡ tag) s g.gives.kept g.gives.gives.clears.less g.none
 
-  ordinary_less : (tag woken : ℕ) (old new : Cache R) → ¬ (IsKept old tag) → GoesOrdinary tags tag woken old new
+  pub goes_less : (tag woken : ℕ) (old new : Cache R) → Goes tags tag woken old new
       → HoldsLess (λ other. other ≡ tag) old new
-  ordinary_less tag woken old new out g = ⊎_elim
-      (λ (k : KeptUnseen tag woken old new). keeping old new tag k.looked.stays.same k.also)
-      (λ rest. ⊎_elim
-      (λ (i : KeptInstead tags tag woken old new). instead_less tag woken old new i out)
-      (λ rest. ⊎_elim
-      (λ (a : GoesAlone tags tag woken old new). less old new a.kept (λ other. other ≡ tag)
-      (looks_less old.hand a.between new.hand (λ other. other ≡ tag) a.looked.stays.same a.gives.clears.less))
-      (λ rest. ⊎_elim
-      (λ (a : GoesWithAll tags tag woken old new). with_kept_less tag a.found woken old new a.gives)
-      (λ (l : GoesLast tags tag woken old new). with_kept_less tag 0 woken old new l.gives) rest) rest) rest) g
+  goes_less tag woken old new g = ⊎_elim
+      (λ (o : (reserved_of tags ≤ tag) × GoesOrdinary tags tag woken old new).
+      way_less o.1.way tag woken old new o.1.between o.1.looked.stays.same o.1.goes)
+      (λ (r : (tag < reserved_of tags) × GivesAlone tags tag woken old old.hand new).
+      less old new r.1.kept (λ other. other ≡ tag) r.1.gives.clears.less) g
 
-  pub goes_less : (tag woken : ℕ) (old new : Cache R) → ¬ (IsKept old tag) → Goes tags tag woken old new
-      → HoldsLess (λ other. other ≡ tag) old new
-  goes_less tag woken old new out g = ⊎_elim
-      (λ (o : (reserved_of tags ≤ tag) × GoesOrdinary tags tag woken old new). ordinary_less tag woken old new out o.1)
-      (λ (r : GoesReserved tags tag woken old new). less old new r.kept (λ other. other ≡ tag) r.gives.clears.less) g
-
-  with_kept_tallies : (tag found woken : ℕ) (old new : Cache R) → GoesWithKept tags tag found woken old new
-      → Tallies 0 1 old new
-  with_kept_tallies tag found woken old new g = let s = stays_moves old.hand g.between g.looked.stays in
-      let k = kept_moves tags g.gives.sooner old g.between g.gives.between g.gives.kept in
+  way_tallies : (way : Way) (tag woken : ℕ) (old new : Cache R) (looked : Hand R) → Moves 0 0 old.hand looked
+      → GoesBy way tags tag woken old looked new → Tallies 0 1 old new
+  way_tallies Keep tag woken old new looked s g = let sw = s.won_is in let sb = s.back_is in
+      let w = ap (λ (h : Hand R). won_in_both h) g.hand in let b = ap (λ (h : Hand R). back_in_both h) g.hand in
+      let more = g.also.more in let reused = g.also.reused in record { handed = omega arith; taken = omega arith }
+  way_tallies KeepInstead tag woken old new looked s g = let sw = s.won_is in let sb = s.back_is in
+      let k = kept_moves tags woken old looked new.hand g.gives in let kw = k.won_is in let kb = k.back_is in
+      let one = g.only.one in let reused = g.only.reused in record { handed = omega arith; taken = omega arith }
+  way_tallies GiveBack tag woken old new looked s g = let sw = s.won_is in let sb = s.back_is in
+      let m = gives_moves tags tag woken looked new.hand g.gives in let mw = m.won_is in let mb = m.back_is in
+      let count = g.kept.count in let reused = g.kept.reused in record { handed = omega arith; taken = omega arith }
+  way_tallies GiveBackAll tag woken old new looked s g = let sw = s.won_is in let sb = s.back_is in
+      let k = kept_moves tags g.gives.sooner old looked g.gives.between g.gives.kept in
+      let kw = k.won_is in let kb = k.back_is in
       let m = gives_moves tags tag g.gives.later g.gives.between new.hand g.gives.gives in
-      let sw = s.won_is in let sb = s.back_is in let kw = k.won_is in let kb = k.back_is in
-      let mw = m.won_is in let mb = m.back_is in
-      let zero = no_count new g.none in let reused = g.reused in
+      let mw = m.won_is in let mb = m.back_is in let zero = no_count new g.none in let reused = g.reused in
       record { handed = omega arith; taken = omega arith }
-
-  instead_tallies : (tag woken : ℕ) (old new : Cache R) → KeptInstead tags tag woken old new → Tallies 0 1 old new
-  instead_tallies tag woken old new g = let s = stays_moves old.hand g.between g.looked.stays in
-      let k = kept_moves tags woken old g.between new.hand g.gives in
-      let sw = s.won_is in let sb = s.back_is in let kw = k.won_is in let kb = k.back_is in
-      let one = g.only.one in let reused = g.only.reused in
-      record { handed = omega arith; taken = omega arith }
-
-  ordinary_tallies : (tag woken : ℕ) (old new : Cache R) → GoesOrdinary tags tag woken old new → Tallies 0 1 old new
-  ordinary_tallies tag woken old new g = ⊎_elim
-      (λ (k : KeptUnseen tag woken old new). let s = stays_moves old.hand new.hand k.looked.stays in
-      let sw = s.won_is in let sb = s.back_is in let more = k.also.more in let reused = k.also.reused in
-      record { handed = omega arith; taken = omega arith })
-      (λ rest. ⊎_elim
-      (λ (i : KeptInstead tags tag woken old new). instead_tallies tag woken old new i)
-      (λ rest. ⊎_elim
-      (λ (a : GoesAlone tags tag woken old new). let s = stays_moves old.hand a.between a.looked.stays in
-      let sw = s.won_is in let sb = s.back_is in let m = gives_moves tags tag woken a.between new.hand a.gives in
-      let mw = m.won_is in let mb = m.back_is in let count = a.kept.count in let reused = a.kept.reused in
-      record { handed = omega arith; taken = omega arith })
-      (λ rest. ⊎_elim
-      (λ (a : GoesWithAll tags tag woken old new). with_kept_tallies tag a.found woken old new a.gives)
-      (λ (l : GoesLast tags tag woken old new). with_kept_tallies tag 0 woken old new l.gives) rest) rest) rest) g
 
   pub goes_tallies : (tag woken : ℕ) (old new : Cache R) → Goes tags tag woken old new → Tallies 0 1 old new
   goes_tallies tag woken old new g = ⊎_elim
-      (λ (o : (reserved_of tags ≤ tag) × GoesOrdinary tags tag woken old new). ordinary_tallies tag woken old new o.1)
-      (λ (r : GoesReserved tags tag woken old new). let m = gives_moves tags tag woken old.hand new.hand r.gives in
-      let mw = m.won_is in let mb = m.back_is in let count = r.kept.count in let reused = r.kept.reused in
-      record { handed = omega arith; taken = omega arith }) g
+      (λ (o : (reserved_of tags ≤ tag) × GoesOrdinary tags tag woken old new).
+      way_tallies o.1.way tag woken old new o.1.between (stays_moves old.hand o.1.between o.1.looked.stays) o.1.goes)
+      (λ (r : (tag < reserved_of tags) × GivesAlone tags tag woken old old.hand new).
+      way_tallies GiveBack tag woken old new old.hand (record { won_is = omega arith; back_is = omega arith }) r.1) g
 
   -- the look found nobody
   pub found_none : (found : ℕ) (a b : Hand R) → found ≡ 0 → LooksOnce found a b → LooksOnce 0 a b

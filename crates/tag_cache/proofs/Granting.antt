@@ -1,5 +1,5 @@
 -- Grants of calls that were made one after the other.
-use Rattle.std.proofs.Common.{arith, ◌≡◌, ℕ, zero, suc, [], ◌∷◌, List, get_or, sum, refl, ap, subst, ◌∙◌, ◌+◌, ◌≤◌}
+use Rattle.std.proofs.Common.{arith, ◌≡◌, ℕ, zero, suc, [], ◌∷◌, List, get_or, sum, refl, ap, ◌∙◌, ◌+◌, ◌≤◌}
 use Rattle.std.specs.Prelude.{slice_index}
 use Rattle.std.proofs.lemmas.List.{get_or-replicate}
 use Rattle.std.proofs.lemmas.List.Sums.{sum_by-cons}
@@ -8,22 +8,15 @@ use Rattle.wake_book.specs.declared.grants.Grants.{Grants}
 use Rattle.wake_book.specs.declared.groups.Waiter.{Waiter}
 use Rattle.wake_book.specs.declared.grants.TheConstants.{NO_GRANTS}
 use Rattle.wake_book.specs.declared.steps.GroupStep.{GroupStep}
-use Rattle.wake_book.specs.declared.steps.GroupStep.TheVariants.{Look}
 use Rattle.wake_book.specs.Grants.{AreGrantsOf, granted_in}
 use Rattle.wake_book.specs.Groups.{GrantsUnrung, RingsNobody}
-use Rattle.wake_book.specs.Waits.{active_at, moved_by}
+use Rattle.wake_book.specs.Waits.{moved_by}
+use Rattle.tag_queue.proofs.Granted.{look_grants_none}
 use Rattle.tag_sets.specs.declared.hand.Hand.{Hand}
-use Rattle.tag_sets.specs.Hands.{group_steps, waiter_of}
+use Rattle.tag_sets.specs.Hands.{waiter_of}
 use Rattle.tag_sets.specs.Waits.{Enters}
-
--- a look at the active count grants nothing
-grants_after : (grants : Grants) (found : ℕ) (old mid new : List GroupStep) → mid ≡ Look active_at found ∷ old
-    → AreGrantsOf grants mid new → AreGrantsOf grants old new
-grants_after grants found old mid new e g = let all = g.all in let looked = ap (total moved_by) e in record {
-  each = λ group low. let is = g.each group low in let same = ap (total (granted_in group)) e in omega arith;
-  all = omega arith;
-  sum_is = g.sum_is;
-}
+use Rattle.tag_cache.specs.Clears.{LooksOnce}
+use Rattle.tag_cache.specs.Rings.{TellsSince}
 
 -- an entry is at most the sum
 at_most_sum : (xs : List ℕ) (k : ℕ) → get_or xs k 0 ≤ sum xs
@@ -47,19 +40,11 @@ pub as_none : (grants : Grants) (old new : Waiter) → grants.woken ≡ 0 → Gr
 as_none grants old new none g = record { are = none_woken grants _ _ none g.are; silent = g.silent }
 
 module _ {R : Type 0} where
-  -- the same of a hand that looked once
-  pub after_look : (grants : Grants) (found : ℕ) (a b c : Hand R) → group_steps b ≡ Look active_at found ∷ group_steps a
-      → RingsNobody (waiter_of a) (waiter_of b) → GrantsUnrung grants (waiter_of b) (waiter_of c)
-      → GrantsUnrung grants (waiter_of a) (waiter_of c)
-  after_look grants found a b c e silent g = record {
-    are = grants_after grants found (group_steps a) (group_steps b) (group_steps c) e g.are;
-    silent = g.silent ∙ silent;
-  }
-
-  -- a hand that is as it was
-  pub before_same : (grants : Grants) (a b c : Hand R) → b ≡ a → GrantsUnrung grants (waiter_of b) (waiter_of c)
-      → GrantsUnrung grants (waiter_of a) (waiter_of c)
-  before_same grants a b c e g = subst (λ (x : Hand R). GrantsUnrung grants (waiter_of x) (waiter_of c)) e g
+  -- what is told of every earlier moment since which nobody was granted a wakeup, is told of one look before
+  pub looked_told : {Told : Type 0} (Tells : Told → Waiter → Waiter → Type 0) (told : Told) (found : ℕ) (a b c : Hand R)
+      → LooksOnce found a b → TellsSince Tells told b c → Tells told (waiter_of a) (waiter_of c)
+  looked_told Tells told found a b c l t = t a
+      (look_grants_none found (waiter_of a) (waiter_of b) l.looks l.silent)
 
   -- a hand that then enters a wait group
   pub then_enters : (grants : Grants) (group : ℕ) (a b c : Hand R) → GrantsUnrung grants (waiter_of a) (waiter_of b)

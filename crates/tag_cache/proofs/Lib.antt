@@ -12,6 +12,7 @@ pub mod Looking
 pub mod Answering
 pub mod Cautious
 pub mod Waiting
+pub mod Sleeping
 pub mod Shifting
 pub mod Crossing
 pub mod Steady

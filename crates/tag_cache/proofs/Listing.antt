@@ -78,7 +78,7 @@ module _ {R : Type 0} (tags : Tags R) (list : List ℕ) (left : ℕ) (old : Cach
     why = ⊎_elim (λ (some : 1 ≤ c.found). inl some) (λ (l : LeavesNone left old). inr (last_one l)) c.why;
     flushed = g.between;
     sooner = g.sooner;
-    kept = kept_same tags 0 old mid f g.sooner mid.hand g.between g.kept;
+    kept = kept_same tags old mid f g.sooner mid.hand g.between g.kept;
     later = g.later;
     gives = g.gives;
     woken_is = g.woken_is;

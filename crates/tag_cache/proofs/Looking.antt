@@ -1,105 +1,18 @@
 -- What becomes of a tag after a look at the active count, which changes the hand alone.
-use Rattle.std.proofs.Common.{arith, ◌≡◌, ◌⊎◌, ◌↔◌, ℕ, ◌≤◌, List, inl, inr, sym, ap, ◌∙◌, subst, ⊎_elim}
+use Rattle.std.proofs.Common.{arith, ◌≡◌, ◌↔◌, ℕ, ◌≤◌, List, inl, inr, sym, ap, ◌∙◌, subst, ⊎_elim}
 use Rattle.tag_queue.specs.Masks.{tags_in}
 use Rattle.tag_sets.specs.declared.hand.Hand.{Hand}
 use Rattle.tag_sets.specs.declared.tags.Tags.{Tags}
 use Rattle.tag_cache.specs.declared.cache.Cache.{Cache}
+use Rattle.tag_cache.specs.declared.way.Way.{Way}
+use Rattle.tag_cache.specs.declared.way.Way.TheVariants.{Keep, KeepInstead, GiveBack, GiveBackAll}
 use Rattle.tag_cache.specs.Windows.{IsIn}
-use Rattle.tag_cache.specs.Caches.{IsKnown, KeepsNone, HasNoPlace, HasPlace, CanBeKept, kept_tags, count_of, reused_of}
-use Rattle.tag_cache.specs.Changes.{KeepsSame, Keeps, SameFields, SameTerms, SameWindow, KnowsLess}
-use Rattle.tag_cache.specs.Clears.{LooksOnce, GivesList, GivesKept, GivesWith, KeptUnseen, KeptInstead, GoesAlone, GoesWithKept, MakesRoom}
-use Rattle.tag_cache.proofs.Carrying.{same_fields, keeps_twice}
+use Rattle.tag_cache.specs.Caches.{IsKnown, IsLast, KeepsNone, HasNoPlace, CanBeKept, Holds, LeavesWindow, kept_tags, count_of}
+use Rattle.tag_cache.specs.Changes.{KeepsSame, SameFields, SameWindow, KnowsLess}
+use Rattle.tag_cache.specs.Holding.{HoldsLess, HoldsSame}
+use Rattle.tag_cache.specs.Clears.{LooksOnce, GivesList, GivesKept, CallsFor, GoesBy, GoesOrdinary, MayStay}
+use Rattle.tag_cache.proofs.Carrying.{same, same_fields, keeps_twice, terms_twice}
 use Rattle.tag_cache.proofs.Moving.{also_from, can_also, only_from}
-
-module _ {R : Type 0} (tags : Tags R) (tag : ℕ) (old mid : Cache R) (s : SameFields old mid) where
-  same : KeepsSame old mid
-  same = same_fields old mid s.first s.kept s.most s.keeping s.reused
-
-  none_from : KeepsNone old → KeepsNone mid
-  none_from n = λ t k. n t ((same.kept t).0 k)
-
-  none_to : KeepsNone mid → KeepsNone old
-  none_to n = λ t k. n t ((same.kept t).1 k)
-
-  place_from : HasNoPlace tag mid → HasNoPlace tag old
-  place_from full = let first = s.first in let most = s.most in let count = same.count in ⊎_elim
-      (λ (m : mid.most ≤ count_of mid). inl (omega arith))
-      (λ o. inr ((λ w. let low = w.0 in let high = w.1 in o.0 (omega arith, omega arith)), λ n. o.1 (none_from n))) full
-
-  can_from : CanBeKept tag mid → CanBeKept tag old
-  can_from = let first = s.first in can_also tag mid old (record { most = sym s.most; keeping = sym s.keeping })
-      (sym s.reused) (λ careful w. let low = w.0 in let high = w.1 in (omega arith, omega arith))
-
-  can_to : CanBeKept tag old → CanBeKept tag mid
-  can_to = let first = s.first in can_also tag old mid (record { most = s.most; keeping = s.keeping }) s.reused
-      (λ careful w. let low = w.0 in let high = w.1 in (omega arith, omega arith))
-
-  pub kept_same : (woken : ℕ) (a b : Hand R) → GivesKept tags woken mid a b → GivesKept tags woken old a b
-  kept_same woken a b g = record {
-    none = λ n. g.none (none_from n);
-    some = λ n. subst (λ (l : List ℕ). GivesList tags l woken a b) same_tags (g.some (λ m. n (none_to m)));
-  }
-    where
-      same_tags : kept_tags mid ≡ kept_tags old
-      same_tags = ap (λ (f : ℕ). tags_in f mid.kept) s.first ∙ ap (tags_in old.first) s.kept
-
-  pub goes_with_kept : (found woken : ℕ) (new : Cache R) → LooksOnce found old.hand mid.hand
-      → GivesWith tags tag woken mid mid.hand new.hand → KeepsNone new → SameTerms mid new
-      → reused_of new ≡ reused_of mid → GoesWithKept tags tag found woken old new
-  goes_with_kept found woken new looked g none terms reused = record {
-    between = mid.hand;
-    looked = looked;
-    gives = record {
-      between = g.between;
-      sooner = g.sooner;
-      kept = kept_same g.sooner mid.hand g.between g.kept;
-      later = g.later;
-      gives = g.gives;
-      woken_is = g.woken_is;
-    };
-    none = none;
-    terms = record { most = terms.most ∙ s.most; keeping = terms.keeping ∙ s.keeping };
-    reused = reused ∙ s.reused;
-  }
-
-  pub kept_unseen : (woken : ℕ) (new : Cache R) → woken ≡ 0 → LooksOnce 0 old.hand mid.hand → ¬ (HasNoPlace tag old)
-      → CanBeKept tag mid → Keeps tag mid new → KeptUnseen tag woken old new
-  kept_unseen woken new nobody looked place can k = record {
-    looked = subst (λ (h : Hand R). LooksOnce 0 old.hand h) (sym k.hand) looked;
-    place = place;
-    can = can_from can;
-    also = also_from tag old mid new same k.also;
-    none = nobody;
-  }
-
-  pub kept_at_once : (woken : ℕ) (new : Cache R) → woken ≡ 0 → LooksOnce 0 old.hand mid.hand → HasPlace tag old
-      → Keeps tag mid new → KeptUnseen tag woken old new
-  kept_at_once woken new nobody looked p k = kept_unseen woken new nobody looked p.place (can_to p.can) k
-
-  -- there was no place for the tag, or it may not be kept
-  pub room_goes : (woken : ℕ) (before new : Cache R) → LooksOnce 0 old.hand mid.hand → before ≡ mid
-      → HasNoPlace tag mid ⊎ ¬ (CanBeKept tag mid) → MakesRoom tags tag woken before new
-      → KeptInstead tags tag woken old new ⊎ GoesAlone tags tag woken old new
-  room_goes woken before new looked e full g =
-      on (subst (λ (x : Cache R). MakesRoom tags tag woken x new) e g)
-    where
-      on : MakesRoom tags tag woken mid new → KeptInstead tags tag woken old new ⊎ GoesAlone tags tag woken old new
-      on g = ⊎_elim
-          (λ i. inl (record {
-            between = mid.hand;
-            looked = looked;
-            full = ⊎_elim (λ f. place_from f) (λ n. absurd (n i.0)) full;
-            can = can_from i.0;
-            gives = kept_same woken mid.hand new.hand i.1;
-            only = only_from tag old mid new same i.2;
-          }))
-          (λ a. inr (record {
-            between = mid.hand;
-            looked = looked;
-            never = λ c. a.0 (can_to c);
-            gives = a.1;
-            kept = keeps_twice old mid new same a.2;
-          })) g
 
 -- the same tags are known if the window and its mask of them are as before
 pub same_known : {R : Type 0} (old new : Cache R) → new.first ≡ old.first → new.known ≡ old.known → (tag : ℕ)
@@ -138,10 +51,143 @@ pub knows_less_then_same : {R : Type 0} (tag : ℕ) (a b c : Cache R) → KnowsL
     → ((other : ℕ) → IsKnown c other ↔ IsKnown b other) → KnowsLess tag a c
 knows_less_then_same tag a b c l s = λ other. ((λ i. (l other).0 ((s other).0 i)), (λ x. (s other).1 ((l other).1 x)))
 
--- a tag that was not among them
+-- the user holds less, and nothing changed since
+pub holds_less_then_same : {R : Type 0} (named : ℕ → Type 0) (a b c : Cache R) → HoldsLess named a b → HoldsSame b c
+    → HoldsLess named a c
+holds_less_then_same named a b c l s = record {
+  gone = λ tag n h. l.gone tag n (s.none_else tag h);
+  kept = λ tag n h. let x = l.kept tag n h in let y = s.kept tag x.0 in (y.0, y.1 ∙ x.1);
+  none_else = λ tag h. l.none_else tag (s.none_else tag h);
+}
+
+-- a tag that was not among those known
 pub unknown_less : {R : Type 0} (tag : ℕ) (old new : Cache R) → ¬ (IsKnown old tag)
     → ((other : ℕ) → IsKnown new other ↔ IsKnown old other) → KnowsLess tag old new
 unknown_less tag old new out s = λ other. (
   (λ i. let was = (s other).0 i in (was, λ e. out (subst (λ (t : ℕ). IsKnown old t) e was))),
   (λ x. (s other).1 x.0),
 )
+
+-- a clear of the tag leaves the window where it is, as before
+pub leaves_still : {R : Type 0} (tag : ℕ) (old new : Cache R) → new.first ≡ old.first → new.keeping ≡ old.keeping
+    → LeavesWindow tag old → LeavesWindow tag new
+leaves_still tag old new first keeping leaves = ⊎_elim
+    (λ within. let low = within.0 in let high = within.1 in inl (omega arith, omega arith))
+    (λ careful. inr (keeping ∙ careful)) leaves
+
+module _ {R : Type 0} (old mid : Cache R) (s : SameFields old mid) where
+  fields_keep : KeepsSame old mid
+  fields_keep = same_fields old mid s.first s.kept s.most s.keeping s.reused
+
+  fields_back : SameFields mid old
+  fields_back = record {
+    first = sym s.first;
+    kept = sym s.kept;
+    known = sym s.known;
+    most = sym s.most;
+    keeping = sym s.keeping;
+    reused = sym s.reused;
+  }
+
+  none_from : KeepsNone old → KeepsNone mid
+  none_from n = λ t k. n t ((fields_keep.kept t).0 k)
+
+module _ {R : Type 0} (tag : ℕ) (old mid : Cache R) (s : SameFields old mid) where
+  pub place_from : HasNoPlace tag mid → HasNoPlace tag old
+  place_from full = let first = s.first in let most = s.most in let count = (fields_keep old mid s).count in ⊎_elim
+      (λ (m : mid.most ≤ count_of mid). inl (omega arith))
+      (λ o. inr (
+        (λ w. let low = w.0 in let high = w.1 in o.0 (omega arith, omega arith)),
+        λ n. o.1 (none_from old mid s n),
+      )) full
+
+  can_from : CanBeKept tag mid → CanBeKept tag old
+  can_from = let first = s.first in can_also tag mid old (record { most = sym s.most; keeping = sym s.keeping })
+      (sym s.reused) (λ careful w. let low = w.0 in let high = w.1 in (omega arith, omega arith))
+
+  last_from : IsLast tag mid → IsLast tag old
+  last_from l = (sym s.keeping ∙ l.0, λ other i. l.1 other ((same_known old mid s.first s.known other).1 i))
+
+  pub held_on : {found : ℕ} → LooksOnce found old.hand mid.hand → Holds old tag → Holds mid tag
+  held_on looked h = ((same old mid (fields_keep old mid s) looked.stays.same).kept tag h).0
+
+  pub knows_on : (new : Cache R) → KnowsLess tag mid new → KnowsLess tag old new
+  knows_on new = same_then_knows_less tag old mid new (same_known old mid s.first s.known)
+
+may_stay : {R : Type 0} (tag found : ℕ) (old mid : Cache R) → SameFields old mid → MayStay tag found mid
+    → MayStay tag found old
+may_stay tag found old mid s m = record {
+  nobody = m.nobody;
+  other = λ l. m.other (last_from tag mid old (fields_back old mid s) l);
+}
+
+-- what calls for a way after the look did so before
+pub calls_from : {R : Type 0} (tag : ℕ) (old mid : Cache R) (s : SameFields old mid) (way : Way) (found : ℕ)
+    → CallsFor way tag found mid → CallsFor way tag found old
+calls_from tag old mid s Keep found c = (
+  may_stay tag found old mid s c.0,
+  can_from tag old mid s c.1,
+  λ full. c.2 (place_from tag mid old (fields_back old mid s) full),
+)
+calls_from tag old mid s KeepInstead found c = (
+  may_stay tag found old mid s c.0,
+  can_from tag old mid s c.1,
+  place_from tag old mid s c.2,
+)
+calls_from tag old mid s GiveBack found c = (
+  may_stay tag found old mid s c.0,
+  λ can. c.1 (can_from tag mid old (fields_back old mid s) can),
+)
+calls_from tag old mid s GiveBackAll found c = ⊎_elim (λ some. inl some) (λ l. inr (last_from tag old mid s l)) c
+
+module _ {R : Type 0} (tags : Tags R) (old mid : Cache R) (s : SameFields old mid) where
+  pub kept_same : (woken : ℕ) (a b : Hand R) → GivesKept tags woken mid a b → GivesKept tags woken old a b
+  kept_same woken a b g = record {
+    none = λ n. g.none (none_from old mid s n);
+    some = λ n. subst (λ (l : List ℕ). GivesList tags l woken a b) same_tags
+        (g.some (λ m. n (none_from mid old (fields_back old mid s) m)));
+  }
+    where
+      same_tags : kept_tags mid ≡ kept_tags old
+      same_tags = ap (λ (f : ℕ). tags_in f mid.kept) s.first ∙ ap (tags_in old.first) s.kept
+
+  way_same : (way : Way) (tag woken : ℕ) (new : Cache R) → GoesBy way tags tag woken mid mid.hand new
+      → GoesBy way tags tag woken old mid.hand new
+  way_same Keep tag woken new g = record {
+    hand = g.hand;
+    also = also_from tag old mid new (fields_keep old mid s) g.also;
+    none = g.none;
+  }
+  way_same KeepInstead tag woken new g = record {
+    gives = kept_same woken mid.hand new.hand g.gives;
+    only = only_from tag old mid new (fields_keep old mid s) g.only;
+  }
+  way_same GiveBack tag woken new g = record {
+    gives = g.gives;
+    kept = keeps_twice old mid new (fields_keep old mid s) g.kept;
+  }
+  way_same GiveBackAll tag woken new g = record {
+    gives = record {
+      between = g.gives.between;
+      sooner = g.gives.sooner;
+      kept = kept_same g.gives.sooner mid.hand g.gives.between g.gives.kept;
+      later = g.gives.later;
+      gives = g.gives.gives;
+      woken_is = g.gives.woken_is;
+    };
+    none = g.none;
+    terms = terms_twice (fields_keep old mid s).terms g.terms;
+    reused = g.reused ∙ s.reused;
+  }
+
+  -- the look, what it called for, and what became of the tag then
+  pub went : (way : Way) (tag found woken : ℕ) (new : Cache R) → LooksOnce found old.hand mid.hand
+      → CallsFor way tag found old → GoesBy way tags tag woken mid mid.hand new → GoesOrdinary tags tag woken old new
+  went way tag found woken new looked why goes = record {
+    found = found;
+    between = mid.hand;
+    looked = looked;
+    way = way;
+    why = why;
+    goes = way_same way tag woken new goes;
+  }

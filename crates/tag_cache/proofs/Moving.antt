@@ -1,14 +1,11 @@
--- What became of a tag that is cleared after the window moved, or did not.
-use Rattle.std.proofs.Common.{arith, ◌≡◌, ◌⊎◌, ℕ, ◌≤◌, inl, inr, sym, ◌∙◌, subst, ⊎_elim}
-use Rattle.tag_sets.specs.declared.hand.Hand.{Hand}
-use Rattle.tag_sets.specs.declared.tags.Tags.{Tags}
+-- A tag that is kept after the window moved to it, or did not.
+use Rattle.std.proofs.Common.{arith, ◌≡◌, ◌⊎◌, ℕ, ◌+◌, ◌<◌, ◌≤◌, inl, inr, sym, ◌∙◌, subst, ⊎_elim}
+use Rattle.std.proofs.lemmas.Bool.{cases_lt}
 use Rattle.tag_cache.specs.declared.cache.Cache.{Cache}
 use Rattle.tag_cache.specs.declared.keeping.Keeping.TheVariants.{WhileHolding}
-use Rattle.tag_cache.specs.Caches.{IsKept, IsLast, IsWithin, KeepsNone, HasNoPlace, CanBeKept, keeping_of, reused_of}
+use Rattle.tag_cache.specs.Caches.{IsFixed, IsKept, IsWithin, KeepsNone, HasNoPlace, CanBeKept, count_of, keeping_of, reused_of}
 use Rattle.tag_cache.specs.Changes.{KeepsSame, KeepsAlso, KeepsOnly, SameHand, SameTerms}
-use Rattle.tag_cache.specs.Clears.{LooksOnce, KeptUnseen, KeptInstead, GoesAlone, GoesWithKept, GoesWithAll, GoesLast, GoesOrdinary}
-use Rattle.tag_cache.proofs.Carrying.{keeps_twice, terms_twice}
-use Rattle.tag_cache.proofs.Giving.{kept_from}
+use Rattle.tag_cache.proofs.Carrying.{terms_twice}
 
 -- a tag is kept besides the tags of a cache that keeps the same
 pub also_from : {R : Type 0} (tag : ℕ) (old mid new : Cache R) → KeepsSame old mid → KeepsAlso tag mid new
@@ -43,88 +40,28 @@ can_also tag old new terms reused window c = let most = terms.most in let some =
       within = λ w. let careful = sym terms.keeping ∙ w in window careful (c.within careful);
     }
 
-module _ {R : Type 0} (tags : Tags R) (tag woken : ℕ) (old mid new : Cache R) (u : SameHand old mid)
-    (moved : KeepsNone old ⊎ (mid ≡ old)) (careful : keeping_of old ≡ WhileHolding → mid ≡ old) where
-  side : (KeepsNone old × KeepsNone mid) ⊎ (mid ≡ old)
-  side = ⊎_elim (λ (n : KeepsNone old). inl (n, λ t k. n t ((u.kept.kept t).0 k))) (λ (e : mid ≡ old). inr e) moved
+-- a tag that is not outside the window is in it
+inside : {R : Type 0} (cache : Cache R) (tag : ℕ) → ¬ (¬ (IsWithin cache tag)) → IsWithin cache tag
+inside cache tag n = ⊎_elim
+    (λ (before : tag < cache.first). absurd (n (λ w. let at = w.0 in omega arith)))
+    (λ (at : cache.first ≤ tag). ⊎_elim
+    (λ (end : tag < cache.first + 64). (at, end))
+    (λ (behind : cache.first + 64 ≤ tag). absurd (n (λ w. let end = w.1 in omega arith)))
+    (cases_lt tag (cache.first + 64))) (cases_lt tag cache.first)
 
-  looked_from : (found : ℕ) (b : Hand R) → LooksOnce found mid.hand b → LooksOnce found old.hand b
-  looked_from found b l = subst (λ (h : Hand R). LooksOnce found h b) u.hand l
+module _ {R : Type 0} (tag : ℕ) (old mid : Cache R) (u : SameHand old mid)
+    (aimed : IsWithin mid tag ⊎ ((mid ≡ old) × IsFixed old)) (can : CanBeKept tag old)
+    (place : ¬ (HasNoPlace tag old)) where
+  -- the window is at the tag, so there is a place for it there as before
+  pub within : IsWithin mid tag
+  within = ⊎_elim (λ (w : IsWithin mid tag). w)
+      (λ (e : (mid ≡ old) × IsFixed old). subst (λ (x : Cache R). IsWithin x tag) (sym e.0)
+      (⊎_elim (λ (some : ¬ (KeepsNone old)). inside old tag (λ out. place (inr (out, some))))
+      (λ careful. can.within careful) e.1)) aimed
 
-  with_kept_from : (found : ℕ) → GoesWithKept tags tag found woken mid new → GoesWithKept tags tag found woken old new
-  with_kept_from found g = record {
-    between = g.between;
-    looked = looked_from found g.between g.looked;
-    gives = record {
-      between = g.gives.between;
-      sooner = g.gives.sooner;
-      kept = kept_from tags g.gives.sooner old mid g.between g.gives.between side g.gives.kept;
-      later = g.gives.later;
-      gives = g.gives.gives;
-      woken_is = g.gives.woken_is;
-    };
-    none = g.none;
-    terms = terms_twice u.kept.terms g.terms;
-    reused = g.reused ∙ u.kept.reused;
-  }
+  pub place_there : ¬ (HasNoPlace tag mid)
+  place_there full = let count = u.kept.count in let most = u.kept.terms.most in ⊎_elim
+      (λ (m : mid.most ≤ count_of mid). place (inl (omega arith))) (λ o. o.0 within) full
 
-  -- there is no place in the old window if there is none in the new one
-  full_from : HasNoPlace tag mid → HasNoPlace tag old
-  full_from full = ⊎_elim
-      (λ (n : KeepsNone old × KeepsNone mid). ⊎_elim
-      (λ (m : mid.most ≤ _). let most = u.kept.terms.most in let count = u.kept.count in inl (omega arith))
-      (λ o. absurd (o.1 n.1)) full)
-      (λ (e : mid ≡ old). subst (λ (x : Cache R). HasNoPlace tag x) e full) side
-
-  full_to : HasNoPlace tag old → HasNoPlace tag mid
-  full_to full = ⊎_elim
-      (λ (n : KeepsNone old × KeepsNone mid). ⊎_elim
-      (λ (m : old.most ≤ _). let most = u.kept.terms.most in let count = u.kept.count in inl (omega arith))
-      (λ o. absurd (o.1 n.0)) full)
-      (λ (e : mid ≡ old). subst (λ (x : Cache R). HasNoPlace tag x) (sym e) full) side
-
-  can_from : CanBeKept tag mid → CanBeKept tag old
-  can_from = let terms = u.kept.terms in
-      can_also tag mid old (record { most = sym terms.most; keeping = sym terms.keeping })
-      (sym u.kept.reused) (λ w. subst (λ (x : Cache R). IsWithin x tag) (careful (sym terms.keeping ∙ w)))
-
-  can_to : CanBeKept tag old → CanBeKept tag mid
-  can_to = can_also tag old mid u.kept.terms u.kept.reused
-      (λ w. subst (λ (x : Cache R). IsWithin x tag) (sym (careful w)))
-
-  pub goes_from : GoesOrdinary tags tag woken mid new → GoesOrdinary tags tag woken old new
-  goes_from g = ⊎_elim
-      (λ (k : KeptUnseen tag woken mid new). inl (record {
-        looked = looked_from 0 new.hand k.looked;
-        place = λ full. k.place (full_to full);
-        can = can_from k.can;
-        also = also_from tag old mid new u.kept k.also;
-        none = k.none;
-      }))
-      (λ rest. inr (⊎_elim
-      (λ (i : KeptInstead tags tag woken mid new). inl (record {
-        between = i.between;
-        looked = looked_from 0 i.between i.looked;
-        full = full_from i.full;
-        can = can_from i.can;
-        gives = kept_from tags woken old mid i.between new.hand side i.gives;
-        only = only_from tag old mid new u.kept i.only;
-      }))
-      (λ rest. inr (⊎_elim
-      (λ (a : GoesAlone tags tag woken mid new). inl (record {
-        between = a.between;
-        looked = looked_from 0 a.between a.looked;
-        never = λ c. a.never (can_to c);
-        gives = a.gives;
-        kept = keeps_twice old mid new u.kept a.kept;
-      }))
-      (λ rest. inr (⊎_elim
-      (λ (a : GoesWithAll tags tag woken mid new). inl (record {
-        found = a.found;
-        some = a.some;
-        gives = with_kept_from a.found a.gives;
-      }))
-      (λ (l : GoesLast tags tag woken mid new). inr (record {
-        last = subst (λ (x : Cache R). IsLast tag x) (careful (sym u.kept.terms.keeping ∙ l.last.0)) l.last;
-        gives = with_kept_from 0 l.gives;
-      })) rest)) rest)) rest)) g
+  pub can_there : CanBeKept tag mid
+  can_there = can_also tag old mid u.kept.terms u.kept.reused (λ careful w. within) can

@@ -1,5 +1,5 @@
 -- What a change of the kept tags is for the user of a cache, and what is known of known ones.
-use Rattle.std.proofs.Common.{arith, ◌↔◌, Some, ◌≡◌, ◌≢◌, ℕ, ◌+◌, ◌^◌, ◌<◌, ◌≤◌, inl, inr, refl, sym, ap, subst, ⊎_elim}
+use Rattle.std.proofs.Common.{arith, ◌⊎◌, ◌↔◌, Some, ◌≡◌, ◌≢◌, ℕ, ◌+◌, ◌^◌, ◌<◌, ◌≤◌, inl, inr, refl, sym, ap, subst, ⊎_elim}
 use mathlib.Core.Logic.{dite}
 use native.Mathlib.Decide.{ℕ_discrete}
 use Rattle.std.specs.Prelude.{count_ones}
@@ -128,3 +128,9 @@ module _ {R : Type 0} where
   last_unknown cache tag out last kept k =
       let some = some_known cache (cache.careful last.0 (some_in cache.first cache.kept kept k)) in
       out (subst (λ (t : ℕ). IsKnown cache t) (last.1 _ some) some)
+
+  -- so a tag that the user is not known to hold is another, unless none is kept
+  pub unknown_other : (cache : Cache R) (tag : ℕ) → ¬ (IsKnown cache tag) → KeepsNone cache ⊎ ¬ (IsLast tag cache)
+  unknown_other cache tag out = dite (ℕ_discrete cache.kept 0)
+      (λ (e : cache.kept ≡ 0). inl (λ t k. none_in cache.first cache.kept t e k))
+      (λ (ne : cache.kept ≢ 0). inr (λ last. ne (none_kept cache (last_unknown cache tag out last))))

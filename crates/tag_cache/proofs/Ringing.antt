@@ -1,9 +1,7 @@
 -- Steps on lists of who waits win no tags and give none back.
-use Rattle.std.proofs.Common.{◌≡◌, ℕ, ◌+◌, Bool, ap, arith}
-use Rattle.tag_core.specs.declared.caller.Caller.{Caller}
+use Rattle.std.proofs.Common.{◌≡◌, ℕ, Bool, ap, arith}
 use Rattle.tag_core.specs.declared.record.Record.{Record}
 use Rattle.tag_core.specs.declared.step.Step.{Step}
-use Rattle.tag_core.specs.Callers.{record_of}
 use Rattle.std.specs.Prelude.{List}
 use Rattle.tag_bell.specs.declared.told.Told.{Told}
 use Rattle.tag_bell.specs.Calls.{OnlyAdds}
@@ -18,7 +16,7 @@ use Rattle.tag_cache.proofs.Steady.{Rests}
 use Rattle.tag_cache.proofs.Tallying.{MovesAgent, moves_in}
 
 module _ {R : Type 0} where
-  adds_rests : (steps : List (Step R)) (a b : Agent R) → OnlyAdds steps (caller_of a) (caller_of b) → MovesAgent 0 0 a b
+  pub adds_rests : (steps : List (Step R)) (a b : Agent R) → OnlyAdds steps (caller_of a) (caller_of b) → MovesAgent 0 0 a b
   adds_rests steps a b only = let w = ap (λ (r : Record R). r.won) only.known in
       let k = ap (λ (r : Record R). r.back) only.known in record { won_is = omega arith; back_is = omega arith }
 

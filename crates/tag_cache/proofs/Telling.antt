@@ -1,5 +1,5 @@
 -- Telling whom a call granted a wakeup makes no step, so what the call did is what both did.
-use Rattle.std.proofs.Common.{arith, ◌≡◌, ℕ, ◌^◌, ◌<◌, ◌≤◌, ◌-◌, ◌∷◌, List, length, inl, inr, sym, ap, ◌∙◌, subst, ⊎_elim}
+use Rattle.std.proofs.Common.{arith, ◌≡◌, ℕ, ◌^◌, ◌≤◌, ◌-◌, ◌∷◌, List, length, inl, inr, sym, ap, ◌∙◌, subst, ⊎_elim}
 use Rattle.std.specs.Prelude.{slice_index}
 use Rattle.tag_layout.specs.Layout.{Layout, word_of, place_of}
 use Rattle.tag_core.specs.declared.caller.Caller.{Caller}
@@ -31,7 +31,7 @@ use Rattle.tag_sets.specs.Hands.{reserved_of, layout_of, split_of, Changes}
 use Rattle.tag_sets.specs.Clears as hand_clears
 use Rattle.tag_sets.specs.Holding as hand_holding
 use Rattle.tag_sets.specs.Waits as hand_waits
-use Rattle.tag_sets.proofs.Numbering.{ordinary_above, reserved_below}
+use Rattle.tag_sets.proofs.Numbering.{ordinary_above}
 use Rattle.tag_cache.specs.declared.cache.Cache.{Cache}
 use Rattle.tag_cache.specs.Clears.{GivesOne, GivesList, GivesKept}
 use Rattle.tag_cache.specs.Rings.{MakesNoStep}
@@ -95,17 +95,6 @@ module _ {R : Type 0} (a b c : Agent R) (caller : caller_of c ≡ caller_of b) (
       steps = steps ∙ e.steps;
       same = (caller ∙ e.same.0, hint ∙ e.same.1, teller ∙ e.same.2);
     }
-
--- a reserved tag grants nobody a wakeup
-kind_woken : {R : Type 0} (tags : Tags R) (kind : Kind) → kind ≡ Reserved → (n woken : ℕ) (a b : Hand R)
-    → hand_clears.Counts tags kind n a b woken → woken ≡ 0
-kind_woken tags Reserved e n woken a b k = k.0
-kind_woken tags Ordinary e n woken a b k = absurd (cc)
-
-pub reserved_woken : {R : Type 0} (tags : Tags R) (tag woken : ℕ) (a b : Hand R) → tag < reserved_of tags
-    → GivesOne tags tag woken a b → woken ≡ 0
-reserved_woken tags tag woken a b below g = kind_woken tags (kind_of (reserved_of tags) tag)
-    (reserved_below (reserved_of tags) tag below).kind 1 woken a b g.counts
 
 module _ {R : Type 0} (tags : Tags R) (a b c : Hand R) (r : MakesNoStep b c) where
   less_still : (named : ℕ → Type 0) → hand_holding.HoldsLess named a b → hand_holding.HoldsLess named a c

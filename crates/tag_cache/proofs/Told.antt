@@ -1,5 +1,5 @@
 -- What becomes of tags that go back, if it is then told whom that granted a wakeup.
-use Rattle.std.proofs.Common.{arith, ◌≡◌, ℕ, ◌+◌, ◌≤◌, ◌<◌, List, inl, inr, sym, ◌∙◌, subst, ⊎_elim}
+use Rattle.std.proofs.Common.{arith, ◌≡◌, ℕ, ◌+◌, ◌≤◌, ◌<◌, List, sym, ◌∙◌, subst, ⊎_elim}
 use Rattle.std.proofs.lemmas.Bool.{cases_lt}
 use Rattle.tag_sets.specs.declared.hand.Hand.{Hand}
 use Rattle.tag_sets.specs.declared.tags.Tags.{Tags}
@@ -8,22 +8,12 @@ use Rattle.tag_cache.specs.declared.cache.Cache.{Cache}
 use Rattle.tag_cache.specs.Batches.{GivesKeptAndList}
 use Rattle.tag_cache.specs.Caches.{KeepsNone, reused_of}
 use Rattle.tag_cache.specs.Changes.{KeepsOnly, KeepsSame, SameTerms}
-use Rattle.tag_cache.specs.Clears.{GivesKept, GivesList, GivesWith, KeptUnseen, KeptInstead, GoesAlone, GoesWithKept, GoesWithAll, GoesLast, GoesReserved, GoesOrdinary, Goes}
-use Rattle.tag_cache.specs.Holding.{HoldsLess, HoldsSame}
+use Rattle.tag_cache.specs.Clears.{GivesKept, GivesList, GivesWith}
 use Rattle.tag_cache.specs.Rings.{MakesNoStep}
 use Rattle.tag_cache.specs.Same.{SameTags}
 use Rattle.tag_cache.specs.Waits.{Enters}
 use Rattle.tag_cache.proofs.Carrying.{keeps_twice, none_after, terms_twice}
-use Rattle.tag_cache.proofs.Telling.{reserved_woken, one_still, list_still, kept_still, hand_enters_still}
-
-module _ {R : Type 0} where
-  -- the user holds less, and nothing changed since
-  pub less_same : (named : ℕ → Type 0) (a b c : Cache R) → HoldsLess named a b → HoldsSame b c → HoldsLess named a c
-  less_same named a b c l s = record {
-    gone = λ tag n h. l.gone tag n (s.none_else tag h);
-    kept = λ tag n h. let x = l.kept tag n h in let y = s.kept tag x.0 in (y.0, y.1 ∙ x.1);
-    none_else = λ tag h. l.none_else tag (s.none_else tag h);
-  }
+use Rattle.tag_cache.proofs.Telling.{one_still, list_still, kept_still, hand_enters_still}
 
 -- the cache was told of so many grants, and is as before if there are none
 pub record HasTold {R : Type 0} (woken : ℕ) (mid new : Cache R) : Type 0 where
@@ -41,7 +31,7 @@ module _ {R : Type 0} (woken : ℕ) (mid new : Cache R) (r : HasTold woken mid n
   pub none_still : KeepsNone mid → KeepsNone new
   none_still none = λ tag k. none tag ((r.same.kept.kept tag).0 k)
 
-  only_still : (tag : ℕ) (old : Cache R) → KeepsOnly tag old mid → KeepsOnly tag old new
+  pub only_still : (tag : ℕ) (old : Cache R) → KeepsOnly tag old mid → KeepsOnly tag old new
   only_still tag old o = let k = r.same.kept in record {
     only = λ other. ((λ i. (o.only other).0 ((k.kept other).0 i)), (λ e. (k.kept other).1 ((o.only other).1 e)));
     one = k.count ∙ o.one;
@@ -75,61 +65,6 @@ module _ {R : Type 0} (woken : ℕ) (mid new : Cache R) (r : HasTold woken mid n
             (sym g.gives.clears.set.split ∙ own.2) g.gives;
         woken_is = g.woken_is;
       }
-
-      with_kept_still : (found : ℕ) → reserved_of tags ≤ tag → GoesWithKept tags tag found woken old mid
-          → GoesWithKept tags tag found woken old new
-      with_kept_still found above g = let k = r.same.kept in record {
-        between = g.between;
-        looked = g.looked;
-        gives = with_told above g.gives;
-        none = none_still g.none;
-        terms = terms_twice g.terms k.terms;
-        reused = k.reused ∙ g.reused;
-      }
-
-      ordinary_still : reserved_of tags ≤ tag → 1 ≤ woken → GoesOrdinary tags tag woken old mid
-          → GoesOrdinary tags tag woken old new
-      ordinary_still above some g = ⊎_elim
-          (λ (k : KeptUnseen tag woken old mid). let none = k.none in absurd (omega arith))
-          (λ rest. inr (⊎_elim
-          (λ (i : KeptInstead tags tag woken old mid). inl (record {
-            between = i.between;
-            looked = i.looked;
-            full = i.full;
-            can = i.can;
-            gives = kept_still tags i.between mid.hand new.hand r.hand woken old some i.gives;
-            only = only_still tag old i.only;
-          }))
-          (λ rest. inr (⊎_elim
-          (λ (a : GoesAlone tags tag woken old mid). inl (record {
-            between = a.between;
-            looked = a.looked;
-            never = a.never;
-            gives = one_still tags a.between mid.hand new.hand r.hand tag woken above
-                (sym a.gives.clears.set.split ∙ own.2) a.gives;
-            kept = keeps_twice old mid new a.kept r.same.kept;
-          }))
-          (λ rest. inr (⊎_elim
-          (λ (a : GoesWithAll tags tag woken old mid). inl (record {
-            found = a.found;
-            some = a.some;
-            gives = with_kept_still a.found above a.gives;
-          }))
-          (λ (l : GoesLast tags tag woken old mid). inr (record {
-            last = l.last;
-            gives = with_kept_still 0 above l.gives;
-          }))
-          rest)) rest)) rest)) g
-
-      pub goes_told : Goes tags tag woken old mid → Goes tags tag woken old new
-      goes_told g = either (λ (x : Cache R). Goes tags tag woken old x) g (λ some b. ⊎_elim
-          (λ (o : (reserved_of tags ≤ tag) × GoesOrdinary tags tag woken old mid).
-          inl (o.0, ordinary_still o.0 some o.1))
-          (λ (x : GoesReserved tags tag woken old mid). absurd (reserved_tells some x)) b)
-        where
-          reserved_tells : 1 ≤ woken → ¬ (GoesReserved tags tag woken old mid)
-          reserved_tells some x = let none = reserved_woken tags tag woken old.hand mid.hand x.reserved x.gives in
-              omega arith
 
     -- the kept tags went back, and then a list
     pub both_told : (list : List ℕ) (sooner later : ℕ) (between : Cache R)

@@ -1,7 +1,7 @@
 -- How the tags that are kept change, and those that the user is known to hold.
-use Rattle.std.specs.Prelude.{◌≡◌, ◌≢◌, ◌⊎◌, ◌↔◌, ℕ, ◌+◌, ◌≤◌, Bool, true, false, List, Contains}
+use Rattle.std.specs.Prelude.{◌≡◌, ◌≢◌, ◌⊎◌, ◌↔◌, ℕ, ◌+◌, ◌≤◌, List, Contains}
 use Rattle.tag_cache.specs.declared.cache.Cache.{Cache}
-use Rattle.tag_cache.specs.Caches.{hand_of, count_of, most_of, keeping_of, reused_of, IsKept, IsKnown, IsWithin, KeepsNone, HasNoPlace, CanBeKept}
+use Rattle.tag_cache.specs.Caches.{hand_of, count_of, most_of, keeping_of, reused_of, IsKept, IsKnown, IsWithin, KeepsNone}
 
 -- as many tags may be kept, and when
 pub record SameTerms {R : Type 0} (old new : Cache R) : Type 0 where
@@ -89,11 +89,6 @@ pub record Keeps {R : Type 0} (tag : ℕ) (old new : Cache R) : Type 0 where
   pub hand : hand_of new ≡ hand_of old
   pub also : KeepsAlso tag old new
   pub knows : KnowsLess tag old new
-
--- the tag is kept besides, or nothing changed, since there is no place for it or it may not be kept
-abbrev pub MayKeep : {R : Type 0} → ℕ → Bool → Cache R → Cache R → Type 0
-MayKeep tag true old new = Keeps tag old new × ¬ (HasNoPlace tag old) × CanBeKept tag old
-MayKeep tag false old new = (new ≡ old) × (HasNoPlace tag old ⊎ ¬ (CanBeKept tag old))
 
 -- this tag alone is kept now, on the same terms, and none was handed out again
 pub record KeepsOnly {R : Type 0} (tag : ℕ) (old new : Cache R) : Type 0 where

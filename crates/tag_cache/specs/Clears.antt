@@ -13,6 +13,8 @@ use Rattle.tag_sets.specs.Batches as hand_batches
 use Rattle.tag_sets.specs.Clears as hand_clears
 use Rattle.tag_sets.specs.Waits.{Stays}
 use Rattle.tag_cache.specs.declared.cache.Cache.{Cache}
+use Rattle.tag_cache.specs.declared.way.Way.{Way}
+use Rattle.tag_cache.specs.declared.way.Way.TheVariants.{Keep, KeepInstead, GiveBack, GiveBackAll}
 use Rattle.tag_cache.specs.Caches.{KeepsNone, IsLast, HasNoPlace, CanBeKept, kept_tags, reused_of}
 use Rattle.tag_cache.specs.Changes.{SameTerms, KeepsSame, KeepsAlso, KeepsOnly}
 
@@ -48,73 +50,62 @@ pub record GivesWith {R : Type 0} (tags : Tags R) (tag woken : ℕ) (cache : Cac
   pub gives : GivesOne tags tag later between new
   pub woken_is : woken ≡ sooner + later
 
--- the tag is kept besides the others, as there is place for it: the only step was a look at the active count that found
--- nobody waiting, and nobody was woken
-pub record KeptUnseen {R : Type 0} (tag woken : ℕ) (old new : Cache R) : Type 0 where
-  pub looked : LooksOnce 0 old.hand new.hand
-  pub place : ¬ (HasNoPlace tag old)
-  pub can : CanBeKept tag old
+-- the tag is kept besides the others, and nobody was woken: the hand is as the look left it
+pub record KeepsBeside {R : Type 0} (tag woken : ℕ) (old : Cache R) (looked : Hand R) (new : Cache R) : Type 0 where
+  pub hand : new.hand ≡ looked
   pub also : KeepsAlso tag old new
   pub none : woken ≡ 0
 
--- there was no place for the tag: after a look that found nobody waiting all kept tags went back, and this one is kept
--- instead of them
-pub record KeptInstead {R : Type 0} (tags : Tags R) (tag woken : ℕ) (old new : Cache R) : Type 0 where
-  pub between : Hand R
-  pub looked : LooksOnce 0 old.hand between
-  pub full : HasNoPlace tag old
-  pub can : CanBeKept tag old
-  pub gives : GivesKept tags woken old between new.hand
+-- all kept tags went back, and this one is kept instead of them
+pub record KeepsInstead {R : Type 0} (tags : Tags R) (tag woken : ℕ) (old : Cache R) (looked : Hand R) (new : Cache R)
+    : Type 0 where
+  pub gives : GivesKept tags woken old looked new.hand
   pub only : KeepsOnly tag old new
 
--- where no other is kept besides, this tag is kept instead of all kept ones, which went back, or it went back alone
--- since it may not be kept
-abbrev pub MakesRoom : {R : Type 0} → Tags R → ℕ → ℕ → Cache R → Cache R → Type 0
-MakesRoom tags tag woken old new =
-    (CanBeKept tag old × GivesKept tags woken old old.hand new.hand × KeepsOnly tag old new)
-    ⊎ (¬ (CanBeKept tag old) × GivesOne tags tag woken old.hand new.hand × KeepsSame old new)
-
--- the tag went back alone, after a look that found nobody waiting, since it may not be kept
-pub record GoesAlone {R : Type 0} (tags : Tags R) (tag woken : ℕ) (old new : Cache R) : Type 0 where
-  pub between : Hand R
-  pub looked : LooksOnce 0 old.hand between
-  pub never : ¬ (CanBeKept tag old)
-  pub gives : GivesOne tags tag woken between new.hand
+-- the tag went back, and the same tags are kept
+pub record GivesAlone {R : Type 0} (tags : Tags R) (tag woken : ℕ) (old : Cache R) (looked : Hand R) (new : Cache R)
+    : Type 0 where
+  pub gives : GivesOne tags tag woken looked new.hand
   pub kept : KeepsSame old new
 
--- after a look that found this, all kept tags went back and then this one, so that nothing is kept any more
-pub record GoesWithKept {R : Type 0} (tags : Tags R) (tag found woken : ℕ) (old new : Cache R) : Type 0 where
-  pub between : Hand R
-  pub looked : LooksOnce found old.hand between
-  pub gives : GivesWith tags tag woken old between new.hand
+-- all kept tags went back and then this one, so that nothing is kept any more
+pub record GivesAll {R : Type 0} (tags : Tags R) (tag woken : ℕ) (old : Cache R) (looked : Hand R) (new : Cache R)
+    : Type 0 where
+  pub gives : GivesWith tags tag woken old looked new.hand
   pub none : KeepsNone new
   pub terms : SameTerms old new
   pub reused : reused_of new ≡ reused_of old
 
--- somebody was found waiting, so everything went back
-pub record GoesWithAll {R : Type 0} (tags : Tags R) (tag woken : ℕ) (old new : Cache R) : Type 0 where
+-- kept tags may stay: the look found nobody waiting, and the user is known to hold another tag if they need that
+pub record MayStay {R : Type 0} (tag found : ℕ) (cache : Cache R) : Type 0 where
+  pub nobody : found ≡ 0
+  pub other : ¬ (IsLast tag cache)
+
+-- what calls for each way that an ordinary tag can go, after a look that found this many waiting
+abbrev pub CallsFor : {R : Type 0} → Way → ℕ → ℕ → Cache R → Type 0
+CallsFor Keep tag found cache = MayStay tag found cache × CanBeKept tag cache × ¬ (HasNoPlace tag cache)
+CallsFor KeepInstead tag found cache = MayStay tag found cache × CanBeKept tag cache × HasNoPlace tag cache
+CallsFor GiveBack tag found cache = MayStay tag found cache × ¬ (CanBeKept tag cache)
+CallsFor GiveBackAll tag found cache = (1 ≤ found) ⊎ IsLast tag cache
+
+-- what becomes of the tag on each way, from the hand that the look left on
+abbrev pub GoesBy : {R : Type 0} → Way → Tags R → ℕ → ℕ → Cache R → Hand R → Cache R → Type 0
+GoesBy Keep tags tag woken old looked new = KeepsBeside tag woken old looked new
+GoesBy KeepInstead tags tag woken old looked new = KeepsInstead tags tag woken old looked new
+GoesBy GiveBack tags tag woken old looked new = GivesAlone tags tag woken old looked new
+GoesBy GiveBackAll tags tag woken old looked new = GivesAll tags tag woken old looked new
+
+-- what becomes of an ordinary tag that is cleared: the hand looks once at the active count, and the tag goes the way
+-- that this calls for
+pub record GoesOrdinary {R : Type 0} (tags : Tags R) (tag woken : ℕ) (old new : Cache R) : Type 0 where
   pub found : ℕ
-  pub some : 1 ≤ found
-  pub gives : GoesWithKept tags tag found woken old new
+  pub between : Hand R
+  pub looked : LooksOnce found old.hand between
+  pub way : Way
+  pub why : CallsFor way tag found old
+  pub goes : GoesBy way tags tag woken old between new
 
--- the user is known to hold no other tag, while tags are kept only if it does, so everything went back
-pub record GoesLast {R : Type 0} (tags : Tags R) (tag woken : ℕ) (old new : Cache R) : Type 0 where
-  pub last : IsLast tag old
-  pub gives : GoesWithKept tags tag 0 woken old new
-
--- a reserved tag went back, and the same tags are kept
-pub record GoesReserved {R : Type 0} (tags : Tags R) (tag woken : ℕ) (old new : Cache R) : Type 0 where
-  pub reserved : tag < hands.reserved_of tags
-  pub gives : GivesOne tags tag woken old.hand new.hand
-  pub kept : KeepsSame old new
-
--- what becomes of an ordinary tag that is cleared
-abbrev pub GoesOrdinary : {R : Type 0} → Tags R → ℕ → ℕ → Cache R → Cache R → Type 0
-GoesOrdinary tags tag woken old new = KeptUnseen tag woken old new ⊎ (KeptInstead tags tag woken old new
-    ⊎ (GoesAlone tags tag woken old new
-    ⊎ (GoesWithAll tags tag woken old new ⊎ GoesLast tags tag woken old new)))
-
--- what becomes of a tag that is cleared
+-- what becomes of a tag that is cleared: a reserved one always goes back alone
 abbrev pub Goes : {R : Type 0} → Tags R → ℕ → ℕ → Cache R → Cache R → Type 0
 Goes tags tag woken old new = ((hands.reserved_of tags ≤ tag) × GoesOrdinary tags tag woken old new)
-    ⊎ GoesReserved tags tag woken old new
+    ⊎ ((tag < hands.reserved_of tags) × GivesAlone tags tag woken old old.hand new)

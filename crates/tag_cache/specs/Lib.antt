@@ -1,4 +1,5 @@
 pub mod Bell
+pub mod Sleeping
 pub mod Windows
 pub mod Refusals
 pub mod Calls

@@ -2,6 +2,7 @@
 use Rattle.std.specs.Prelude.{◌≡◌}
 use Rattle.wake_book.specs.declared.grants.TheConstants.{NO_GRANTS}
 use Rattle.wake_book.specs.Groups.{GrantsUnrung}
+use Rattle.wake_book.specs.declared.groups.Waiter.{Waiter}
 use Rattle.tag_queue.specs.Agents.{teller_of, sighting_of}
 use Rattle.tag_sets.specs.declared.hand.Hand.{Hand}
 use Rattle.tag_sets.specs.declared.kind.Kind.TheVariants.{Ordinary}
@@ -11,6 +12,11 @@ use Rattle.tag_sets.specs.Waits.{Stays}
 -- the hand granted nobody a wakeup in between, and rang for nobody
 abbrev pub GrantsNone : {R : Type 0} → Hand R → Hand R → Type 0
 GrantsNone old new = GrantsUnrung NO_GRANTS (waiter_of old) (waiter_of new)
+
+-- the answer is also about any earlier moment since which nobody was granted a wakeup
+abbrev pub TellsSince : {R Told : Type 0} → (Told → Waiter → Waiter → Type 0) → Told → Hand R → Hand R → Type 0
+TellsSince Tells told old new = (before : Hand _) → GrantsNone before old
+    → Tells told (waiter_of before) (waiter_of new)
 
 -- the hand made no step, but for what it rings for it is as before
 pub record MakesNoStep {R : Type 0} (old new : Hand R) : Type 0 where

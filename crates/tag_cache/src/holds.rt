@@ -1,13 +1,16 @@
 //! Whether the user of a cache holds a tag.
-ghost use Rattle.std.specs.Prelude.{◌≡◌, ◌↔◌, IsTrue};
+ghost use Rattle.std.specs.Prelude.{◌≡◌, ◌↔◌, IsTrue, IfOk, ⊤};
+ghost use Rattle.refusals.specs.Refusals.{RefusesBy};
 ghost use Rattle.tag_queue.specs.Placing.{hint_in_part};
-ghost use Rattle.tag_sets.specs.Hands.{IsTagOf, agent_of, queue_of, hint_of};
+ghost use Rattle.tag_sets.specs.Hands.{IsTagOf, agent_of, queue_of, hint_of, reserved_of};
+ghost use Rattle.tag_sets.specs.Sets.{kind_of};
 ghost use Rattle.tag_sets.specs.Placing.{SameButHint};
 ghost use Rattle.tag_sets.specs.declared.kind.Kind.{Kind};
 ghost use Rattle.tag_cache.specs.Caches.{Holds, hand_of};
+ghost use Rattle.tag_cache.specs.Refusals.{tag_checks};
 
 use crate::cache::Cache;
-use tag_sets::Tags;
+use tag_sets::{Kind, TagFault, Tags};
 
 impl<R> Cache<R> {
     /// Returns whether the user holds the tag: the hand does, and it is not kept. This makes no step.
@@ -23,6 +26,20 @@ impl<R: Copy> Cache<R> {
     ghost use Rattle.tag_cache.specs.Caches.{IsCacheOf};
     ghost use Rattle.tag_cache.specs.Changes.{KeepsSame, SameWindow};
     ghost use Rattle.tag_cache.specs.Holding.{HoldsSame};
+
+    /// Returns the set of a tag that the user holds. It is refused as `clear` is. This makes no step.
+    #[inline(always)]
+    pub(crate) fn find_held(&self, tags: &Tags<R>, tag: u32) -> Result<Kind, TagFault>
+        requires { IsCacheOf tags.now self.now }
+        ensures refusals { RefusesBy (tag_checks tags.now self.now tag) ⊤ result }
+        ensures kind { IfOk result (λ kind. kind ≡ kind_of (reserved_of tags.now) tag) }
+    {
+        let kind = tags.find_held(&self.hand, tag)?;
+        if self.keeps(tag) {
+            return Err(TagFault::NotHeld);
+        }
+        Ok(kind)
+    }
 
     /// Places the hand's hints as `Tags::place` does.
     pub fn place(&mut self, tags: &Tags<R>)

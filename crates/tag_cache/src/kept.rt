@@ -1,7 +1,7 @@
 //! Which tags are kept.
-ghost use Rattle.std.specs.Prelude.{◌≡◌, ◌+◌, ◌⊎◌, ◌<◌, ◌≤◌, ◌^◌, ◌↔◌, IsTrue, IsFalse};
-ghost use Rattle.tag_cache.specs.Caches.{IsKept, IsWithin, IsFixed, IsLast, HasPlace, KeepsNone, KeepsWithCare, LeavesWindow, CanBeKept, Holds, most_of, count_of, split_of, hand_of};
-ghost use Rattle.tag_cache.specs.Changes.{Reuses, Keeps, MayKeep, KeepsOnly, KnowsLess};
+ghost use Rattle.std.specs.Prelude.{◌≡◌, ◌+◌, ◌<◌, ◌≤◌, ◌^◌, ◌↔◌, IsTrue, IsFalse};
+ghost use Rattle.tag_cache.specs.Caches.{IsKept, IsLast, HasPlace, HasNoPlace, KeepsNone, KeepsWithCare, LeavesWindow, CanBeKept, Holds, most_of, count_of, split_of, hand_of};
+ghost use Rattle.tag_cache.specs.Changes.{Reuses, Keeps, KeepsAlso, KnowsLess};
 
 use crate::cache::{Cache, MOST_REUSED, WINDOW};
 use crate::keeping::Keeping;
@@ -31,7 +31,7 @@ impl<R> Cache<R> {
 
     /// Returns whether as many tags are kept as may be.
     #[inline(always)]
-    fn is_full(&self) -> bool
+    pub(crate) fn is_full(&self) -> bool
         ensures full { IsTrue result → most_of self.now ≤ count_of self.now }
         ensures room { IsFalse result → count_of self.now < most_of self.now }
     {
@@ -76,45 +76,23 @@ impl<R> Cache<R> {
         }
     }
 
-    /// Keeps an ordinary tag that the user holds where nothing is kept. The window moves there.
-    pub(crate) fn keep_first(&mut self, tag: u32)
+    /// Keeps an ordinary tag that the user holds and that there is a place for. Where nothing is kept and the tag is
+    /// outside the window, the window moves there.
+    #[inline(always)]
+    pub(crate) fn keep(&mut self, tag: u32)
         requires held { Holds self.old tag }
         requires ordinary { split_of self.old ≤ tag }
         requires low { tag < 2 ^ 31 }
-        requires none { KeepsNone self.old }
         requires can { CanBeKept tag self.old }
+        requires place { ¬ (HasNoPlace tag self.old) }
         requires other { ¬ (IsLast tag self.old) }
         ensures hand { hand_of self.new ≡ hand_of self.old }
-        ensures only { KeepsOnly tag self.old self.new }
+        ensures also { KeepsAlso tag self.old self.new }
         ensures knows { LeavesWindow tag self.old → KnowsLess tag self.old self.new }
     {
         self.follow(tag);
-        let _ = self.keep(tag);
-    }
-
-    /// Keeps an ordinary tag that the user holds, if there is a place for it and it may be kept.
-    #[inline(always)]
-    pub(crate) fn keep(&mut self, tag: u32) -> bool
-        requires held { Holds self.old tag }
-        requires ordinary { split_of self.old ≤ tag }
-        requires aimed { IsWithin self.old tag ⊎ IsFixed self.old }
-        requires other { ¬ (IsLast tag self.old) }
-        ensures { MayKeep tag result self.old self.new }
-    {
         let offset = self.offset(tag);
-        if offset >= WINDOW {
-            return false;
-        }
-        if self.is_full() {
-            return false;
-        }
-        if self.reused >= MOST_REUSED {
-            return false;
-        }
-        self.known = self.known_without(tag);
-        self.kept |= 1 << offset;
-        self.room -= 1;
-        true
+        self.keep_at(tag, offset);
     }
 
     /// Returns whether a clear keeps the tag if nobody waits: the user is known to hold it, and there is a place for it.
@@ -134,11 +112,16 @@ impl<R> Cache<R> {
         !self.is_last(tag)
     }
 
-    /// Keeps a tag that has a place, this far behind the first tag of the window.
+    /// Keeps an ordinary tag that the user holds and that there is a place for, this far behind the first tag of the
+    /// window.
     #[inline(always)]
     pub(crate) fn keep_at(&mut self, tag: u32, offset: u32)
-        requires place { HasPlace tag self.old }
-        requires offset { self.old.first + offset ≡ tag }
+        requires held { Holds self.old tag }
+        requires ordinary { split_of self.old ≤ tag }
+        requires offset { (self.old.first + offset ≡ tag) × (offset < 64) }
+        requires can { CanBeKept tag self.old }
+        requires place { ¬ (HasNoPlace tag self.old) }
+        requires other { ¬ (IsLast tag self.old) }
         ensures { Keeps tag self.old self.new }
     {
         self.known &= !(1 << offset);

@@ -22,9 +22,11 @@ mod meets;
 mod numbers;
 mod shallow;
 mod since;
+mod sleeps;
 mod slots;
 mod tells;
 mod waits;
+mod way;
 mod window;
 
 pub use cache::Cache;

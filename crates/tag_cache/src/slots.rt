@@ -54,10 +54,7 @@ impl<R: Copy> Cache<R> {
         requires { IsCacheOf tags.now self.now }
         ensures refusals { RefusesBy (tag_checks tags.now self.now tag) ⊤ result }
     {
-        let _ = tags.find_held(&self.hand, tag)?;
-        if self.keeps(tag) {
-            return Err(TagFault::NotHeld);
-        }
+        let _ = self.find_held(tags, tag)?;
         Ok(())
     }
 

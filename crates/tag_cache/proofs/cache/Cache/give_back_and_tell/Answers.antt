@@ -1,11 +1,8 @@
 -- The kept tags went back, and telling those who wait changes nothing that the user holds.
-use Rattle.std.proofs.Common.{rules, ◌∙◌, sym, subst}
+use Rattle.std.proofs.Common.{rules, sym, subst}
 use Rattle.wake_book.specs.declared.groups.Waiter.{Waiter}
 use Rattle.tag_sets.specs.Hands.{waiter_of}
-use Rattle.tag_cache.specs.declared.cache.Cache.{Cache}
-use Rattle.tag_cache.specs.Same.{SameTags}
-use Rattle.tag_cache.proofs.Carrying.{same_then_same, terms_twice}
-use Rattle.tag_cache.proofs.Looking.{window_twice}
+use Rattle.tag_cache.proofs.Carrying.{same_then_same}
 use Rattle.tag_cache.proofs.Ringing.{sees_rests, sees_waiter}
 use Rattle.tag_cache.proofs.Steady.{owns_rests, same_tags}
 use Rattle.tag_cache.proofs.Tallying.{tallies_on}

@@ -1,43 +1,43 @@
--- The tag's bit joins the mask of the kept tags, and leaves that of the known ones.
-use Rattle.std.proofs.Common.{arith, ◌≤◌, inl, inr, refl, ⊎_elim}
-use Rattle.tag_cache.specs.Caches.{IsWithin, count_of}
-use Rattle.tag_cache.proofs.Joining.{joins, joined_owns}
+-- The window is at the tag, where there is a place for it.
+use Rattle.std.proofs.Common.{◌≤◌, ◌∙◌, inr, sym, subst}
+use Rattle.tag_sets.specs.declared.hand.Hand.{Hand}
+use Rattle.tag_sets.specs.Hands as hands
+use Rattle.tag_cache.specs.declared.cache.Cache.{Cache}
+use Rattle.tag_cache.specs.Caches.{IsLast}
+use Rattle.tag_cache.specs.Changes.{KnowsLess}
+use Rattle.tag_cache.proofs.Moving.{also_from, can_there, place_there, within}
+use Rattle.tag_cache.proofs.Reusing.{held_still}
 use Rattle.tag_cache.proofs.cache.Cache.keep.Goals as goal
 
-pub invariant_of-self : goal.invariant_of-self
-invariant_of-self g c = let low = c.if-offset-ge-WINDOW.false in let rest = c.known_without-self in
-    joined_owns c.args.self.now c.args.tag c.offset-offset.result rest.result c.requires.held low
-    (c.offset-offset.ensures.offset low) rest.ensures c.requires.ordinary rest.type_inv
-    (c.is_full.ensures.room c.if-is_full.false) (omega arith) c.requires.other
+pub keep_at-requires-clause-held : goal.keep_at-requires-clause-held
+keep_at-requires-clause-held g c = held_still c.args.self.now c.follow.new.self c.args.tag c.follow.ensures.same
+    c.requires.held
 
-pub returns-then-offset-ge-WINDOW : goal.returns-then-offset-ge-WINDOW
-returns-then-offset-ge-WINDOW g c = let far = c.if-offset-ge-WINDOW.true in
-    let out : ¬ (IsWithin c.args.self.now c.args.tag) = λ w. let near = c.offset-offset.ensures.within.1 w in
-    omega arith in (
-      refl,
-      ⊎_elim (λ (w : IsWithin c.args.self.now c.args.tag). absurd (out w))
-          (λ f. ⊎_elim (λ some. inl (inr (out, some))) (λ careful. inr (λ k. out (k.within careful))) f)
-          c.requires.aimed,
-    )
+pub keep_at-requires-clause-ordinary : goal.keep_at-requires-clause-ordinary
+keep_at-requires-clause-ordinary g c = subst (λ (h : Hand g.row.R.Denot). hands.split_of h ≤ c.args.tag)
+    (sym c.follow.ensures.same.hand) c.requires.ordinary
 
-pub returns : goal.returns
-returns g c = let cache = c.args.self.now in let low = c.if-offset-ge-WINDOW.false in
-    let within : IsWithin cache c.args.tag = c.offset-offset.ensures.within.0 low in
-    let room = c.is_full.ensures.room c.if-is_full.false in
-    let joins = joins cache c.args.tag c.offset-offset.result c.known_without-self.result c.requires.held low
-    (c.offset-offset.ensures.offset low) c.known_without-self.ensures in (
-      record {
-        hand = refl;
-        also = record {
-          now = joins.now;
-          still = joins.still;
-          none_else = joins.none_else;
-          more = joins.more;
-          terms = record { most = refl; keeping = refl };
-          reused = refl;
-        };
-        knows = c.known_without-self.ensures;
-      },
-      (λ full. ⊎_elim (λ (m : cache.most ≤ count_of cache). omega arith) (λ o. o.0 within) full),
-      record { some = omega arith; alive = omega arith; within = λ careful. within },
-    )
+pub keep_at-requires-clause-offset : goal.keep_at-requires-clause-offset
+keep_at-requires-clause-offset g c = let low = c.offset-offset.ensures.within.1 (within c.args.tag c.args.self.now
+    c.follow.new.self c.follow.ensures.same c.follow.ensures.aimed c.requires.can c.requires.place) in
+    (c.offset-offset.ensures.offset low, low)
+
+pub keep_at-requires-clause-can : goal.keep_at-requires-clause-can
+keep_at-requires-clause-can g c = can_there c.args.tag c.args.self.now c.follow.new.self c.follow.ensures.same
+    c.follow.ensures.aimed c.requires.can c.requires.place
+
+pub keep_at-requires-clause-place : goal.keep_at-requires-clause-place
+keep_at-requires-clause-place g c = place_there c.args.tag c.args.self.now c.follow.new.self c.follow.ensures.same
+    c.follow.ensures.aimed c.requires.can c.requires.place
+
+pub keep_at-requires-clause-other : goal.keep_at-requires-clause-other
+keep_at-requires-clause-other g c = λ last. c.requires.other (subst (λ (x : Cache g.row.R.Denot). IsLast c.args.tag x)
+    (c.follow.ensures.still (inr (sym c.follow.ensures.same.kept.terms.keeping ∙ last.0))) last)
+
+pub returns-clause-also : goal.returns-clause-also
+returns-clause-also g c = also_from c.args.tag c.args.self.now c.follow.new.self c.keep_at.new.self
+    c.follow.ensures.same.kept c.keep_at.ensures.also
+
+pub returns-clause-knows : goal.returns-clause-knows
+returns-clause-knows g c = λ leaves. subst (λ (x : Cache g.row.R.Denot). KnowsLess c.args.tag x c.keep_at.new.self)
+    (c.follow.ensures.still leaves) c.keep_at.ensures.knows

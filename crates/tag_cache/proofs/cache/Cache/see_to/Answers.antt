@@ -1,5 +1,5 @@
 -- Looking at the lists changes nothing; then the kept tags stay, or all go back.
-use Rattle.std.proofs.Common.{◌≡◌, rules, inl, inr, refl, sym, ◌∙◌, subst, Bool}
+use Rattle.std.proofs.Common.{rules, inl, inr, ◌∙◌, subst, Bool}
 use Rattle.wake_book.specs.declared.groups.Waiter.{Waiter}
 use Rattle.tag_sets.specs.Hands.{waiter_of}
 use Rattle.tag_cache.specs.Bell.{LooksForWaiters}
