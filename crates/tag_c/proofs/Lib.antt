@@ -9,3 +9,4 @@ pub mod Resizing
 pub mod Runs
 pub mod Sent
 pub mod Words
+pub mod Begun

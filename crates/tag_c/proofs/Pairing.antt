@@ -11,7 +11,7 @@ use Rattle.tag_cache.specs.Calls as caches
 use Rattle.tag_c.specs.declared.pool_state.PoolState.{PoolState}
 use Rattle.tag_c.specs.Holders.{Holder, Bare, Caching, Holds, Either, IsUnchanged}
 use Rattle.tag_c.specs.Calls.{Through, DoesClear, DoesGet, DoesRead}
-use Rattle.tag_c.specs.Codes.{IsRefusal, code_of_get, code_of_found, code_of_count}
+use Rattle.tag_c.specs.Codes.{IsRefusal, code_of_get, code_of_found, code_of_done}
 use Rattle.tag_c.specs.Left.{answer_of}
 use Rattle.tag_c.specs.Pairs.{tag_checks, DoesGetWrite, DoesReadClear}
 use Rattle.tag_c.proofs.Calling.{as_stored, stored, through}
@@ -82,7 +82,7 @@ module _ (tags : Tags ℕ) (value : ℕ) (old between : Holder) where
   -- a holder that has read a slot still holds its tag, so the clear succeeds
   reads_and_clears : (new : Holder) (tag : ℕ) (clear : Result ℕ TagFault) → PassesAll (tag_checks tags old tag)
       → Holds between tag → DoesRead tag value tags (Ok value) old between → Clears tag clear between new tags
-      → DoesReadClear tag value tags clear old new × ¬ (IsRefusal (code_of_count clear))
+      → DoesReadClear tag value tags clear old new × ¬ (IsRefusal (code_of_done clear))
   reads_and_clears new tag (Ok woken) passes held reads clears = (
     record { refusals = record { first = tt; passes = passes; same = tt }; does = (between, reads, clears.1) },
     λ refusal. refusal,
@@ -114,14 +114,14 @@ module _ {state first : PoolState} {code : ℤ} (at : first ≡ state) (small : 
         (subst (λ (s : PoolState). Writes tag value write between new s.tags) (again ∙ sym at) writes))
 
     -- the number of the clear is no refusal
-    pub cleared_read : (tag value : ℕ) (clear : Result ℕ TagFault) → code ≡ code_of_count clear
+    pub cleared_read : (tag value : ℕ) (clear : Result ℕ TagFault) → code ≡ code_of_done clear
         → PassesAll (tag_checks first.tags old tag) → Holds between tag
         → DoesRead tag value first.tags (Ok value) old between → Clears tag clear between new second.tags
-        → Through (DoesReadClear tag value) code_of_count (as_stored code) state.tags old new
+        → Through (DoesReadClear tag value) code_of_done (as_stored code) state.tags old new
         × ¬ (IsRefusal (as_stored code))
     cleared_read tag value clear is passes held reads clears =
         let both = reads_and_clears first.tags value old between new tag clear passes held reads
         (subst (λ (s : PoolState). Clears tag clear between new s.tags) (again ∙ sym at) clears) in (
-          through (DoesReadClear tag value) code_of_count is small at both.0,
+          through (DoesReadClear tag value) code_of_done is small at both.0,
           λ refusal. both.1 (subst IsRefusal (stored code small ∙ is) refusal),
         )

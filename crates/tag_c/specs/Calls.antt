@@ -1,13 +1,10 @@
 -- What a call through the handle of a hand does: of a hand alone what `tag_sets` says, of one with a cache what `tag_cache`
 -- says.
-use Rattle.std.specs.Prelude.{◌≡◌, ℕ, ℤ, List, Option, Some, None, Result, IfOk, IfSome, ⊤}
+use Rattle.std.specs.Prelude.{◌≡◌, ℕ, ℤ, pos, List, Option, Some, None, Result, IfOk, IfSome, ⊤}
 use Rattle.std.specs.Arc.{arc_value}
-use Rattle.wake_book.specs.declared.grants.Grants.{Grants}
-use Rattle.wake_book.specs.declared.grants.TheConstants.{NO_GRANTS}
 use Rattle.wake_book.specs.declared.groups.Waiter.{Waiter}
-use Rattle.wake_book.specs.declared.waiting.Left.{Left}
 use Rattle.wake_book.specs.Grants.{WokenBy}
-use Rattle.wake_book.specs.Groups.{GrantsUnrung, RingsNobody, steps_of}
+use Rattle.wake_book.specs.Groups.{RingsNobody, steps_of}
 use Rattle.tag_search.specs.declared.found.Found.{Found}
 use Rattle.tag_sets.specs.declared.fault.TagFault.{TagFault}
 use Rattle.tag_sets.specs.declared.tags.Tags.{Tags}
@@ -20,7 +17,7 @@ use Rattle.tag_c.specs.declared.object.Kind.TheVariants.{Pool as IsPool, Member 
 use Rattle.tag_c.specs.declared.object.Object.{Object}
 use Rattle.tag_c.specs.declared.status.Status.TheVariants.{BadHandle}
 use Rattle.tag_c.specs.Holders.{Holder, Bare, Caching, Either}
-use Rattle.tag_c.specs.Codes.{code_of, done_of, first_of}
+use Rattle.tag_c.specs.Codes.{code_of, done_of}
 use Rattle.tag_c.specs.Left.{left_of}
 
 -- a hand stays one of the same pool and changes by this relation
@@ -60,17 +57,9 @@ Through {A} does number code tags old new = (answer : A) × (code ≡ number ans
 abbrev pub Counts : ℕ → Waiter → Waiter → Type 0
 Counts woken old new = WokenBy woken (steps_of old) (steps_of new) × RingsNobody old new
 
--- these are the grants of the steps between two moments, and none of them was rung for
-abbrev pub Grant : Grants → Waiter → Waiter → Type 0
-Grant grants old new = GrantsUnrung grants old new
-
 -- how many waiters were granted a wakeup, by their number itself
 abbrev pub itself : ℕ → ℕ
 itself woken = woken
-
--- how many waiters were granted a wakeup, by the grants
-abbrev pub woken_in : Grants → ℕ
-woken_in grants = grants.woken
 
 -- gets an ordinary tag, and tells how many tags it left free, 0 if it is refused
 abbrev pub DoesGet : ℕ → Tags ℕ → Result (Found ℕ) TagFault → Holder → Holder → Type 0
@@ -98,30 +87,20 @@ abbrev pub DoesClear : ℕ → Tags ℕ → Result ℕ TagFault → Holder → H
 DoesClear tag tags answer =
     Either (hands.DoesClear itself Counts tag tags answer) (caches.DoesClear itself Counts tag tags answer)
 
--- the same, and reports in which groups they wait
-abbrev pub DoesClearGranted : ℕ → Tags ℕ → Result Grants TagFault → Holder → Holder → Type 0
-DoesClearGranted tag tags answer =
-    Either (hands.DoesClear woken_in Grant tag tags answer) (caches.DoesClear woken_in Grant tag tags answer)
-
--- clears the tags of a list, and reports the wakeups that it granted
-abbrev pub DoesClearBatch : List ℕ → Tags ℕ → Result Grants TagFault → Holder → Holder → Type 0
+-- clears the tags of a list, and counts the waiters that it granted a wakeup
+abbrev pub DoesClearBatch : List ℕ → Tags ℕ → Result ℕ TagFault → Holder → Holder → Type 0
 DoesClearBatch list tags answer =
-    Either (hands.DoesClearBatch woken_in Grant list tags answer) (caches.DoesClearBatch woken_in Grant list tags answer)
+    Either (hands.DoesClearBatch itself Counts list tags answer) (caches.DoesClearBatch itself Counts list tags answer)
 
 -- clears the tags of a mask, and counts the waiters that it granted a wakeup
 abbrev pub DoesClearMask : ℕ → ℕ → Tags ℕ → Result ℕ TagFault → Holder → Holder → Type 0
 DoesClearMask first mask tags answer = Either (hands.DoesClearMask itself Counts first mask tags answer)
     (caches.DoesClearMask itself Counts first mask tags answer)
 
--- the same, and reports in which groups they wait
-abbrev pub DoesClearMaskGranted : ℕ → ℕ → Tags ℕ → Result Grants TagFault → Holder → Holder → Type 0
-DoesClearMaskGranted first mask tags answer = Either (hands.DoesClearMask woken_in Grant first mask tags answer)
-    (caches.DoesClearMask woken_in Grant first mask tags answer)
-
--- gives all kept tags back, of which a hand alone has none, and reports the wakeups that it granted
-abbrev pub DoesFlush : Tags ℕ → Grants → Holder → Holder → Type 0
-DoesFlush tags grants =
-    Either (λ old new. (new ≡ old) × (grants ≡ NO_GRANTS)) (caches.DoesFlush woken_in Grant tags grants)
+-- gives all kept tags back, of which a hand alone has none
+abbrev pub DoesFlush : ℤ → Tags ℕ → Holder → Holder → Type 0
+DoesFlush code tags old new = (code ≡ pos 0)
+    × Either (λ old new. new ≡ old) (λ old new. (woken : ℕ) × caches.DoesFlush itself Counts tags woken old new) old new
 
 -- reads the slot of a tag
 abbrev pub DoesRead : ℕ → ℕ → Tags ℕ → Result ℕ TagFault → Holder → Holder → Type 0
@@ -143,13 +122,3 @@ DoesPost tag tags answer = Either (hands.DoesPost tag tags answer)
 -- takes a posted tag
 abbrev pub DoesTake : ℕ → Tags ℕ → Result ⊤ TagFault → Holder → Holder → Type 0
 DoesTake tag tags answer = Either (hands.DoesTake tag tags answer) (caches.DoesTake tag tags answer)
-
--- enters a wait group; how many waiters the kept tags that go back granted a wakeup is not told
-abbrev pub DoesPrepare : Tags ℕ → Result ℕ TagFault → Holder → Holder → Type 0
-DoesPrepare tags answer = Either (hands.DoesPrepare answer)
-    (λ old new. (counted : Result (ℕ × ℕ) TagFault) × (answer ≡ first_of counted)
-    × caches.DoesPrepare Counts tags counted old new)
-
--- leaves the wait group, or stays in it because the group changed meanwhile
-abbrev pub DoesFinish : Tags ℕ → Result (Option Left) TagFault → Holder → Holder → Type 0
-DoesFinish tags answer = Either (hands.DoesFinish answer) (caches.DoesFinish answer)

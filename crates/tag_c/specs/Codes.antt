@@ -1,9 +1,5 @@
 -- The numbers that calls return, as tags.h names them; negsuc n is -(n + 1).
-use Rattle.std.specs.Prelude.{ℕ, ℤ, pos, negsuc, min, Option, Some, None, Result, Ok, Err, ⊤}
-use Rattle.wake_book.specs.declared.grants.Grants.{Grants}
-use Rattle.wake_book.specs.declared.waiting.Left.{Left}
-use Rattle.wake_book.specs.declared.waiting.Left.TheVariants.{Woken, Unwoken}
-use Rattle.tag_layout.specs.declared.layout.TheConstants.{MAX_DEPTH}
+use Rattle.std.specs.Prelude.{ℕ, ℤ, pos, negsuc, Option, Some, None, Result, Ok, Err, ⊤}
 use Rattle.tag_sets.specs.declared.fault.SetFault.{SetFault}
 use Rattle.tag_sets.specs.declared.fault.SetFault.TheVariants.{Memory, TotalTooLarge, ReservedTooLarge, ShiftTooLarge, CallerCount, LifeTooLong, CapTooLarge}
 use Rattle.tag_sets.specs.declared.fault.TagFault.{TagFault}
@@ -11,7 +7,7 @@ use Rattle.tag_sets.specs.declared.fault.TagFault.TheVariants.{NoSuchTag, NoRese
 use Rattle.tag_search.specs.declared.found.Found.{Found}
 use Rattle.tag_c.specs.Left.{answer_of}
 use Rattle.tag_c.specs.declared.status.Status.{Status}
-use Rattle.tag_c.specs.declared.status.Status.TheVariants.{Done, Refused, NoTag, Again, BadHandle, NotEmpty, NoHand, HandsOut, BadKind, TooSmall, BadFlag, NotOpened, NoBerth, HandLost, InUse, HandsWait, CacheTooLarge}
+use Rattle.tag_c.specs.declared.status.Status.TheVariants.{Done, Refused, NoTag, BadHandle, NotEmpty, NoHand, HandsOut, BadKind, TooSmall, BadFlag, NotOpened, NoBerth, HandLost, InUse, HandsWait, CacheTooLarge}
 
 -- the number is negative, so it is a refusal
 abbrev pub IsRefusal : ℤ → Type 0
@@ -45,7 +41,6 @@ abbrev pub code_of : Status → ℤ
 code_of Done = pos 0
 code_of (Refused fault) = code_of_fault fault
 code_of NoTag = negsuc 9
-code_of Again = negsuc 10
 code_of BadHandle = negsuc 11
 code_of NotEmpty = negsuc 12
 code_of NoHand = negsuc 13
@@ -80,38 +75,12 @@ code_of_batch (Err fault) = code_of_fault fault
 abbrev pub code_of_found_batch : Result (Found (ℕ × ℕ)) TagFault → ℤ
 code_of_found_batch found = code_of_batch (answer_of found)
 
--- the count, which never exceeds the bound, or the reason why there is none
-abbrev pub code_of_count : Result ℕ TagFault → ℤ
-code_of_count (Ok count) = pos (min count MAX_DEPTH)
-code_of_count (Err fault) = code_of_fault fault
-
--- how many waiters were granted a wakeup, at most the bound
-abbrev pub code_of_told : Grants → ℤ
-code_of_told grants = pos (min grants.woken MAX_DEPTH)
-
--- the same, or the reason for the refusal
-abbrev pub code_of_grants : Result Grants TagFault → ℤ
-code_of_grants (Ok grants) = code_of_told grants
-code_of_grants (Err fault) = code_of_fault fault
-
 -- 0 on success, or the reason for the refusal
 abbrev pub code_of_done : {A : Type 0} → Result A TagFault → ℤ
 code_of_done (Ok done) = pos 0
 code_of_done (Err fault) = code_of_fault fault
 
--- 1 for a wait that used a grant, 0 for one that found none, or the reason why it is not over
-abbrev pub code_of_finish : Result (Option Left) TagFault → ℤ
-code_of_finish (Ok (Some Woken)) = pos 1
-code_of_finish (Ok (Some Unwoken)) = pos 0
-code_of_finish (Ok None) = code_of Again
-code_of_finish (Err fault) = code_of_fault fault
-
 -- the same answer without its value
 abbrev pub done_of : {A : Type 0} → Result A TagFault → Result ⊤ TagFault
 done_of (Ok x) = Ok tt
 done_of (Err fault) = Err fault
-
--- the same answer with the first of its two values alone
-abbrev pub first_of : {A B : Type 0} → Result (A × B) TagFault → Result A TagFault
-first_of (Ok both) = Ok both.0
-first_of (Err fault) = Err fault

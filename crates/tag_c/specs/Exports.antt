@@ -86,10 +86,6 @@ sums_of totals = record {
   back = totals.tags.back;
   held = totals.tags.held;
   posted = totals.tags.posted;
-  counted = totals.book.counted;
-  charged = totals.book.charged;
-  issued = totals.groups.issued;
-  used = totals.groups.used;
 }
 
 -- the number is that of a status with this reason

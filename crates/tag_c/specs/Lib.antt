@@ -5,7 +5,6 @@ pub mod Holders
 pub mod Calls
 pub mod Pools
 pub mod Joins
-pub mod Grants
 pub mod Pairs
 pub mod Views
 pub mod Reports
@@ -14,3 +13,4 @@ pub mod Resizes
 pub mod Held
 pub mod Lending
 pub mod Left
+pub mod Begun

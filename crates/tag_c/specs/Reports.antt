@@ -8,7 +8,6 @@ use Rattle.tag_sets.specs.declared.kind.Kind.TheVariants.{Ordinary, Reserved}
 use Rattle.tag_sets.specs.declared.tags.Tags.{Tags}
 use Rattle.tag_sets.specs.Hands.{layout_of, total_of}
 use Rattle.tag_sets.specs.Peeks.{PeeksBusy, PeeksShow}
-use Rattle.tag_c.specs.declared.looks.Counts.{Counts}
 use Rattle.tag_c.specs.declared.looks.Sizes.{Sizes}
 use Rattle.tag_c.specs.declared.object.Kind.{Kind}
 use Rattle.tag_c.specs.declared.object.Kind.TheVariants.{Pool as IsPool, Member as IsMember, Cached as IsCached}
@@ -37,12 +36,6 @@ pub record TellsShown (kind : ℕ) (sizes : Sizes) (code : ℤ) (tags : Tags ℕ
   pub ordinary : kind ≡ 0 → TellsShownOf Ordinary sizes code tags
   pub reserved : kind ≡ 1 → TellsShownOf Reserved sizes code tags
   pub bad_kind : 2 ≤ kind → code ≡ code_of BadKind
-
--- no more completions are charged than counted, and the group is one of eight
-pub record TellsWakes (counts : Counts) (code : ℤ) (tags : Tags ℕ) : Type 0 where
-  pub done : code ≡ pos 0
-  pub ordered : counts.charged ≤ counts.counted
-  pub within : counts.index < 8
 
 -- a report of a pool is about its tags, and a hand reports nothing
 abbrev pub Reports : (Tags ℕ → Type 0) → ℤ → Kind → Type 0

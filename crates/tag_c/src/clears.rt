@@ -1,35 +1,35 @@
 //! Gives tags back, through the handle of a hand. Each call is described in tags.h.
 ghost use Rattle.tag_c.specs.Calls.{CacheCalls, CallsBy, Through, DoesClear, DoesClearBatch};
-ghost use Rattle.tag_c.specs.Codes.{code_of_count, code_of_grants};
+ghost use Rattle.tag_c.specs.Codes.{code_of_done};
 
 use crate::any_hand::{AnyHand, on_hand};
 use crate::cached::CachedMember;
-use crate::codes::{count_code, grants_code};
+use crate::codes::done_code;
 use crate::handle::Handle;
 use crate::member::Member;
-use tag_sets::{Count, Report};
+use tag_sets::Count;
 
 /// Calls that give tags back.
 trait ClearCalls: AnyHand {
-    /// Gives a held tag back, and returns how many waiters were granted a wakeup.
+    /// Gives a held tag back.
     fn clear(&mut self, tag: u32) -> i32
-        ensures { Self.changes (Through (DoesClear tag) code_of_count result) self.old self.new };
+        ensures { Self.changes (Through (DoesClear tag) code_of_done result) self.old self.new };
 
-    /// Gives held ordinary tags back, and returns how many waiters were granted a wakeup.
+    /// Gives held ordinary tags back.
     fn clear_batch(&mut self, tags: &[u32]) -> i32
-        ensures { Self.changes (Through (DoesClearBatch tags.now) code_of_grants result)
+        ensures { Self.changes (Through (DoesClearBatch tags.now) code_of_done result)
             self.old self.new };
 }
 
 impl ClearCalls for Member {
     #[inline(always)]
     fn clear(&mut self, tag: u32) -> i32 {
-        count_code(self.shared.tags.clear::<Count>(&mut self.hand, tag))
+        done_code(self.shared.tags.clear::<Count>(&mut self.hand, tag))
     }
 
     #[inline(always)]
     fn clear_batch(&mut self, tags: &[u32]) -> i32 {
-        grants_code(self.shared.tags.clear_batch::<Report>(&mut self.hand, tags))
+        done_code(self.shared.tags.clear_batch::<Count>(&mut self.hand, tags))
     }
 }
 
@@ -38,9 +38,9 @@ impl CachedMember {
     /// needs no memory and saves no registers.
     #[inline(never)]
     fn clear_any(&mut self, tag: u32) -> i32
-        ensures { CacheCalls (Through (DoesClear tag) code_of_count result) self.old self.new }
+        ensures { CacheCalls (Through (DoesClear tag) code_of_done result) self.old self.new }
     {
-        count_code(self.cache.clear::<Count>(&self.shared.tags, tag))
+        done_code(self.cache.clear_any::<Count>(&self.shared.tags, tag))
     }
 }
 
@@ -48,20 +48,20 @@ impl ClearCalls for CachedMember {
     #[inline(always)]
     fn clear(&mut self, tag: u32) -> i32 {
         if self.cache.has_place(tag) {
-            return count_code(Ok(self.cache.clear_placed::<Count>(&self.shared.tags, tag)));
+            return done_code(Ok(self.cache.clear_placed::<Count>(&self.shared.tags, tag)));
         }
         self.clear_any(tag)
     }
 
     #[inline(never)]
     fn clear_batch(&mut self, tags: &[u32]) -> i32 {
-        grants_code(self.cache.clear_batch::<Report>(&self.shared.tags, tags))
+        done_code(self.cache.clear_batch::<Count>(&self.shared.tags, tags))
     }
 }
 
 #[unsafe(no_mangle)]
 pub extern "C" fn tags_clear(hand: &mut Handle, tag: u32) -> i32
-    ensures { CallsBy (Through (DoesClear tag) code_of_count result) result
+    ensures { CallsBy (Through (DoesClear tag) code_of_done result) result
         hand.old.object.value hand.new.object.value }
 {
     on_hand!(hand.clear(tag))
@@ -69,7 +69,7 @@ pub extern "C" fn tags_clear(hand: &mut Handle, tag: u32) -> i32
 
 #[unsafe(no_mangle)]
 pub extern "C" fn tags_clear_batch(hand: &mut Handle, tags: &[u32]) -> i32
-    ensures { CallsBy (Through (DoesClearBatch tags.now) code_of_grants result) result
+    ensures { CallsBy (Through (DoesClearBatch tags.now) code_of_done result) result
         hand.old.object.value hand.new.object.value }
 {
     on_hand!(hand.clear_batch(tags))

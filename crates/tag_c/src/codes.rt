@@ -2,10 +2,10 @@
 ghost use Rattle.std.specs.Prelude.{◌≡◌, ◌≤◌, IfOk, IfSome, pos, min};
 ghost use Rattle.tag_layout.specs.declared.layout.TheConstants.{MAX_DEPTH};
 ghost use Rattle.tag_c.specs.Left.{answer_of, left_of};
-ghost use Rattle.tag_c.specs.Codes.{IsRefusal, code_of_get, code_of_batch, code_of_count, code_of_grants, code_of_done, code_of_finish, done_of, first_of};
+ghost use Rattle.tag_c.specs.Codes.{IsRefusal, code_of_get, code_of_batch, code_of_done, done_of};
 
 use crate::status::{Status, fault_code};
-use tag_sets::{Found, Grants, Left, MAX_DEPTH, TagFault};
+use tag_sets::{Found, MAX_DEPTH, TagFault};
 
 /// Writes how many tags the get left free, 0 if it was refused, and returns its answer without that number.
 #[inline]
@@ -62,49 +62,18 @@ pub(crate) fn number_code(count: u32) -> i32
     count.min(MAX_DEPTH) as i32
 }
 
-/// Returns the count, or the status of the error.
-#[inline]
-pub(crate) fn count_code(answer: Result<u32, TagFault>) -> i32
-    ensures { result ≡ code_of_count answer }
-{
-    match answer {
-        Ok(0) => 0,
-        Ok(count) => woken_code(count),
-        Err(fault) => fault_code(fault),
-    }
-}
-
-/// Returns the count as `number_code` does. It is out of line: a clear seldom grants a wakeup.
-#[inline(never)]
-fn woken_code(count: u32) -> i32
-    ensures { result ≡ pos (min count MAX_DEPTH) }
-{
-    number_code(count)
-}
-
-/// Returns how many waiters were granted a wakeup, or the status of the error.
-#[inline]
-pub(crate) fn grants_code(answer: Result<Grants, TagFault>) -> i32
-    ensures { result ≡ code_of_grants answer }
-{
-    match answer {
-        Ok(grants) => number_code(grants.woken),
-        Err(fault) => fault_code(fault),
-    }
-}
-
 /// Returns 0, or the status of the error.
 #[inline]
-pub(crate) fn done_code(answer: Result<(), TagFault>) -> i32
+pub(crate) fn done_code<T: Copy>(answer: Result<T, TagFault>) -> i32
     ensures { result ≡ code_of_done answer }
 {
     match answer {
-        Ok(()) => 0,
+        Ok(_) => 0,
         Err(fault) => fault_code(fault),
     }
 }
 
-/// Returns the answer of a post without how many waiters it granted a wakeup.
+/// Returns the answer of a post without its number.
 #[inline]
 pub(crate) fn done_alone(answer: Result<u32, TagFault>) -> Result<(), TagFault>
     ensures { result ≡ done_of answer }
@@ -112,31 +81,6 @@ pub(crate) fn done_alone(answer: Result<u32, TagFault>) -> Result<(), TagFault>
     match answer {
         Ok(_) => Ok(()),
         Err(fault) => Err(fault),
-    }
-}
-
-/// Returns the wait group of the answer without how many waiters the flush before it granted a wakeup.
-#[inline]
-pub(crate) fn group_alone(answer: Result<(u32, u32), TagFault>) -> Result<u32, TagFault>
-    ensures { result ≡ first_of answer }
-{
-    match answer {
-        Ok((group, _)) => Ok(group),
-        Err(fault) => Err(fault),
-    }
-}
-
-/// Returns 1 for a wait that used a grant, 0 for one that found none, `Again` if the wait group changed meanwhile, or
-/// the status of the error.
-#[inline]
-pub(crate) fn finish_code(answer: Result<Option<Left>, TagFault>) -> i32
-    ensures { result ≡ code_of_finish answer }
-{
-    match answer {
-        Ok(Some(Left::Woken)) => 1,
-        Ok(Some(Left::Unwoken)) => 0,
-        Ok(None) => Status::Again.code(),
-        Err(fault) => fault_code(fault),
     }
 }
 

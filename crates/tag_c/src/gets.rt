@@ -1,7 +1,9 @@
 //! Takes tags through the handle of a hand. Each call is described in tags.h.
 ghost use Rattle.std.specs.Prelude.{◌≡◌};
 ghost use Rattle.tag_c.specs.declared.status.Status.TheVariants.{BadHandle};
-ghost use Rattle.tag_c.specs.Calls.{CacheCalls, CallsBy, Through, DoesGet, DoesGetReserved, DoesGetShallow, DoesGetBatch};
+ghost use Rattle.tag_search.specs.declared.search.Unfinished.TheVariants.{Full, Lost};
+ghost use Rattle.tag_c.specs.Begun.{TriesFirst};
+ghost use Rattle.tag_c.specs.Calls.{HandCalls, CacheCalls, CallsBy, Through, DoesGet, DoesGetReserved, DoesGetShallow, DoesGetBatch};
 ghost use Rattle.tag_c.specs.Codes.{IsRefusal, code_of, code_of_get, code_of_found, code_of_found_batch};
 
 use crate::any_hand::{AnyHand, on_hand};
@@ -9,6 +11,7 @@ use crate::cached::CachedMember;
 use crate::codes::{batch_code, get_code, tell_left};
 use crate::handle::Handle;
 use crate::member::Member;
+use tag_sets::Unfinished;
 
 /// Calls that take tags.
 trait GetCalls: AnyHand {
@@ -33,12 +36,63 @@ trait GetCalls: AnyHand {
         ensures kept { IsRefusal result → won.new ≡ won.old };
 }
 
+// What a get does after its first try is out of line and called last, with numbers alone: the first try then needs no
+// memory, and saves few registers.
+impl Member {
+    /// Makes a whole get.
+    #[inline(never)]
+    fn get_whole(&mut self, left: &mut u64) -> i32
+        ensures { HandCalls (Through (DoesGet left.new) code_of_found result) self.old self.new }
+    {
+        let found = self.shared.tags.get_freed(&mut self.hand);
+        get_code(tell_left(found, left))
+    }
+
+    /// Goes on after a first try that found the hint's word full.
+    #[inline(never)]
+    fn get_past_full(&mut self, left: &mut u64) -> i32
+        requires { (before : Member) × TriesFirst Full before self.old }
+        ensures { (before : Member) → TriesFirst Full before self.old
+            → HandCalls (Through (DoesGet left.new) code_of_found result) before self.new }
+    {
+        self.finish_get(left, Unfinished::Full)
+    }
+
+    /// Goes on after a first try that lost its claim, at the place `from` of the word as the claim found it.
+    #[inline(never)]
+    fn get_past_lost(&mut self, left: &mut u64, from: u32, word: u64) -> i32
+        requires { (before : Member) × TriesFirst (Lost from word) before self.old }
+        ensures { (before : Member) → TriesFirst (Lost from word) before self.old
+            → HandCalls (Through (DoesGet left.new) code_of_found result) before self.new }
+    {
+        self.finish_get(left, Unfinished::Lost { from, found: word })
+    }
+
+    /// Finishes a get whose first try won nothing.
+    #[inline(always)]
+    fn finish_get(&mut self, left: &mut u64, rest: Unfinished) -> i32
+        requires { (before : Member) × TriesFirst rest before self.old }
+        ensures { (before : Member) → TriesFirst rest before self.old
+            → HandCalls (Through (DoesGet left.new) code_of_found result) before self.new }
+    {
+        let found = self.shared.tags.finish_get(&mut self.hand, rest);
+        get_code(tell_left(Ok(found), left))
+    }
+}
+
 impl GetCalls for Member {
     // It is out of line too: what it saves of the registers of its caller, a get over a cache need not save.
     #[inline(never)]
     fn get(&mut self, left: &mut u64) -> i32 {
-        let found = self.shared.tags.get_freed(&mut self.hand);
-        get_code(tell_left(found, left))
+        match self.shared.tags.begin_get(&mut self.hand) {
+            Ok(won) => {
+                *left = 0;
+                get_code(Ok(Some(won)))
+            }
+            Err(Unfinished::NotBegun) => self.get_whole(left),
+            Err(Unfinished::Full) => self.get_past_full(left),
+            Err(Unfinished::Lost { from, found }) => self.get_past_lost(left, from, found),
+        }
     }
 
     #[inline(always)]

@@ -1,9 +1,9 @@
-//! Reports which tags are held or busy, the sizes of a set, and the counts, through the handle of a hand. Each call is
-//! described in tags.h.
+//! Reports which tags are held or busy, and the sizes of a set, through the handle of a hand. Each call is described in
+//! tags.h.
 ghost use Rattle.std.specs.Prelude.{◌≡◌};
 ghost use Rattle.tag_c.specs.Calls.{CallsBy};
 ghost use Rattle.tag_c.specs.Codes.{IsRefusal};
-ghost use Rattle.tag_c.specs.Views.{SaysHeld, SaysBusy, SaysShown, SaysWakes};
+ghost use Rattle.tag_c.specs.Views.{SaysHeld, SaysBusy, SaysShown};
 
 use crate::any_hand::{AnyHand, on_hand};
 use crate::cached::CachedMember;
@@ -29,20 +29,6 @@ pub struct Sizes {
     pub words: u32,
 }
 
-/// Counts of completions and of waiters.
-#[repr(C)]
-#[derive(Clone, Copy, Debug, PartialEq, Eq)]
-pub struct Counts {
-    /// Completions counted.
-    pub counted: u64,
-    /// Completions charged.
-    pub charged: u64,
-    /// Hands in a wait group.
-    pub active: u64,
-    /// The wait group that the next wakeup starts at, below 8.
-    pub index: u32,
-}
-
 /// Calls that report.
 trait LookCalls: AnyHand {
     /// Returns 1 if the tag is held, and not kept, and 0 if not.
@@ -59,11 +45,6 @@ trait LookCalls: AnyHand {
     fn show(&mut self, kind: u32, sizes: &mut Sizes) -> i32
         ensures calls { Self.changes (SaysShown kind sizes.new result) self.old self.new }
         ensures kept { IsRefusal result → sizes.new ≡ sizes.old };
-
-    /// Writes the counts of completions and of waiters, each from a load of its own.
-    fn wakes(&mut self, counts: &mut Counts) -> i32
-        ensures calls { Self.changes (SaysWakes counts.new result) self.old self.new }
-        ensures kept { IsRefusal result → counts.new ≡ counts.old };
 }
 
 impl LookCalls for Member {
@@ -97,18 +78,6 @@ impl LookCalls for Member {
             cleared: shown.cleared,
             bits_per_word: shown.bits_per_word,
             words: shown.map_nr,
-        };
-        0
-    }
-
-    #[inline(always)]
-    fn wakes(&mut self, counts: &mut Counts) -> i32 {
-        let wakes = self.shared.tags.wakes(&mut self.hand);
-        *counts = Counts {
-            counted: wakes.counted,
-            charged: wakes.charged,
-            active: wakes.active,
-            index: wakes.index,
         };
         0
     }
@@ -148,18 +117,6 @@ impl LookCalls for CachedMember {
         };
         0
     }
-
-    #[inline(never)]
-    fn wakes(&mut self, counts: &mut Counts) -> i32 {
-        let found = self.cache.wakes(&self.shared.tags);
-        *counts = Counts {
-            counted: found.counted,
-            charged: found.charged,
-            active: found.active,
-            index: found.index,
-        };
-        0
-    }
 }
 
 #[unsafe(no_mangle)]
@@ -185,13 +142,4 @@ pub extern "C" fn tags_show(hand: &mut Handle, kind: u32, sizes: &mut Sizes) -> 
     ensures kept { IsRefusal result → sizes.new ≡ sizes.old }
 {
     on_hand!(hand.show(kind, sizes))
-}
-
-#[unsafe(no_mangle)]
-pub extern "C" fn tags_wakes(hand: &mut Handle, counts: &mut Counts) -> i32
-    ensures calls { CallsBy (SaysWakes counts.new result) result
-        hand.old.object.value hand.new.object.value }
-    ensures kept { IsRefusal result → counts.new ≡ counts.old }
-{
-    on_hand!(hand.wakes(counts))
 }

@@ -53,9 +53,5 @@ pub(crate) fn read_sums(totals: QueueTotals) -> Sums
         back: totals.tags.back,
         held: totals.tags.held,
         posted: totals.tags.posted,
-        counted: totals.book.counted,
-        charged: totals.book.charged,
-        issued: totals.groups.issued,
-        used: totals.groups.used,
     }
 }

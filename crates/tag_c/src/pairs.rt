@@ -2,13 +2,13 @@
 //! tags.h.
 ghost use Rattle.std.specs.Prelude.{◌≡◌};
 ghost use Rattle.tag_c.specs.Calls.{CallsBy, Through};
-ghost use Rattle.tag_c.specs.Codes.{IsRefusal, code_of, code_of_found, code_of_count};
+ghost use Rattle.tag_c.specs.Codes.{IsRefusal, code_of, code_of_found, code_of_done};
 ghost use Rattle.tag_c.specs.declared.status.Status.TheVariants.{BadHandle};
 ghost use Rattle.tag_c.specs.Pairs.{DoesGetWrite, DoesReadClear};
 
 use crate::any_hand::{AnyHand, on_hand};
 use crate::cached::CachedMember;
-use crate::codes::{count_code, get_code, tell_left};
+use crate::codes::{done_code, get_code, tell_left};
 use crate::handle::Handle;
 use crate::member::Member;
 use crate::status::{Status, fault_code};
@@ -21,10 +21,9 @@ trait PairCalls: AnyHand {
         ensures { Self.changes (Through (DoesGetWrite value left.new) code_of_found result)
             self.old self.new };
 
-    /// Reads the slot of a held tag into `value`, gives the tag back, and returns how many waiters were granted a
-    /// wakeup.
+    /// Reads the slot of a held tag into `value`, and gives the tag back.
     fn read_clear(&mut self, tag: u32, value: &mut u64) -> i32
-        ensures calls { Self.changes (Through (DoesReadClear tag value.new) code_of_count result)
+        ensures calls { Self.changes (Through (DoesReadClear tag value.new) code_of_done result)
             self.old self.new }
         ensures kept { IsRefusal result → value.new ≡ value.old };
 }
@@ -51,7 +50,7 @@ impl PairCalls for Member {
             Err(fault) => return fault_code(fault),
         };
         *value = found;
-        count_code(self.shared.tags.clear::<Count>(&mut self.hand, tag))
+        done_code(self.shared.tags.clear::<Count>(&mut self.hand, tag))
     }
 }
 
@@ -77,7 +76,7 @@ impl PairCalls for CachedMember {
             Err(fault) => return fault_code(fault),
         };
         *value = found;
-        count_code(self.cache.clear::<Count>(&self.shared.tags, tag))
+        done_code(self.cache.clear::<Count>(&self.shared.tags, tag))
     }
 }
 
@@ -93,7 +92,7 @@ pub extern "C" fn tags_get_write(hand: &mut Handle, value: u64, left: &mut u64) 
 
 #[unsafe(no_mangle)]
 pub extern "C" fn tags_read_clear(hand: &mut Handle, tag: u32, value: &mut u64) -> i32
-    ensures calls { CallsBy (Through (DoesReadClear tag value.new) code_of_count result) result
+    ensures calls { CallsBy (Through (DoesReadClear tag value.new) code_of_done result) result
         hand.old.object.value hand.new.object.value }
     ensures kept { IsRefusal result → value.new ≡ value.old }
 {

@@ -2,11 +2,11 @@
 ghost use Rattle.std.specs.Prelude.{◌≡◌, ◌*◌};
 ghost use Rattle.std.specs.Arc.{arc_value};
 ghost use Rattle.tag_c.specs.Codes.{IsRefusal};
-ghost use Rattle.tag_c.specs.Reports.{ReportsBy, TellsBusy, TellsShown, TellsWakes};
+ghost use Rattle.tag_c.specs.Reports.{ReportsBy, TellsBusy, TellsShown};
 
 use crate::codes::number_code;
 use crate::handle::Handle;
-use crate::looks::{Counts, Sizes};
+use crate::looks::Sizes;
 use crate::object::Kind as Behind;
 use crate::pool::Pool;
 use crate::status::Status;
@@ -45,21 +45,6 @@ impl Pool {
         };
         0
     }
-
-    /// Writes the counts of completions and of waiters, each from a load of its own.
-    fn wakes(&self, counts: &mut Counts) -> i32
-        ensures tells { TellsWakes counts.new result (arc_value self.now.shared).tags }
-        ensures kept { IsRefusal result → counts.new ≡ counts.old }
-    {
-        let found = self.shared.tags.peek_wakes();
-        *counts = Counts {
-            counted: found.counted,
-            charged: found.charged,
-            active: found.active,
-            index: found.index,
-        };
-        0
-    }
 }
 
 /// Makes a report of the pool behind a handle. An empty handle and a hand are refused.
@@ -91,13 +76,4 @@ pub extern "C" fn tags_pool_show(pool: &mut Handle, kind: u32, sizes: &mut Sizes
     ensures kept { IsRefusal result → sizes.new ≡ sizes.old }
 {
     on_pool!(pool.show(kind, sizes))
-}
-
-#[unsafe(no_mangle)]
-pub extern "C" fn tags_pool_wakes(pool: &mut Handle, counts: &mut Counts) -> i32
-    ensures tells { ReportsBy (TellsWakes counts.new result) result pool.old.object.value }
-    ensures same { pool.new.object.value ≡ pool.old.object.value }
-    ensures kept { IsRefusal result → counts.new ≡ counts.old }
-{
-    on_pool!(pool.wakes(counts))
 }

@@ -13,8 +13,6 @@ pub enum Status {
     Refused(TagFault),
     /// No free tag was found.
     NoTag,
-    /// The wait group changed during the call. The hand is still in it.
-    Again,
     /// The handle is empty, or of the other kind.
     BadHandle,
     /// The handle to be filled is not empty.
@@ -38,7 +36,7 @@ pub enum Status {
     HandLost,
     /// Tags are held or posted.
     InUse,
-    /// Hands stand in a wait group.
+    /// Hands stand in a wait group, which no call of this crate lets them enter.
     HandsWait,
     /// A hand would keep more tags than a cache can.
     CacheTooLarge,
@@ -53,7 +51,6 @@ impl Status {
             Status::Done => 0,
             Status::Refused(fault) => fault_code(fault),
             Status::NoTag => -10,
-            Status::Again => -11,
             Status::BadHandle => -12,
             Status::NotEmpty => -13,
             Status::NoHand => -14,

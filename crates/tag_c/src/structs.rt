@@ -19,8 +19,7 @@ pub struct RequestedOptions {
     pub reserved: u32,
     /// Binary logarithm of the bits per word, at most `MAX_SHIFT`. A negative shift chooses the default for the depth.
     pub shift: i32,
-    /// The least depth that a shallow get may ask for. 0 allows any from 1. If it is lower than the number of ordinary
-    /// tags, the wake batch is an eighth of it, clamped to 1 to 8.
+    /// The least depth that a shallow get may ask for. 0 allows any from 1.
     pub min_shallow: u32,
     /// Number of hands, 1 to `MAX_CALLERS`.
     pub hands: u32,
@@ -40,14 +39,6 @@ pub struct Sums {
     pub held: u64,
     /// Tags still posted.
     pub posted: u64,
-    /// Completions counted.
-    pub counted: u64,
-    /// Completions charged, a batch at a time.
-    pub charged: u64,
-    /// Wakeups granted to waiters.
-    pub issued: u64,
-    /// Wakeups that waiters used.
-    pub used: u64,
 }
 
 impl Sums {
@@ -57,9 +48,5 @@ impl Sums {
         back: 0,
         held: 0,
         posted: 0,
-        counted: 0,
-        charged: 0,
-        issued: 0,
-        used: 0,
     };
 }

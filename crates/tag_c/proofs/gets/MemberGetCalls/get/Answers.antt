@@ -1,7 +1,53 @@
--- The hand does what the call of `tag_sets` does, and its number fits into 32 bits.
-use Rattle.std.proofs.Common.{rules}
-use Rattle.tag_c.proofs.Calling.{through}
+-- A first try that wins is the get, and otherwise the call after it is made last.
+use Rattle.std.proofs.Common.{Ok, Some, refl, subst}
+use Rattle.tag_search.specs.declared.search.Unfinished.{Unfinished}
+use Rattle.tag_search.specs.declared.search.Unfinished.TheVariants.{Full, Lost}
+use Rattle.tag_sets.specs.Begun.{BeginsGet}
+use Rattle.tag_c.proofs.Begun.{called, seen_in}
+use Rattle.tag_c.proofs.Runs.{ordinary_fits}
 use Rattle.tag_c.proofs.gets.MemberGetCalls.get.Goals as goal
 
-pub returns : goal.returns
-returns c = search (rules, through)
+pub get_code-requires : goal.get_code-requires
+get_code-requires c = ordinary_fits c.deref.result.now (Ok (record { answer = Some c.in-Ok.won; left = 0 })) refl
+    c.in-Ok.ensures.won.gets.ordinary
+
+pub get_past_full-requires : goal.get_past_full-requires
+get_past_full-requires c = (
+  c.args.self.now,
+  (
+    refl,
+    seen_in Full c.args.self.now c.deref.result.now c.begin_get.new.hand
+        c.deref.ensures (subst (λ (x : Unfinished). BeginsGet c.deref.result.now.tags x c.args.self.now.hand
+        c.begin_get.new.hand) c.in-Err-Full.field-0-is c.in-Err-Full.ensures.begins),
+  ),
+)
+
+pub get_past_lost-requires : goal.get_past_lost-requires
+get_past_lost-requires c = (
+  c.args.self.now,
+  (
+    refl,
+    seen_in (Lost c.in-Err-Lost.from c.in-Err-Lost.found) c.args.self.now
+        c.deref.result.now c.begin_get.new.hand c.deref.ensures
+        (subst (λ (x : Unfinished). BeginsGet c.deref.result.now.tags x c.args.self.now.hand
+        c.begin_get.new.hand) c.in-Err-Lost.field-0-is c.in-Err-Lost.ensures.begins),
+  ),
+)
+
+pub returns-in-Err-Full : goal.returns-in-Err-Full
+returns-in-Err-Full c = called c.get_past_full.result c.get_past_full.new.left c.args.self.now c.get_past_full.new.self
+    c.get_past_full.type_inv (c.get_past_full.ensures c.args.self.now (
+      refl,
+      seen_in Full c.args.self.now
+          c.deref.result.now c.begin_get.new.hand c.deref.ensures (subst (λ (x : Unfinished). BeginsGet c.deref.result.now.tags x
+          c.args.self.now.hand c.begin_get.new.hand) c.in-Err-Full.field-0-is c.in-Err-Full.ensures.begins),
+    ))
+
+pub returns-in-Err-Lost : goal.returns-in-Err-Lost
+returns-in-Err-Lost c = called c.get_past_lost.result c.get_past_lost.new.left c.args.self.now c.get_past_lost.new.self
+    c.get_past_lost.type_inv (c.get_past_lost.ensures c.args.self.now (
+      refl,
+      seen_in (Lost c.in-Err-Lost.from c.in-Err-Lost.found) c.args.self.now
+          c.deref.result.now c.begin_get.new.hand c.deref.ensures (subst (λ (x : Unfinished). BeginsGet c.deref.result.now.tags x
+          c.args.self.now.hand c.begin_get.new.hand) c.in-Err-Lost.field-0-is c.in-Err-Lost.ensures.begins),
+    ))

@@ -8,8 +8,8 @@ use Rattle.tag_c.proofs.pairs.MemberPairCalls.read_clear.Goals as goal
 pub returns : goal.returns
 returns c = let reads = c.in-Ok.ensures.does in let clears = c.clear.ensures.does in
     let passes = reads.refusals.passes in
-    let both = cleared_read c.deref.ensures c.count_code.type_inv (Bare c.args.self.now.hand) (Bare c.read.new.hand)
-    c.deref-2.ensures (Bare c.clear.new.hand) c.args.tag c.in-Ok.found c.clear.result c.count_code.ensures passes
+    let both = cleared_read c.deref.ensures c.done_code.type_inv (Bare c.args.self.now.hand) (Bare c.read.new.hand)
+    c.deref-2.ensures (Bare c.clear.new.hand) c.args.tag c.in-Ok.found c.clear.result c.done_code.ensures passes
     (reads.reads.same.kept c.args.tag passes.1.0).0 (reads, refl) (clears.refusals, clears) in
     record { calls = (refl, both.0); kept = λ refusal. absurd (both.1 refusal) }
 

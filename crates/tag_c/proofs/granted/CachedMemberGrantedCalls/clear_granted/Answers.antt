@@ -1,7 +1,0 @@
--- The hand does what the call of `tag_cache` does, and its number fits into 32 bits.
-use Rattle.std.proofs.Common.{rules}
-use Rattle.tag_c.proofs.Calling.{through}
-use Rattle.tag_c.proofs.granted.CachedMemberGrantedCalls.clear_granted.Goals as goal
-
-pub returns-clause-calls : goal.returns-clause-calls
-returns-clause-calls c = search (rules, through)
