@@ -1,6 +1,6 @@
 -- With one caller, what a call adds to the caller's steps decides what becomes of both sets.
-use Rattle.std.proofs.Common.{◌≡◌, ℕ, ◌+◌, ◌-◌, ◌≤◌, Bool, true, false, ◌&&◌, cond, if◌then◌else◌, nat_lt, List, [], ◌∷◌, Option, Result, Ok, Err, refl, sym, ap, ◌∙◌, arith}
-use Rattle.tag_board.proofs.Uses.{alone_sets_of_all, searchers_of_all, Hand, lt-ltb, le-ltb, ltb-true, ltb-false, Options, Hint, TagFault, NotPosted, Kind, Ordinary, Reserved, Shown, AloneSet, AloneSets, AloneGets, AloneBatch, AloneClears, AloneClearsList, AlonePosts, AloneTakes, AloneListsBusy, AloneShows, AloneDumps, AloneResizes, AreUntouched, is_busy_in, is_aside_in, is_busy_tag, set_left, sets_left, untouched, Searchers, FindsTag, FindsRun, PutsTag, GivesTags, PostsTag, TriesTag, CountsFound, PacksFound, ListsFound, ResizesSets}
+use Rattle.std.proofs.Common.{◌≡◌, ℕ, ◌+◌, ◌-◌, ◌≤◌, Bool, true, false, ◌&&◌, cond, if◌then◌else◌, nat_lt, List, Option, Result, Ok, Err, refl, sym, ap, ◌∙◌, arith}
+use Rattle.tag_board.proofs.Uses.{lt-ltb, le-ltb, ltb-true, ltb-false, Options, Hint, TagFault, NotPosted, Kind, Ordinary, Reserved, Shown, AloneSet, AloneSets, AloneGets, AloneBatch, AloneClears, AloneClearsList, AlonePosts, AloneTakes, AloneListsBusy, AloneShows, AloneDumps, AloneResizes, AreUntouched, is_busy_in, is_aside_in, is_busy_tag, set_left, sets_left, untouched, Searchers, FindsTag, FindsRun, PutsTag, GivesTags, PostsTag, TriesTag, CountsFound, PacksFound, ListsFound, ResizesSets}
 use Rattle.tag_search.specs.Search.{Visit}
 use Rattle.tag_sets.specs.Looks as looks
 use Rattle.tag_board.specs.Searches.{Searcher, Begins, reserved_known, is_found_busy}
@@ -13,11 +13,6 @@ use Rattle.tag_board.proofs.AloneLooks.{looked, seen_busy, seen_aside, counted}
 -- steps that are added so, and all that happened to both sets, change the sets so
 pub record Decides (works : Searchers → Searchers → Type 0) (alters : AloneSets → AloneSets → Type 0) : Type 0 where
   pub sets : (s t : Searchers) → AreOnly t → works s t → alters (sets_left s) (sets_left t)
-
--- both sets of a board, as the steps of its first caller determine them
-pub first_sets : (hands : List (Hand ℕ)) → alone_sets_of_all hands ≡ sets_left (searchers_of_all hands 0)
-first_sets [] = refl
-first_sets (hand ∷ hands) = refl
 
 -- a call that adds no steps leaves both sets unchanged
 pub rests : Decides (λ s t. t ≡ s) (λ v w. w ≡ v)
@@ -132,7 +127,7 @@ begins total reserved options s b = record {
 }
 
 -- a resized set, on which no step was made yet
-pub resizes : (callers total : ℕ) (old new : ℕ → Searchers) → 1 ≤ callers → ResizesSets callers total (Ok tt) old new
-    → AloneResizes total (sets_left (old 0)) (Ok tt) (sets_left (new 0))
+pub resizes : (callers total : ℕ) (old new : ℕ → Searchers) → 1 ≤ callers → ResizesSets callers total old new
+    → AloneResizes total (sets_left (old 0)) (sets_left (new 0))
 resizes callers total old new some c =
     let mine = c 0 (omega arith) in (ap set_left mine.0 ∙ fresh _ refl, ap set_left mine.1)

@@ -5,7 +5,7 @@ use Rattle.std.proofs.lemmas.List.Folds.{list_any-append, Any-from_list_any, lis
 use Rattle.tag_core.proofs.Stand.{bit_tag}
 use Rattle.tag_core.proofs.TagBits.{small_word}
 use Rattle.tag_search.proofs.PlainPools.{give_pool}
-use Rattle.tag_board.specs.Searches.{Gives, give_of}
+use Rattle.tag_board.proofs.Workings.{Gives, give_of}
 use Rattle.tag_board.proofs.Only.{IsOnly, are_within, is_within}
 use Rattle.tag_board.proofs.AloneSteps.{posted_left}
 use Rattle.tag_board.proofs.Holdings.{same_test}

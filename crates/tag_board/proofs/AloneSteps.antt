@@ -9,7 +9,8 @@ use Rattle.tag_search.specs.Batch.{batch_words}
 use Rattle.tag_search.specs.Hints.{reduced}
 use Rattle.tag_search.proofs.AloneFacts.{EachFound, found_quiet, left_after}
 use Rattle.tag_search.proofs.PlainPools.{put_pool}
-use Rattle.tag_board.specs.Searches.{Searches, SearchesRun, Puts, Makes}
+use Rattle.tag_board.specs.Searches.{Makes}
+use Rattle.tag_board.proofs.Workings.{Searches, SearchesRun, Puts}
 use Rattle.tag_board.proofs.Only.{IsOnly}
 
 or_true : (a : Bool) → (a || true) ≡ true

@@ -1,6 +1,6 @@
 -- What each call but a get does to the hand that makes it.
 use Rattle.std.proofs.Common.{◌≡◌, ℕ, ◌+◌, ◌-◌, nat_eq, true, false, List, length, Bool, None, is_some, Ok, Err, inl, inr, sym, ap, ◌∙◌, subst, arith}
-use Rattle.tag_board.proofs.Uses.{length-map, TagFault, Hand, Kind, Ordinary, Reserved, Shown, Tags, IsHandOf, number_of, split_of, reserved_of, layout_of, standing_of, hint_of, wait_index_of, HoldsSame, kind_of, number_in_set, Left, part_of, searcher_of, waiter_of, joined, parted, cleared, standing, is_in_list, Waiter, GrantsFor, GrantsForTag, terms_of, agent_of, other_kind, Enters, Leaves, Caller, record_of, PutsTag, GivesTags, PostsTag, TriesTag, CountsFound, PacksFound, ListsFound}
+use Rattle.tag_board.proofs.Uses.{length-map, TagFault, Hand, Kind, Ordinary, Reserved, Shown, Tags, IsHandOf, number_of, split_of, reserved_of, layout_of, standing_of, hint_of, wait_index_of, HoldsSame, kind_of, number_in_set, Left, part_of, searcher_of, waiter_of, joined, parted, cleared, standing, is_in_list, Waiter, GrantsFor, GrantsForTag, terms_of, agent_of, other_kind, Enters, Leaves, Caller, record_of, PutsTag, GivesTags, PostsTag, TriesTag, CountsFound, PacksFound, ListsFound, AsBefore, as_before}
 use Rattle.std.specs.Prelude.{Contains}
 use Rattle.tag_queue.specs.Agents as queue
 use Rattle.tag_sets.specs.Batches as batches
@@ -18,7 +18,7 @@ use Rattle.tag_board.proofs.Handfuls.{PartTallies, part_tallies, part_left, part
 use Rattle.tag_board.proofs.Waiters.{clear_grants, list_grants}
 use Rattle.tag_board.proofs.Naming.{names_one, names_list}
 use Rattle.tag_board.proofs.Searching.{rests_known, clear_there, list_there, post_there, take_there, miss_there, show_there, dump_there, busy_there}
-use Rattle.tag_board.proofs.Effects.{Effect, AnyChange, AsBefore, as_before, stands_there, counts_won, looked}
+use Rattle.tag_board.proofs.Effects.{Effect, AnyChange, stands_there, counts_won, looked}
 
 module _ (tags : Tags ℕ) (old new : Hand ℕ) (own : IsHandOf tags old) where
   pub clear_does : (callers tag woken : ℕ) → clears.Clears tags tag old new

@@ -1,6 +1,6 @@
 -- The state after a resize, and why a resize is refused.
 use Rattle.std.proofs.Common.{◌≡◌, ◌≢◌, ℕ, zero, suc, ◌+◌, ◌<◌, ◌≤◌, true, false, List, [], ◌∷◌, length, map, get_or, replicate, All, is_some, refl, sym, ap, ◌∙◌, arith, ⊎_elim}
-use Rattle.tag_board.proofs.Uses.{cases_lt, length-map, get_or-map, get_or_past, some, some-injective, get_elem?, at_map, HasAll, word_bits, words, Record, sum_of, size_of, entry, entry_or, all_at, Hint, Queue, Hand, Kind, Ordinary, Reserved, Tags, IsHandOf, layout_of, queue_of, total_of, number_of, hands_of, numbers_of, reserved_part, ordinary_part, BalanceInBoth, HasMap, record_in, holds, part_of, state_of_all, waiter_of, waiters_of_all, newcomer, AreOrdered, NobodyHolds, Part, idle, reserved_of}
+use Rattle.tag_board.proofs.Uses.{cases_lt, length-map, get_or-map, get_or_past, some, some-injective, get_elem?, at_map, HasAll, word_bits, words, Record, sum_of, size_of, entry, entry_or, all_at, Hint, Queue, Hand, Kind, Ordinary, Reserved, Tags, IsHandOf, layout_of, queue_of, total_of, number_of, hands_of, numbers_of, reserved_part, ordinary_part, BalanceInBoth, HasMap, record_in, holds, part_of, state_of_all, waiter_of, newcomer, AreOrdered, NobodyHolds, Part, idle, reserved_of}
 use Rattle.tag_sets.specs.Hands.{least_of}
 use Rattle.tag_core.specs.Reopening.{reopened_record}
 use Rattle.step_ledger.proofs.Seats.{within}
@@ -35,103 +35,98 @@ module _ {A : Type 0} where
   all_none f (x ∷ xs) none zero d low = omega arith
   all_none f (x ∷ xs) none (suc k) d low = all_none f xs (omega arith) k d (omega arith)
 
-module _ {R : Type 0} where
-  -- hands of which the same is seen one by one look the same to each caller
-  pub same_seen : {B : Type 0} (seen : Hand R → B) (none : B) (old new : List (Hand R)) → length new ≡ length old
-      → ((n : ℕ) (a b : Hand R) → get_elem? old n ≡ some a → get_elem? new n ≡ some b → seen b ≡ seen a)
-      → (caller : ℕ) → get_or (map seen new) caller none ≡ get_or (map seen old) caller none
-  same_seen seen none old new long each caller = ⊎_elim
-      (λ (low : caller < length old).
-      let a = entry old caller low in let b = entry new caller (omega arith) in
-      get_or-map seen new caller b.0 none (omega arith)
-      ∙ each caller (get_or old caller a.0) (get_or new caller b.0)
-      (entry_or old caller a.0 low) (entry_or new caller b.0 (omega arith))
-      ∙ sym (get_or-map seen old caller a.0 none low))
-      (λ (high : length old ≤ caller).
-      get_or_past (map seen new) caller none (let z = length-map new seen in omega arith)
-      ∙ sym (get_or_past (map seen old) caller none (let z = length-map old seen in omega arith)))
-      (cases_lt caller (length old))
+-- hands of which the same is seen one by one look the same to each caller
+pub same_seen : {B : Type 0} (seen : Hand ℕ → B) (none : B) (old new : List (Hand ℕ)) → length new ≡ length old
+    → ((n : ℕ) (a b : Hand ℕ) → get_elem? old n ≡ some a → get_elem? new n ≡ some b → seen b ≡ seen a)
+    → (caller : ℕ) → get_or (map seen new) caller none ≡ get_or (map seen old) caller none
+same_seen seen none old new long each caller = ⊎_elim
+    (λ (low : caller < length old).
+    let a = entry old caller low in let b = entry new caller (omega arith) in
+    get_or-map seen new caller b.0 none (omega arith)
+    ∙ each caller (get_or old caller a.0) (get_or new caller b.0)
+    (entry_or old caller a.0 low) (entry_or new caller b.0 (omega arith))
+    ∙ sym (get_or-map seen old caller a.0 none low))
+    (λ (high : length old ≤ caller).
+    get_or_past (map seen new) caller none (let z = length-map new seen in omega arith)
+    ∙ sym (get_or_past (map seen old) caller none (let z = length-map old seen in omega arith)))
+    (cases_lt caller (length old))
 
-  -- hands that count and wait as before leave each caller as it waits and wakes others
-  same_waiters : (old new : List (Hand R)) → length new ≡ length old
-      → ((n : ℕ) (a b : Hand R) → get_elem? old n ≡ some a → get_elem? new n ≡ some b
-      → queue.SameCounts a.ordinary b.ordinary) → waiters_of_all new ≡ waiters_of_all old
-  same_waiters old new long each = λ j. λ caller.
-      same_seen waiter_of newcomer old new long (λ n a b p q. as_it_was a b (each n a b p q)) caller j
+-- the most tags of a set that a caller may win
+abbrev life_of : Tags ℕ → Kind → ℕ
+life_of tags kind = (queue.shape_of (queue_of tags kind)).life
 
-  -- the most tags of a set that a caller may win
-  abbrev life_of : Tags R → Kind → ℕ
-  life_of tags kind = (queue.shape_of (queue_of tags kind)).life
+-- tags on the same terms, with such hands, make up the state with this total, but for the steps on both sets
+same_terms : (old new : Tags ℕ) (olds news : List (Hand ℕ)) (total : ℕ) → reserved_of new ≡ reserved_of old
+    → length news ≡ length olds → ((kind : Kind) → life_of new kind ≡ life_of old kind)
+    → queue.cap_of new.ordinary ≡ queue.cap_of old.ordinary → least_of new ≡ least_of old
+    → ((kind : Kind) → word_bits (layout_of new kind) ≡ word_bits (layout_of old kind)) → total_of new ≡ total
+    → ((n : ℕ) (a b : Hand ℕ) → get_elem? olds n ≡ some a → get_elem? news n ≡ some b → part_of b ≡ part_of a)
+    → ((n : ℕ) (a b : Hand ℕ) → get_elem? olds n ≡ some a → get_elem? news n ≡ some b
+    → queue.SameCounts a.ordinary b.ordinary)
+    → state_of_all new news
+    ≡ record (state_of_all old olds) { total = total; searcher = (state_of_all new news).searcher }
+same_terms old new olds news total split long life cap least bits all each counts = λ j. record {
+  terms = record {
+    reserved = split j;
+    callers = long j;
+    life = λ kind. life kind j;
+    cap = cap j;
+    least = least j;
+    bits = λ kind. bits kind j;
+  };
+  total = all j;
+  part = λ caller. same_seen part_of (idle false) olds news long each caller j;
+  waiter = λ caller. same_seen waiter_of newcomer olds news long (λ n a b p q. as_it_was a b (counts n a b p q))
+      caller j;
+  searcher = (state_of_all new news).searcher;
+}
 
-  -- tags on the same terms, with such hands, make up the state with this total
-  same_terms : (old new : Tags R) (olds news : List (Hand R)) (total : ℕ) → reserved_of new ≡ reserved_of old
-      → length news ≡ length olds → ((kind : Kind) → life_of new kind ≡ life_of old kind)
-      → queue.cap_of new.ordinary ≡ queue.cap_of old.ordinary → least_of new ≡ least_of old
-      → ((kind : Kind) → word_bits (layout_of new kind) ≡ word_bits (layout_of old kind)) → total_of new ≡ total
-      → ((n : ℕ) (a b : Hand R) → get_elem? olds n ≡ some a → get_elem? news n ≡ some b → part_of b ≡ part_of a)
-      → state_of_all new news ≡ record (state_of_all old olds) { total = total }
-  same_terms old new olds news total split long life cap least bits all each = λ j. record {
-    terms = record {
-      reserved = split j;
-      callers = long j;
-      life = λ kind. life kind j;
-      cap = cap j;
-      least = least j;
-      bits = λ kind. bits kind j;
-    };
-    total = all j;
-    part = λ caller. same_seen part_of (idle false) olds news long each caller j;
-  }
+-- hands with the same numbers as before are as many, and in the same order
+count_kept : (old new : List (Hand ℕ)) → numbers_of new ≡ numbers_of old → length new ≡ length old
+count_kept old new same =
+    sym (length-map new number_of) ∙ ap (λ (ns : List ℕ). length ns) same ∙ length-map old number_of
 
-  -- hands with the same numbers as before are as many, and in the same order
-  count_kept : (old new : List (Hand R)) → numbers_of new ≡ numbers_of old → length new ≡ length old
-  count_kept old new same =
-      sym (length-map new number_of) ∙ ap (λ (ns : List ℕ). length ns) same ∙ length-map old number_of
+pub order_kept : (old new : List (Hand ℕ)) → numbers_of new ≡ numbers_of old → AreOrdered old → AreOrdered new
+order_kept old new same ordered n low = let long = count_kept old new same in
+    ap (λ (ns : List ℕ). get_or ns n 0) same ∙ ordered n (omega arith)
 
-  pub order_kept : (old new : List (Hand R)) → numbers_of new ≡ numbers_of old → AreOrdered old → AreOrdered new
-  order_kept old new same ordered n low = let long = count_kept old new same in
-      ap (λ (ns : List ℕ). get_or ns n 0) same ∙ ordered n (omega arith)
+-- a hand that counts what another counts has the same part
+part_kept : (a b : Hand ℕ) → ((tag : ℕ) → holds b tag ≡ holds a tag)
+    → ((kind : Kind) → ((record_in b kind).won ≡ (record_in a kind).won) × ((record_in b kind).back ≡ (record_in a kind).back))
+    → queue.waiter_of b.ordinary ≡ queue.waiter_of a.ordinary → queue.hint_of b.ordinary ≡ queue.hint_of a.ordinary
+    → part_of b ≡ part_of a
+part_kept a b held counts waiter hint = part_ext (part_of b) (part_of a) held (λ kind. (counts kind).0)
+    (λ j. (counts Ordinary).1 j + (counts Reserved).1 j) (ap (λ (w : Waiter). is_some w.standing) waiter)
+    (ap (λ (h : Hint). h.round_robin) hint)
 
-  -- a hand that counts what another counts has the same part
-  part_kept : (a b : Hand R) → ((tag : ℕ) → holds b tag ≡ holds a tag)
-      → ((kind : Kind) → ((record_in b kind).won ≡ (record_in a kind).won) × ((record_in b kind).back ≡ (record_in a kind).back))
-      → queue.waiter_of b.ordinary ≡ queue.waiter_of a.ordinary → queue.hint_of b.ordinary ≡ queue.hint_of a.ordinary
-      → part_of b ≡ part_of a
-  part_kept a b held counts waiter hint = part_ext (part_of b) (part_of a) held (λ kind. (counts kind).0)
-      (λ j. (counts Ordinary).1 j + (counts Reserved).1 j) (ap (λ (w : Waiter). is_some w.standing) waiter)
-      (ap (λ (h : Hint). h.round_robin) hint)
+-- an unchanged hand has the same part
+same_part : (a b : Hand ℕ) → IsUnchanged a b → part_of b ≡ part_of a
+same_part a b u = let same = (u.sets Ordinary).same_else in part_kept a b (holds_same a b u.same)
+    (λ kind. let known = (u.sets kind).caller.known in (ap (λ (r : Record ℕ). r.won) known, ap (λ (r : Record ℕ). r.back) known))
+    same.1.1 same.0
 
-  -- an unchanged hand has the same part
-  same_part : (a b : Hand R) → IsUnchanged a b → part_of b ≡ part_of a
-  same_part a b u = let same = (u.sets Ordinary).same_else in part_kept a b (holds_same a b u.same)
-      (λ kind. let known = (u.sets kind).caller.known in (ap (λ (r : Record R). r.won) known, ap (λ (r : Record R). r.back) known))
-      same.1.1 same.0
+module _ (old new : Tags ℕ) (olds news : List (Hand ℕ)) (same : sets.AreSame old new)
+    (kept : sets.AreUnchanged olds news) where
+  -- the total is unchanged
+  pub total_kept : total_of new ≡ total_of old
+  total_kept = λ j. same.split j + (queue.layout_of (same.ordinary j)).depth
 
-  module _ (old new : Tags R) (olds news : List (Hand R)) (same : sets.AreSame old new)
-      (kept : sets.AreUnchanged olds news) where
-    -- the total is unchanged
-    pub total_kept : total_of new ≡ total_of old
-    total_kept = λ j. same.split j + (queue.layout_of (same.ordinary j)).depth
+  -- unchanged hands make up the same state, but for the steps on both sets
+  pub world_kept : state_of_all new news ≡ record (state_of_all old olds) { searcher = (state_of_all new news).searcher }
+  world_kept = same_terms old new olds news (total_of old) same.split kept.count (elim [
+    | Ordinary ↦ ap (λ (q : Queue ℕ). (queue.shape_of q).life) same.ordinary
+    | Reserved ↦ ap (λ (q : Queue ℕ). (queue.shape_of q).life) same.reserved
+  ]) (ap queue.cap_of same.ordinary) (ap queue.least_of same.ordinary) (elim [
+    | Ordinary ↦ ap (λ (q : Queue ℕ). word_bits (queue.layout_of q)) same.ordinary
+    | Reserved ↦ ap (λ (q : Queue ℕ). word_bits (queue.layout_of q)) same.reserved
+  ]) total_kept (λ n a b p q. same_part a b (kept.each n a b p q))
+      (λ n a b p q. ((kept.each n a b p q).sets Ordinary).same_else.1)
 
-    -- unchanged hands make up the same state
-    pub world_kept : state_of_all new news ≡ state_of_all old olds
-    world_kept = same_terms old new olds news (total_of old) same.split kept.count (elim [
-      | Ordinary ↦ ap (λ (q : Queue R). (queue.shape_of q).life) same.ordinary
-      | Reserved ↦ ap (λ (q : Queue R). (queue.shape_of q).life) same.reserved
-    ]) (ap queue.cap_of same.ordinary) (ap queue.least_of same.ordinary) (elim [
-      | Ordinary ↦ ap (λ (q : Queue R). word_bits (queue.layout_of q)) same.ordinary
-      | Reserved ↦ ap (λ (q : Queue R). word_bits (queue.layout_of q)) same.reserved
-    ]) total_kept (λ n a b p q. same_part a b (kept.each n a b p q))
-
-    -- unchanged hands leave each caller as it waits and wakes others
-    pub waiters_kept : waiters_of_all news ≡ waiters_of_all olds
-    waiters_kept = same_waiters olds news kept.count (λ n a b p q. ((kept.each n a b p q).sets Ordinary).same_else.1)
-
-    -- the hands keep their numbers
-    pub numbers_kept : numbers_of news ≡ numbers_of olds
-    numbers_kept = sym (ordinary_numbers news)
-        ∙ unchanged-numbers (map ordinary_part olds) (map ordinary_part news) (ordinary_unchanged olds news kept)
-        ∙ ordinary_numbers olds
+  -- the hands keep their numbers
+  pub numbers_kept : numbers_of news ≡ numbers_of olds
+  numbers_kept = sym (ordinary_numbers news)
+      ∙ unchanged-numbers (map ordinary_part olds) (map ordinary_part news) (ordinary_unchanged olds news kept)
+      ∙ ordinary_numbers olds
 
 -- two lists that a function maps to the same list have equal images at each index
 pub same_at : {A B : Type 0} (f : A → B) (xs ys : List A) (n : ℕ) (x y : A) → map f ys ≡ map f xs
@@ -140,8 +135,8 @@ same_at {A} {B} f xs ys n x y same p q = some-injective (f y) (f x)
     (sym (at_map f ys n y q) ∙ ap (λ (l : List B). get_elem? l n) same ∙ at_map f xs n x p)
 
 -- no caller holds a tag if no hand does
-nobody_holds : {R : Type 0} (tags : Tags R) (hands : List (Hand R))
-    → ((n : ℕ) (hand : Hand R) → get_elem? hands n ≡ some hand → (tag : ℕ) → holds hand tag ≡ false)
+nobody_holds : (tags : Tags ℕ) (hands : List (Hand ℕ))
+    → ((n : ℕ) (hand : Hand ℕ) → get_elem? hands n ≡ some hand → (tag : ℕ) → holds hand tag ≡ false)
     → NobodyHolds (state_of_all tags hands) (λ tag. true)
 nobody_holds tags hands none caller tag named = ⊎_elim
     (λ (low : caller < length hands). let hand = entry hands caller low in
@@ -154,15 +149,15 @@ nobody_holds tags hands none caller tag named = ⊎_elim
 
 -- a hand that continues: its ordinary agent starts anew and keeps its hint, its completions and its waits, and its
 -- reserved agent is unchanged
-pub record GoesOn {R : Type 0} (new : Tags R) (a b : Hand R) : Type 0 where
+pub record GoesOn (new : Tags ℕ) (a b : Hand ℕ) : Type 0 where
   pub known : record_in b Ordinary ≡ reopened_record (queue.shape_of new.ordinary) (record_in a Ordinary)
   pub other : queue.IsUnchanged a.reserved b.reserved
   pub hint : queue.hint_of b.ordinary ≡ queue.hint_of a.ordinary
   pub counts : queue.SameCounts a.ordinary b.ordinary
 
-module _ {R : Type 0} (old new : Tags R) (olds news : List (Hand R)) (total : ℕ)
+module _ (old new : Tags ℕ) (olds news : List (Hand ℕ)) (total : ℕ)
     (is : sets.IsResized old olds total new news) where
-  pub goes_on : (n : ℕ) (a b : Hand R) → get_elem? olds n ≡ some a → get_elem? news n ≡ some b → GoesOn new a b
+  pub goes_on : (n : ℕ) (a b : Hand ℕ) → get_elem? olds n ≡ some a → get_elem? news n ≡ some b → GoesOn new a b
   goes_on n a b p q =
       let before = map ordinary_part olds in let after = map ordinary_part news in
       let here = at_map ordinary_part olds n a p in let there = at_map ordinary_part news n b q in record {
@@ -181,43 +176,40 @@ module _ {R : Type 0} (old new : Tags R) (olds news : List (Hand R)) (total : �
   pub long : length news ≡ length olds
   long = count_kept olds news is.numbers
 
-  -- each caller waits and wakes others as before
-  pub waiters_resized : waiters_of_all news ≡ waiters_of_all olds
-  waiters_resized = same_waiters olds news long (λ n a b p q. (goes_on n a b p q).counts)
-
   module _ (unused : sets.held_in_both olds ≡ 0) where
     -- a hand that continues held nothing, and holds nothing
-    free_there : (n : ℕ) (a b : Hand R) → get_elem? olds n ≡ some a → get_elem? news n ≡ some b → (tag : ℕ)
+    free_there : (n : ℕ) (a b : Hand ℕ) → get_elem? olds n ≡ some a → get_elem? news n ≡ some b → (tag : ℕ)
         → (holds a tag ≡ false) × (holds b tag ≡ false)
     free_there n a b p q tag =
         let g = goes_on n a b p q in
         let empty : size_of (record_in a Ordinary).held + size_of (record_in a Reserved).held ≡ 0 =
-        all_at (λ (h : Hand R). size_of (record_in h Ordinary).held + size_of (record_in h Reserved).held ≡ 0) olds
-        (all_none (λ (h : Hand R). size_of (record_in h Ordinary).held + size_of (record_in h Reserved).held) olds
+        all_at (λ (h : Hand ℕ). size_of (record_in h Ordinary).held + size_of (record_in h Reserved).held ≡ 0) olds
+        (all_none (λ (h : Hand ℕ). size_of (record_in h Ordinary).held + size_of (record_in h Reserved).held) olds
         (both_sets (λ r. size_of r.held) olds ∙ unused)) n a p in (
           holds_none a (omega arith) (omega arith) tag,
           holds_none b
-              (ap (λ (r : Record R). size_of r.held) g.known ∙ size_none (words (queue.layout_of new.ordinary)))
-              (ap (λ (r : Record R). size_of r.held) g.other.caller.known ∙ omega arith) tag,
+              (ap (λ (r : Record ℕ). size_of r.held) g.known ∙ size_none (words (queue.layout_of new.ordinary)))
+              (ap (λ (r : Record ℕ). size_of r.held) g.other.caller.known ∙ omega arith) tag,
         )
 
-    part_there : (n : ℕ) (a b : Hand R) → get_elem? olds n ≡ some a → get_elem? news n ≡ some b → part_of b ≡ part_of a
+    part_there : (n : ℕ) (a b : Hand ℕ) → get_elem? olds n ≡ some a → get_elem? news n ≡ some b → part_of b ≡ part_of a
     part_there n a b p q =
         let g = goes_on n a b p q in let other = g.other.caller.known in
         part_kept a b (λ tag. let free = free_there n a b p q tag in free.1 ∙ sym free.0) (elim [
-          | Ordinary ↦ (ap (λ (r : Record R). r.won) g.known, ap (λ (r : Record R). r.back) g.known)
-          | Reserved ↦ (ap (λ (r : Record R). r.won) other, ap (λ (r : Record R). r.back) other)
+          | Ordinary ↦ (ap (λ (r : Record ℕ). r.won) g.known, ap (λ (r : Record ℕ). r.back) g.known)
+          | Reserved ↦ (ap (λ (r : Record ℕ). r.won) other, ap (λ (r : Record ℕ). r.back) other)
         ]) g.counts.1 g.hint
 
-    -- only the total of the state changes
-    pub world_resized : state_of_all new news ≡ record (state_of_all old olds) { total = total }
+    -- only the total of the state changes, and the steps on both sets
+    pub world_resized : state_of_all new news
+        ≡ record (state_of_all old olds) { total = total; searcher = (state_of_all new news).searcher }
     world_resized = same_terms old new olds news total is.split long (elim [
       | Ordinary ↦ is.ordinary.callers.next.life_is
-      | Reserved ↦ ap (λ (q : Queue R). (queue.shape_of q).life) is.reserved
+      | Reserved ↦ ap (λ (q : Queue ℕ). (queue.shape_of q).life) is.reserved
     ]) (ap (λ (l : Limits). l.cap) is.ordinary.rest.book.limits) is.ordinary.rest.least (elim [
       | Ordinary ↦ ap word_bits is.ordinary.callers.next.layout_is
-      | Reserved ↦ ap (λ (q : Queue R). word_bits (queue.layout_of q)) is.reserved
-    ]) is.total_is part_there
+      | Reserved ↦ ap (λ (q : Queue ℕ). word_bits (queue.layout_of q)) is.reserved
+    ]) is.total_is part_there (λ n a b p q. (goes_on n a b p q).counts)
 
     -- no caller holds a tag
     pub world_free : NobodyHolds (state_of_all new news) (λ tag. true)
@@ -229,7 +221,7 @@ module _ {R : Type 0} (old new : Tags R) (olds news : List (Hand R)) (total : �
   pub every_there : length olds ≡ hands_of old → length news ≡ hands_of new
   every_there all = long ∙ all ∙ sym is.ordinary.callers.next.callers_is
 
-module _ {R : Type 0} (tags : Tags R) (hands : List (Hand R)) (own : All (IsHandOf tags) hands) where
+module _ (tags : Tags ℕ) (hands : List (Hand ℕ)) (own : All (IsHandOf tags) hands) where
   -- no tag is in use if the hands have none in use
   unused : sets.AreUnused hands → AreUnused (state_of_all tags hands)
   unused none = let sums = add_up tags hands own in

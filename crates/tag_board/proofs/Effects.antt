@@ -1,6 +1,6 @@
 -- What a call does to the hand that makes it.
 use Rattle.std.proofs.Common.{◌≡◌, ℕ, ◌<◌, List, ap, subst, arith}
-use Rattle.tag_board.proofs.Uses.{Layout, Hand, Kind, Ordinary, Reserved, Tags, number_of, agent_of, reserved_of, kind_of, other_kind, reserved_below, searchers_in, part_of, waiter_of, Part, Waiter, Searchers}
+use Rattle.tag_board.proofs.Uses.{Layout, Hand, Kind, Ordinary, Reserved, Tags, number_of, agent_of, reserved_of, kind_of, other_kind, reserved_below, searchers_in, part_of, waiter_of, as_before, AsBefore, Part, Waiter, Searchers}
 use Rattle.tag_queue.specs.Agents as queue
 use Rattle.tag_sets.specs.Clears as clears
 use Rattle.tag_sets.specs.Shows as shows
@@ -21,13 +21,6 @@ pub record Effect (change : Part → Part) (waits : Waiter → Waiter → Type 0
 -- any change
 abbrev pub AnyChange : {A : Type 0} → A → A → Type 0
 AnyChange old new = Unit {0}
-
--- it is unchanged
-abbrev pub AsBefore : {A : Type 0} → A → A → Type 0
-AsBefore old new = new ≡ old
-
-abbrev pub as_before : Part → Part
-as_before p = p
 
 module _ (tags : Tags ℕ) (old new : Hand ℕ) where
   -- an agent that only counted is in the same wait group as before

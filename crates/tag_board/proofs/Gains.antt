@@ -1,6 +1,6 @@
 -- What each get does to the hand that makes it.
 use Rattle.std.proofs.Common.{◌≡◌, ℕ, [], ◌+◌, true, false, List, Bool, Option, Some, None, Result, Ok, Err, IfOk, inl, ⊎_elim, refl, sym, ap, ◌∙◌, subst, arith}
-use Rattle.tag_board.proofs.Uses.{cases_Bool, Found, Layout, or_false, count_of, count_of_run, Visit, TagFault, Hand, Kind, Ordinary, Reserved, Tags, IsHandOf, number_of, agent_of, reserved_of, layout_of, hint_of, HoldsMore, other_kind, searcher_of, holds, part_of, searchers_in, state_of_all, waiter_of, IsOf, Searcher, Searchers, FindsTag, FindsRun, plainly, shallowly, won, is_answer, is_in_run}
+use Rattle.tag_board.proofs.Uses.{cases_Bool, Found, Layout, or_false, count_of, count_of_run, Visit, TagFault, Hand, Kind, Ordinary, Reserved, Tags, IsHandOf, number_of, agent_of, reserved_of, layout_of, hint_of, HoldsMore, other_kind, searcher_of, holds, part_of, searchers_in, state_of_all, waiter_of, IsOf, Searcher, Searchers, FindsTag, FindsRun, plainly, shallowly, won, is_answer, is_in_run, AsBefore}
 use Rattle.tag_search.specs.Hints.{reduced}
 use Rattle.tag_search.specs.Visits.{plain_visits, shallow_visits}
 use Rattle.tag_queue.specs.Agents as queue
@@ -12,7 +12,7 @@ use Rattle.tag_board.proofs.Holdings.{Names, holds_more}
 use Rattle.tag_board.proofs.Tallies as tallies
 use Rattle.tag_board.proofs.Handfuls.{part_ext, part_won, none_more}
 use Rattle.tag_board.proofs.Naming.{names_answer, names_run}
-use Rattle.tag_board.proofs.Effects.{Effect, AsBefore, counts_won}
+use Rattle.tag_board.proofs.Effects.{Effect, counts_won}
 use Rattle.tag_board.proofs.Searching.{searches_there, batch_there}
 use Rattle.tag_board.specs.Searches.{first_of, reserved_known}
 

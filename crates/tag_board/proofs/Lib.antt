@@ -1,3 +1,4 @@
+mod Workings
 mod Uses
 mod Holdings
 mod Tallies

@@ -24,13 +24,13 @@ few_shown l found (suc n) =
     let before = few_shown l found n in let pair = word_in found (word_of l n) in
     let one = not_both (nat_eq (bit_at pair.0 (place_of l n)) 1) (bit_at pair.1 (place_of l n)) in omega arith
 
-module _ {R : Type 0} (tags : Tags R) (hands : List (Hand R)) where
+module _ (tags : Tags ℕ) (hands : List (Hand ℕ)) where
   -- the number of tags of a set
   pub depth_is : (kind : Kind) → (layout_of tags kind).depth ≡ depth_of (state_of_all tags hands) kind
   depth_is Ordinary = omega arith
   depth_is Reserved = tags.reserved_is
 
-  module _ (old new : Hand R) where
+  module _ (old new : Hand ℕ) where
     -- each bit past the last tag is 0
     pub busy_there : (bits : List ℕ) (count tag : ℕ) → busy.ListsBusy tags bits count old new → total_of tags ≤ tag
         → tag < 64 * length bits

@@ -1,6 +1,6 @@
 -- Why a take is refused.
-use Rattle.std.proofs.Common.{◌≡◌, ℕ, ◌<◌, ◌≤◌, ◌⊎◌, inl, inr, ⊎_elim, Result, Ok, Err, OnOk, IfErr, IsErr, sym, ap, subst}
-use Rattle.tag_board.proofs.Uses.{cases_lt, TagFault, NoSuchTag, NotPosted, Hand, Tags, number_of, IsHandOf, Takes, State}
+use Rattle.std.proofs.Common.{◌≡◌, ℕ, ◌<◌, ◌≤◌, ⊎_elim, Result, Ok, Err, OnOk, IfErr, IsErr, ap}
+use Rattle.tag_board.proofs.Uses.{cases_lt, TagFault, NoSuchTag, NotPosted, Hand, Tags, number_of, IsHandOf}
 use Rattle.tag_sets.specs.Slots as slots
 use Rattle.tag_board.proofs.Calls.{take_does, refused_does}
 
@@ -10,26 +10,11 @@ module _ (tags : Tags ℕ) (old new : Hand ℕ) (tag : ℕ) where
   take_number own (Ok a) takes refuses = (take_does tags old new own tag takes).number
   take_number own (Err fault) takes refuses = (refused_does tags old new own tag fault refuses).number
 
-  -- a take is refused for a tag out of range, or for one that is not posted
-  pub cause_of_take : (total : ℕ) (fault : TagFault) → (fault ≡ NoSuchTag → total ≤ tag)
-      → (total ≤ tag → fault ≡ NoSuchTag)
-      → slots.RefusesTake tag fault old new → ((fault ≡ NoSuchTag) × (total ≤ tag))
-      ⊎ ((fault ≡ NotPosted) × (tag < total))
-  cause_of_take total fault there back (inl none) = inl (none.0, there none.0)
-  cause_of_take total fault there back (inr missed) = inr (
-    missed.0,
-    ⊎_elim (λ (low : tag < total). low)
-        (λ (high : total ≤ tag). let none = back high in let posted = missed.0 in absurd (cc)) (cases_lt tag total),
-  )
-
--- so the answer is a lawful refusal of a take
-pub refused_take : (tag caller : ℕ) (fault : TagFault) (s t : State) → t ≡ s
-    → ((fault ≡ NoSuchTag) × (s.total ≤ tag)) ⊎ ((fault ≡ NotPosted) × (tag < s.total))
-    → Takes tag caller s (Err fault) t
-refused_take tag caller fault s t same (inl none) =
-    subst (λ (x : TagFault). Takes tag caller s (Err x) t) (sym none.0) (none.1, same)
-refused_take tag caller fault s t same (inr missed) =
-    subst (λ (x : TagFault). Takes tag caller s (Err x) t) (sym missed.0) (missed.1, same)
+-- a tag that is not posted is in range, since the fault of any other is another one
+pub within_total : (total tag : ℕ) (fault : TagFault) → (total ≤ tag → fault ≡ NoSuchTag) → fault ≡ NotPosted
+    → tag < total
+within_total total tag fault past posted = ⊎_elim (λ (low : tag < total). low)
+    (λ (high : total ≤ tag). let none = past high in absurd (cc)) (cases_lt tag total)
 
 -- a result that is this fault
 pub err_is : {A : Type 0} (r : Result A TagFault) (fault : TagFault) → IsErr r → IfErr r (λ f. f ≡ fault) → r ≡ Err fault

@@ -19,7 +19,8 @@ use Rattle.tag_sets.specs.Looks.{looks_from, MakesLooks, is_busy_in}
 use Rattle.tag_sets.specs.Shows as shows
 use Rattle.tag_sets.specs.Slots as slots
 use Rattle.tag_board.specs.Parts.{searcher_of, searchers_in}
-use Rattle.tag_board.specs.Searches.{Searcher, reserved_known, ChangesOne, ChangesOneOf, Makes, Searches, SearchesRun, FindsRun, Puts, Gives, give_of, PutsTag, GivesTags, PostsTag, TriesTag, LooksAt, CountsFound, PacksFound, ListsFound}
+use Rattle.tag_board.specs.Searches.{Searcher, reserved_known, ChangesOne, ChangesOneOf, Makes, TriesTag, LooksAt, CountsFound, PacksFound, ListsFound}
+use Rattle.tag_board.proofs.Workings.{Searches, SearchesRun, FindsRun, Puts, Gives, give_of, PutsTag, GivesTags, PostsTag}
 use Rattle.tag_board.proofs.Only.{layout_there, split_there}
 
 -- the steps of a record after gives of these runs

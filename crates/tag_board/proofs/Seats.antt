@@ -1,63 +1,62 @@
 -- The state of a board after a call on one hand.
-use Rattle.std.proofs.Common.{◌≡◌, ◌≢◌, ◌↔◌, ℕ, ◌<◌, None, IsSome, List, length, map, get_or, set, refl, sym, ap, ◌∙◌, subst, arith, true, false, is_some, All, get_or-set_other, get_or-set_same, length-set}
-use Rattle.tag_board.proofs.Uses.{dite, ℕ_discrete, map-set, set-get_or, get_or-map, Hand, Kind, Ordinary, Reserved, Tags, Shape, number_of, Holds, standing_of, hint_of, HasRoom, IsHandOf, part_of, record_in, terms_of, state_of_all, AreOrdered, Changes, Moves, Part, State, idle}
+use Rattle.std.proofs.Common.{◌≡◌, ◌≢◌, ◌↔◌, ℕ, ◌<◌, None, IsSome, List, length, map, get_or, set, sym, ap, ◌∙◌, subst, arith, true, false, is_some, All, get_or-set_other, get_or-set_same, length-set}
+use Rattle.tag_board.proofs.Uses.{map-set, set-get_or, get_or-map, Hand, Kind, Ordinary, Reserved, Tags, Shape, number_of, Holds, standing_of, hint_of, HasRoom, IsHandOf, part_of, record_in, state_of_all, AreOrdered, Part, idle}
 use Rattle.tag_board.specs.Searches.{ChangesOne}
 use Rattle.tag_board.proofs.Holdings.{holds_true, true_holds}
 use Rattle.tag_board.proofs.Outcomes.{none_since}
 use Rattle.tag_board.proofs.Verdicts.{Fits}
 
 -- the caller's hand, among all hands
-pub record Sits {R : Type 0} (hands : List (Hand R)) (i : ℕ) (old : Hand R) : Type 0 where
+pub record Sits (hands : List (Hand ℕ)) (i : ℕ) (old : Hand ℕ) : Type 0 where
   pub within : i < length hands
   pub here : old ≡ get_or hands i old
 
-pub sits : {R : Type 0} {hands : List (Hand R)} {i : ℕ} {old : Hand R} → i < length hands → old ≡ get_or hands i old
+pub sits : {hands : List (Hand ℕ)} {i : ℕ} {old : Hand ℕ} → i < length hands → old ≡ get_or hands i old
     → Sits hands i old
 sits within here = record { within = within; here = here }
 
-module _ {R A : Type 0} (view : Hand R → A) (d : A) {hands : List (Hand R)} {i : ℕ} {old : Hand R} (at : Sits hands i old)
+module _ {A : Type 0} (view : Hand ℕ → A) (d : A) {hands : List (Hand ℕ)} {i : ℕ} {old : Hand ℕ} (at : Sits hands i old)
   where
     -- what is seen at the index of a hand is what is seen of the hand
     pub seen_here : get_or (map view hands) i d ≡ view old
     seen_here = get_or-map view hands i old d at.within ∙ ap view (sym at.here)
 
     -- and a call on one hand leaves what is seen of the others
-    pub seen_there : (new : Hand R) (other : ℕ) → other ≢ i
+    pub seen_there : (new : Hand ℕ) (other : ℕ) → other ≢ i
         → get_or (map view (set hands i new)) other d ≡ get_or (map view hands) other d
     seen_there new other ne = ap (λ (vs : List A). get_or vs other d) (map-set view hands i new)
         ∙ get_or-set_other (map view hands) i other (view new) d ne
 
 -- after a call on it, the hand sits where it did before
-pub seat : {R : Type 0} {hands : List (Hand R)} {i : ℕ} {old : Hand R} → Sits hands i old → (new : Hand R)
+pub seat : {hands : List (Hand ℕ)} {i : ℕ} {old : Hand ℕ} → Sits hands i old → (new : Hand ℕ)
     → Sits (set hands i new) i new
-seat {R} {hands} {i} at new = let long = length-set hands i new in let low = at.within in
+seat {hands} {i} at new = let long = length-set hands i new in let low = at.within in
     record { within = omega arith; here = sym (get_or-set_same hands i new new low) }
 
--- what is seen of one caller changed so, and what is seen of any other did not change
-pub moved : {R A : Type 0} (view : Hand R → A) (d : A) {hands : List (Hand R)} {i : ℕ} {old : Hand R}
-    → Sits hands i old → (new : Hand R) → (change : A → A → Type 0) → change (view old) (view new)
+-- what is known of this caller changed so, and what is known of any other did not change
+pub record Moves {A : Type 0} (caller : ℕ) (change : A → A → Type 0) (old new : ℕ → A) : Type 0 where
+  pub own : change (old caller) (new caller)
+  pub others : (other : ℕ) → other ≢ caller → new other ≡ old other
+
+-- so it is of hands of which one changed so
+pub moved : {A : Type 0} (view : Hand ℕ → A) (d : A) {hands : List (Hand ℕ)} {i : ℕ} {old : Hand ℕ}
+    → Sits hands i old → (new : Hand ℕ) → (change : A → A → Type 0) → change (view old) (view new)
     → Moves i change (λ caller. get_or (map view hands) caller d)
     (λ caller. get_or (map view (set hands i new)) caller d)
-moved {R} {A} view d {hands} {i} {old} at new change c = record {
+moved {A} view d {hands} {i} {old} at new change c = record {
   own = subst (λ (a : A). change a (get_or (map view (set hands i new)) i d)) (sym (seen_here view d at))
       (subst (λ (a : A). change (view old) a) (sym (seen_here view d (seat at new))) c);
   others = seen_there view d at new;
 }
 
--- if one caller is as it was, and no other moved, all are as they were
-pub all_rest : {A : Type 0} {i : ℕ} {old new : ℕ → A} → Moves i (λ a b. b ≡ a) old new → new ≡ old
-all_rest {A} {i} {old} {new} m = λ j. λ caller. dite (ℕ_discrete caller i)
-    (λ (e : caller ≡ i). subst (λ (k : ℕ). new k ≡ old k) (sym e) m.own)
-    (λ (ne : caller ≢ i). m.others caller ne) j
-
--- and so is what there is for both sets, if that for one is as it was and that for the other too
+-- what there is for both sets is unchanged, if that for one is as it was and that for the other too
 pub both_same : {A : Type 0} (kind : Kind) {old new : Kind → A} → ChangesOne kind (λ a b. b ≡ a) old new → new ≡ old
 both_same Ordinary {old} {new} c = let each : (k : Kind) → new k ≡ old k = elim [ Ordinary ↦ c.0 | Reserved ↦ c.1 ] in
     λ j. λ k. each k j
 both_same Reserved {old} {new} c = let each : (k : Kind) → new k ≡ old k = elim [ Ordinary ↦ c.1 | Reserved ↦ c.0 ] in
     λ j. λ k. each k j
 
-module _ {R : Type 0} (tags : Tags R) {hands : List (Hand R)} {i : ℕ} {old : Hand R} (at : Sits hands i old) where
+module _ (tags : Tags ℕ) {hands : List (Hand ℕ)} {i : ℕ} {old : Hand ℕ} (at : Sits hands i old) where
   -- a caller's part is that of the hand at its index
   pub part_here : (state_of_all tags hands).part i ≡ part_of old
   part_here = seen_here part_of (idle false) at
@@ -81,14 +80,8 @@ module _ {R : Type 0} (tags : Tags R) {hands : List (Hand R)} {i : ℕ} {old : H
   pub out_here : (standing_of old ≡ None) ↔ (((state_of_all tags hands).part i).stands ≡ false)
   out_here = (λ none. sym stands_here ∙ ap is_some none, λ out. none_since (standing_of old) (stands_here ∙ out))
 
-  -- the hand's part changed so, and the rest of the state is unchanged
-  pub changes : (new : Hand R) (change : Part → Part) → part_of new ≡ change (part_of old)
-      → Changes i change (state_of_all tags hands) (state_of_all tags (set hands i new))
-  changes new change e = let m = moved part_of (idle false) at new (λ p q. q ≡ change p) e in
-      record { terms = ap (terms_of tags) (length-set hands i new); total = refl; own = m.own; others = m.others }
-
   -- the hands are still in the order of their numbers
-  pub ordered : (new : Hand R) → AreOrdered hands → number_of new ≡ number_of old → AreOrdered (set hands i new)
+  pub ordered : (new : Hand ℕ) → AreOrdered hands → number_of new ≡ number_of old → AreOrdered (set hands i new)
   ordered new before same n low =
       let moved : map number_of (set hands i new) ≡ set (map number_of hands) i (number_of new) =
       map-set number_of hands i new in
@@ -99,21 +92,15 @@ module _ {R : Type 0} (tags : Tags R) {hands : List (Hand R)} {i : ℕ} {old : H
       ap (λ (ns : List ℕ). get_or ns n 0) (moved ∙ back) ∙ before n (let l = length-set hands i new in omega arith)
 
   -- an unchanged hand leaves the hands unchanged
-  pub unmoved : {new : Hand R} → new ≡ old → set hands i new ≡ hands
+  pub unmoved : {new : Hand ℕ} → new ≡ old → set hands i new ≡ hands
   unmoved same = ap (set hands i) (same ∙ at.here) ∙ set-get_or hands i old
 
 -- a hand of the list is a hand of these tags
-pub own_here : {R : Type 0} (tags : Tags R) {hands : List (Hand R)} {i : ℕ} {old : Hand R} → Sits hands i old
+pub own_here : (tags : Tags ℕ) {hands : List (Hand ℕ)} {i : ℕ} {old : Hand ℕ} → Sits hands i old
     → All (IsHandOf tags) hands → IsHandOf tags old
 own_here tags {hands} {i} {old} at own = subst (IsHandOf tags) (sym at.here) (own i old at.within)
 
--- a state in which one part was replaced by itself is unchanged
-pub same_state : (old new : State) (i : ℕ) → Changes i (λ (p : Part). p) old new → new ≡ old
-same_state old new i c =
-    let parts : new.part ≡ old.part = all_rest {i = i} (record { own = c.own; others = c.others }) in
-    λ j. record { terms = c.terms j; total = c.total j; part = parts j }
-
-module _ {R : Type 0} (tags : Tags R) {hands : List (Hand R)} {i : ℕ} {old : Hand R} (at : Sits hands i old)
+module _ (tags : Tags ℕ) {hands : List (Hand ℕ)} {i : ℕ} {old : Hand ℕ} (at : Sits hands i old)
     (own : IsHandOf tags old) where
   -- the most tags of a set that the hand may win
   life_here : (kind : Kind) → (record_in old kind).shape.life ≡ (state_of_all tags hands).terms.life kind

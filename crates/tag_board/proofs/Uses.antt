@@ -63,13 +63,14 @@ pub use Rattle.tag_sets.specs.declared.kind.Kind.{Kind}
 pub use Rattle.tag_sets.specs.declared.kind.Kind.TheVariants.{Ordinary, Reserved}
 pub use Rattle.tag_sets.specs.declared.shown.Shown.{Shown}
 pub use Rattle.tag_sets.specs.declared.tags.Tags.{Tags}
-pub use Rattle.tag_board.specs.AloneSets.{AloneBatch, AloneClears, AloneClearsList, AloneDumps, AloneGets, AloneListsBusy, AlonePosts, AloneResizes, AloneSet, AloneSets, AloneShows, AloneTakes, AreUntouched, Chooses, ChoosesRun, Does, give_back, is_aside_in, is_busy_in, is_busy_tag, is_named, plain, post_in, put_back, set_left, sets_left, shallow, take_in, untouched}
-pub use Rattle.tag_board.specs.Boards.{alone_sets_of, searchers_of, state_of, waiters_of}
-pub use Rattle.tag_board.specs.Looks.{depth_of, Dumps, ListsBusy}
-pub use Rattle.tag_board.specs.Parts.{alone_sets_of_all, AreOrdered, has, holds, part_of, record_in, searcher_of, searchers_in, searchers_of_all, state_of_all, terms_of, waiter_of, waiters_of_all}
+pub use Rattle.tag_board.specs.AloneSets.{AloneBatch, AloneClears, AloneClearsList, AloneDumps, AloneGets, AloneListsBusy, AlonePosts, AloneResizes, AloneSet, AloneSets, AloneShows, AloneTakes, AreUntouched, Chooses, ChoosesRun, give_back, is_aside_in, is_busy_in, is_busy_tag, is_named, plain, post_in, put_back, set_left, sets_in, sets_left, shallow, take_in, untouched}
+pub use Rattle.tag_board.specs.Boards.{state_of}
+pub use Rattle.tag_board.specs.Looks.{depth_of, Dumps, ListsBusy, Looks}
+pub use Rattle.tag_board.specs.Parts.{AreOrdered, has, holds, part_of, record_in, searcher_of, searchers_in, state_of_all, terms_of, waiter_of}
 pub use Rattle.tag_board.specs.Refusals.{AreHeldOnce, AreOrdinary, RefusesBatch, RefusesGet, RefusesLeave, RefusesList, RefusesShallow, RefusesTag, RefusesWait}
-pub use Rattle.tag_board.specs.Replays.{Answers, Changes, cleared, HoldsAll, is_answer, is_in_list, is_in_run, IsOf, joined, left, left as parted, NobodyElseHolds, NobodyHolds, standing, Takes, Wins, won, won_more}
-pub use Rattle.tag_board.specs.Searches.{CountsFound, FindsRun, FindsTag, GivesTags, ListsFound, nobody, PacksFound, plainly, PostsTag, PutsTag, ResizesSets, Searcher, Searchers, shallowly, TriesTag}
-pub use Rattle.tag_board.specs.States.{back_in, got_in, idle, Part, posted_in, standing_in, State}
-pub use Rattle.tag_board.specs.Wakeups.{Enters, Finds, GrantsFor, GrantsForTag, Leaves, Moves, MovesIf, newcomer, Starts, Waiter}
+pub use Rattle.tag_board.specs.Replays.{Answers, as_before, AsBefore, Changes, cleared, HoldsAll, is_answer, is_in_list, is_in_run, IsOf, joined, left, left as parted, NobodyElseHolds, NobodyHolds, standing, Takes, Wins, won, won_more}
+pub use Rattle.tag_board.specs.Searches.{CountsFound, ListsFound, nobody, PacksFound, ResizesSets, Searcher, Searchers, TriesTag}
+pub use Rattle.tag_board.specs.States.{back_in, got_in, idle, newcomer, Part, posted_in, standing_in, State, Waiter}
+pub use Rattle.tag_board.specs.Wakeups.{Enters, Finds, GrantsFor, GrantsForTag, Leaves, Starts}
 pub use Rattle.tag_board.specs.declared.board.Board.{Board}
+pub use Rattle.tag_board.proofs.Workings.{FindsRun, FindsTag, Gives, give_of, GivesTags, plainly, PostsTag, Puts, PutsTag, Searches, SearchesRun, shallowly}

@@ -14,7 +14,6 @@ use Rattle.tag_search.specs.Search.{Visit}
 use Rattle.tag_search.specs.Visits.{plain_visits, shallow_visits}
 use Rattle.tag_sets.specs.declared.fault.TagFault.{TagFault}
 use Rattle.tag_queue.specs.declared.queue.Options.{Options}
-use Rattle.tag_queue.specs.declared.resizes.ResizeCause.{ResizeCause}
 use Rattle.tag_queue.specs.Opening.{IsLaidOut}
 use Rattle.tag_sets.specs.declared.fault.TagFault.TheVariants.{NotPosted}
 use Rattle.tag_sets.specs.declared.kind.Kind.{Kind}
@@ -24,6 +23,7 @@ use Rattle.tag_sets.specs.Bits.{bit_in}
 use Rattle.tag_sets.specs.Gets.{whole, whole_run}
 use Rattle.tag_sets.specs.Sets.{kind_of, number_in_set}
 use Rattle.tag_board.specs.Searches.{Searcher, Searchers, first_of, ChangesOne, ChangesOneOf}
+use Rattle.tag_board.specs.States.{State}
 
 -- a set with one caller: its layout, which places are free and which set aside, which tags are posted, and where the
 -- next get begins
@@ -59,14 +59,13 @@ set_left s = record {
 abbrev pub sets_left : Searchers → AloneSets
 sets_left s = λ kind. set_left (s kind)
 
+-- both sets of a board with one caller
+abbrev pub sets_in : State → AloneSets
+sets_in s = sets_left (s.searcher 0)
+
 -- the number of reserved tags, which are the lowest of the range
 abbrev pub split_in : AloneSets → ℕ
 split_in sets = (sets Reserved).layout.depth
-
--- a refused command leaves both sets unchanged, and any other changes them so
-abbrev pub Does : {A : Type 0} → (A → AloneSets → AloneSets → Type 0) → AloneSets → Result A TagFault → AloneSets → Type 0
-Does done old (Ok answer) new = done answer old new
-Does done old (Err fault) new = new ≡ old
 
 -- the visits of a plain get, from the hint on
 abbrev pub plain : AloneSet → List Visit
@@ -199,7 +198,5 @@ abbrev pub resized : ℕ → AloneSet → AloneSet
 resized depth w = record (untouched (record { depth = depth; shift = w.layout.shift }) false) { hint = w.hint }
 
 -- a resize to `total` tags in both sets
-abbrev pub AloneResizes : ℕ → AloneSets → Result (Unit {0}) ResizeCause → AloneSets → Type 0
-AloneResizes total old (Ok done) new = ChangesOne Ordinary
-    (λ before after. after ≡ resized (total - split_in old) before) old new
-AloneResizes total old (Err cause) new = new ≡ old
+abbrev pub AloneResizes : ℕ → AloneSets → AloneSets → Type 0
+AloneResizes total old = ChangesOne Ordinary (λ before after. after ≡ resized (total - split_in old) before) old

@@ -1,6 +1,6 @@
+pub mod Searches
 pub mod States
 pub mod Wakeups
-pub mod Searches
 pub mod AloneSets
 pub mod Parts
 pub mod Boards

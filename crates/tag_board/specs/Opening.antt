@@ -4,7 +4,10 @@ use Rattle.tag_layout.specs.Layout.{HasShift}
 use Rattle.tag_queue.specs.declared.queue.Options.{Options}
 use Rattle.tag_sets.specs.declared.kind.Kind.{Kind}
 use Rattle.tag_sets.specs.declared.kind.Kind.TheVariants.{Ordinary, Reserved}
+use Rattle.tag_board.specs.AloneSets.{AreUntouched, sets_in}
+use Rattle.tag_board.specs.Searches.{Begins}
 use Rattle.tag_board.specs.States.{State, idle}
+use Rattle.tag_board.specs.Wakeups.{Starts}
 
 -- the words of a set of this depth have 2 ^ shift bits, by the shift of the options or else the default one
 abbrev pub HasBits : Options → ℕ → ℕ → Type 0
@@ -21,3 +24,6 @@ pub record IsOpen (total reserved : ℕ) (options : Options) (s : State) : Type 
   pub ordinary_bits : HasBits options (total - reserved) (s.terms.bits Ordinary)
   pub reserved_bits : HasBits options reserved (s.terms.bits Reserved)
   pub idle_all : (caller : ℕ) → caller < s.terms.callers → s.part caller ≡ idle options.round_robin
+  pub outside : (caller : ℕ) → caller < s.terms.callers → Starts (s.waiter caller)
+  pub begins : (caller : ℕ) → caller < s.terms.callers → Begins total reserved options (s.searcher caller)
+  pub untouched : s.terms.callers ≡ 1 → AreUntouched total reserved options (sets_in s)

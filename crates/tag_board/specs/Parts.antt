@@ -13,10 +13,8 @@ use Rattle.tag_sets.specs.declared.tags.Tags.{Tags}
 use Rattle.tag_sets.specs.Sets.{kind_of, number_in_set}
 use Rattle.tag_sets.specs.Hands.{agent_of, queue_of, layout_of, reserved_of, total_of, least_of, split_of, standing_of, hint_of, number_of}
 use Rattle.tag_sets.specs.Hands.{book_steps, group_steps, wait_index_of}
-use Rattle.tag_board.specs.AloneSets.{AloneSets, sets_left}
 use Rattle.tag_board.specs.Searches.{Searcher, Searchers, nobody}
-use Rattle.tag_board.specs.States.{Terms, Part, State, idle}
-use Rattle.tag_board.specs.Wakeups.{Waiter, newcomer}
+use Rattle.tag_board.specs.States.{Terms, Part, Waiter, State, idle, newcomer}
 
 -- the record of the hand's caller on the map of a set
 abbrev pub record_in : {R : Type 0} → Hand R → Kind → Record R
@@ -51,14 +49,6 @@ terms_of tags callers = record {
   bits = λ kind. word_bits (layout_of tags kind);
 }
 
--- the state of these tags and hands: caller n is the hand at index n
-abbrev pub state_of_all : {R : Type 0} → Tags R → List (Hand R) → State
-state_of_all tags hands = record {
-  terms = terms_of tags (length hands);
-  total = total_of tags;
-  part = λ caller. slice_index_or (map part_of hands) caller (idle false);
-}
-
 -- the hand at each index has that number
 abbrev pub AreOrdered : {R : Type 0} → List (Hand R) → Type 0
 AreOrdered hands = (n : ℕ) → n < length hands → slice_index (map number_of hands) n ≡ n
@@ -72,10 +62,6 @@ waiter_of hand = record {
   next = wait_index_of hand;
 }
 
--- each caller as it waits and wakes others: caller n is the hand at index n
-abbrev pub waiters_of_all : {R : Type 0} → List (Hand R) → ℕ → Waiter
-waiters_of_all hands caller = slice_index_or (map waiter_of hands) caller newcomer
-
 -- an agent as it works on its set
 abbrev pub searcher_of : Agent ℕ → Searcher
 searcher_of agent = record {
@@ -88,10 +74,12 @@ searcher_of agent = record {
 abbrev pub searchers_in : Hand ℕ → Searchers
 searchers_in hand = λ kind. searcher_of (agent_of hand kind)
 
--- each caller as it works on both sets: caller n is the hand at index n
-abbrev pub searchers_of_all : List (Hand ℕ) → ℕ → Searchers
-searchers_of_all hands caller = slice_index_or (map searchers_in hands) caller nobody
-
--- both sets, as the steps of the first hand determine them
-abbrev pub alone_sets_of_all : List (Hand ℕ) → AloneSets
-alone_sets_of_all hands = slice_index_or (map (λ hand. sets_left (searchers_in hand)) hands) 0 (sets_left nobody)
+-- the state of these tags and hands: caller n is the hand at index n
+abbrev pub state_of_all : Tags ℕ → List (Hand ℕ) → State
+state_of_all tags hands = record {
+  terms = terms_of tags (length hands);
+  total = total_of tags;
+  part = λ caller. slice_index_or (map part_of hands) caller (idle false);
+  waiter = λ caller. slice_index_or (map waiter_of hands) caller newcomer;
+  searcher = λ caller. slice_index_or (map searchers_in hands) caller nobody;
+}

@@ -6,6 +6,8 @@ use Rattle.tag_sets.specs.Opening.{HasRange}
 use Rattle.tag_sets.specs.Resizing.{IsOutOfRange}
 use Rattle.tag_board.specs.States.{State, held_in, posted_in, standing_in}
 use Rattle.tag_board.specs.Replays.{NobodyHolds}
+use Rattle.tag_board.specs.AloneSets.{AloneResizes, sets_in}
+use Rattle.tag_board.specs.Searches.{ResizesSets}
 
 -- no tag is held, and none is posted
 abbrev pub AreUnused : State → Type 0
@@ -24,8 +26,11 @@ RefusesResize s total cause = ⊥
 abbrev pub MayResize : State → ℕ → Type 0
 MayResize s total = HasRange total s.terms.reserved × AreUnused s × (standing_in s ≡ 0)
 
--- a resize: only the total changes, and no caller holds a tag; a refusal changes nothing
+-- a resize: the total changes, no caller holds a tag, and all callers go on with a new ordinary set; a refusal changes
+-- nothing
 abbrev pub Resizes : ℕ → State → Result (Unit {0}) ResizeCause → State → Type 0
 Resizes total old (Ok done) new =
-    MayResize old total × (new ≡ record old { total = total }) × NobodyHolds new (λ tag. true)
+    MayResize old total × (new ≡ record old { total = total; searcher = new.searcher }) × NobodyHolds new (λ tag. true)
+    × ResizesSets old.terms.callers total old.searcher new.searcher
+    × (old.terms.callers ≡ 1 → AloneResizes total (sets_in old) (sets_in new))
 Resizes total old (Err cause) new = RefusesResize old total cause × (new ≡ old)

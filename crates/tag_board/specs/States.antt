@@ -1,8 +1,11 @@
--- The state of a board, as far as the answers determine it.
-use Rattle.std.specs.Prelude.{ℕ, ◌+◌, ◌-◌, Bool, false}
+-- The state of a board: what is known of its callers.
+use Rattle.std.specs.Prelude.{ℕ, ◌+◌, ◌-◌, Bool, false, List, [], Option, None}
 use Rattle.sums.specs.Below.{sum_below, count_below}
 use Rattle.tag_sets.specs.declared.kind.Kind.{Kind}
 use Rattle.tag_sets.specs.declared.kind.Kind.TheVariants.{Ordinary, Reserved}
+use Rattle.wake_book.specs.declared.steps.BookStep.{BookStep}
+use Rattle.wake_book.specs.declared.steps.GroupStep.{GroupStep}
+use Rattle.tag_board.specs.Searches.{Searchers}
 
 -- what never changes: the number of reserved tags, which are the lowest; the number of callers; the most tags of a set
 -- that a caller may win; the most completions that it may count; the least depth of a shallow get; and the bits of a
@@ -24,15 +27,30 @@ pub record Part : Type 0 where
   pub stands : Bool
   pub round_robin : Bool
 
--- what never changes, the number of tags in both sets, and each caller
+-- a caller as it waits and wakes others: its own steps on the book of completions and on the wait groups, newest first,
+-- the group that it is in, and the group that it enters next
+pub record Waiter : Type 0 where
+  pub book : List BookStep
+  pub groups : List GroupStep
+  pub group : Option ℕ
+  pub next : ℕ
+
+-- what never changes, the number of tags in both sets, and each caller: its tags, how it waits and wakes others, and its
+-- own steps on both sets
 pub record State : Type 0 where
   pub terms : Terms
   pub total : ℕ
   pub part : ℕ → Part
+  pub waiter : ℕ → Waiter
+  pub searcher : ℕ → Searchers
 
 -- a caller that has done nothing
 abbrev pub idle : Bool → Part
 idle round_robin = record { held = λ tag. false; won = λ kind. 0; back = 0; stands = false; round_robin = round_robin }
+
+-- a caller that has made no step to wait or to wake others
+abbrev pub newcomer : Waiter
+newcomer = record { book = []; groups = []; group = None; next = 0 }
 
 -- the number of tags that the gets of all callers returned
 abbrev pub got_in : State → ℕ

@@ -1,44 +1,19 @@
 -- What commands do to completions and wakeups, as the steps of their callers say.
-use Rattle.std.specs.Prelude.{◌≡◌, ◌≢◌, ℕ, ◌+◌, ◌%◌, ◌<◌, ◌≤◌, ◌⊎◌, List, [], ◌∷◌, Option, Some, None, Result, Ok, Err}
+use Rattle.std.specs.Prelude.{◌≡◌, ℕ, ◌+◌, ◌%◌, ◌<◌, ◌≤◌, ◌⊎◌, ◌∷◌, Some, None}
 use Rattle.step_ledger.specs.History.{total}
-use Rattle.wake_book.specs.declared.steps.BookStep.{BookStep}
 use Rattle.wake_book.specs.declared.steps.BookStep.TheVariants.{LookCompletions, LookWakeups}
-use Rattle.wake_book.specs.declared.steps.GroupStep.{GroupStep}
 use Rattle.wake_book.specs.declared.steps.GroupStep.TheVariants.{Look, Enter, Raise}
 use Rattle.wake_book.specs.declared.waiting.Left.{Left}
 use Rattle.wake_book.specs.Charges.{added}
 use Rattle.wake_book.specs.Waits.{active_at, index_at, moved_by}
 use Rattle.wake_book.specs.Walks.{IsLeave}
-use Rattle.tag_sets.specs.declared.fault.TagFault.{TagFault}
 use Rattle.tag_queue.specs.declared.waits.Wakes.{Wakes}
-use Rattle.tag_board.specs.States.{Terms}
-
--- a caller as it waits and wakes others: its own steps on the book of completions and on the wait groups, newest first,
--- the group that it is in, and the group that it enters next
-pub record Waiter : Type 0 where
-  pub book : List BookStep
-  pub groups : List GroupStep
-  pub group : Option ℕ
-  pub next : ℕ
-
--- a caller that has made no step
-abbrev pub newcomer : Waiter
-newcomer = record { book = []; groups = []; group = None; next = 0 }
+use Rattle.tag_board.specs.States.{Terms, Waiter}
 
 -- a caller that is in no group, and enters group 0 first
 pub record Starts (waiter : Waiter) : Type 0 where
   pub outside : waiter.group ≡ None
   pub first : waiter.next ≡ 0
-
--- what is known of this caller changed so, and what is known of any other did not change
-pub record Moves {A : Type 0} (caller : ℕ) (change : A → A → Type 0) (old new : ℕ → A) : Type 0 where
-  pub own : change (old caller) (new caller)
-  pub others : (other : ℕ) → other ≢ caller → new other ≡ old other
-
--- the caller of an answered command changed so; a refused command changes nobody
-abbrev pub MovesIf : {A B : Type 0} → ℕ → (A → B → B → Type 0) → (ℕ → B) → Result A TagFault → (ℕ → B) → Type 0
-MovesIf caller change old (Ok answer) new = Moves caller (change answer) old new
-MovesIf caller change old (Err fault) new = new ≡ old
 
 -- n completions are not counted: nobody was found waiting, or the caller would count more than the cap
 abbrev pub CountsNone : ℕ → ℕ → Waiter → Waiter → Type 0

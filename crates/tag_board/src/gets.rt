@@ -1,10 +1,6 @@
 //! Commands that take tags.
-ghost use Rattle.std.specs.Prelude.{◌≡◌};
 ghost use Rattle.tag_sets.specs.declared.kind.Kind.TheVariants.{Ordinary, Reserved};
-ghost use Rattle.tag_board.specs.Boards.{state_of, alone_sets_of, waiters_of, searchers_of, IsCallerOf, IsAlone};
-ghost use Rattle.tag_board.specs.Searches.{FindsTag, FindsRun, plainly, shallowly};
-ghost use Rattle.tag_board.specs.Wakeups.{MovesIf};
-ghost use Rattle.tag_board.specs.AloneSets.{Does, AloneGets, AloneBatch, plain, shallow};
+ghost use Rattle.tag_board.specs.Boards.{state_of, IsCallerOf};
 ghost use Rattle.tag_board.specs.Replays.{Gets, GetsShallow, GetsBatch};
 
 use crate::board::Board;
@@ -15,12 +11,7 @@ impl Board {
     /// could exceed the caller's life.
     pub fn get(&mut self, caller: u32) -> Result<Option<u32>, TagFault>
         requires { IsCallerOf self.old caller }
-        ensures answers { Gets Ordinary caller (state_of self.old) result (state_of self.new) }
-        ensures alone { IsAlone self.old
-            → Does (AloneGets Ordinary plain) (alone_sets_of self.old) result (alone_sets_of self.new) }
-        ensures waiters { waiters_of self.new ≡ waiters_of self.old }
-        ensures searches { MovesIf caller (FindsTag Ordinary plainly) (searchers_of self.old) result
-            (searchers_of self.new) }
+        ensures { Gets Ordinary caller (state_of self.old) result (state_of self.new) }
     {
         // Nobody sleeps on a board, so no tag that the sweeps freed keeps anybody waiting.
         let Found { answer, .. } = self.tags.get_freed(&mut self.hands[caller as usize])?;
@@ -32,12 +23,7 @@ impl Board {
     /// reserved tags; otherwise as `get`.
     pub fn get_reserved(&mut self, caller: u32) -> Result<Option<u32>, TagFault>
         requires { IsCallerOf self.old caller }
-        ensures answers { Gets Reserved caller (state_of self.old) result (state_of self.new) }
-        ensures alone { IsAlone self.old
-            → Does (AloneGets Reserved plain) (alone_sets_of self.old) result (alone_sets_of self.new) }
-        ensures waiters { waiters_of self.new ≡ waiters_of self.old }
-        ensures searches { MovesIf caller (FindsTag Reserved plainly) (searchers_of self.old) result
-            (searchers_of self.new) }
+        ensures { Gets Reserved caller (state_of self.old) result (state_of self.new) }
     {
         let answer = self.tags.get_reserved(&mut self.hands[caller as usize])?;
         self.tell_free(caller, answer);
@@ -48,12 +34,7 @@ impl Board {
     /// least depth of the options.
     pub fn get_shallow(&mut self, caller: u32, depth: u32) -> Result<Option<u32>, TagFault>
         requires { IsCallerOf self.old caller }
-        ensures answers { GetsShallow depth caller (state_of self.old) result (state_of self.new) }
-        ensures alone { IsAlone self.old
-            → Does (AloneGets Ordinary (shallow depth)) (alone_sets_of self.old) result (alone_sets_of self.new) }
-        ensures waiters { waiters_of self.new ≡ waiters_of self.old }
-        ensures searches { MovesIf caller (FindsTag Ordinary (shallowly depth)) (searchers_of self.old) result
-            (searchers_of self.new) }
+        ensures { GetsShallow depth caller (state_of self.old) result (state_of self.new) }
     {
         let Found { answer, .. } = self
             .tags
@@ -67,11 +48,7 @@ impl Board {
     /// tags.
     pub fn get_batch(&mut self, caller: u32, n: u32) -> Result<Option<(u32, u64)>, TagFault>
         requires { IsCallerOf self.old caller }
-        ensures answers { GetsBatch n caller (state_of self.old) result (state_of self.new) }
-        ensures alone { IsAlone self.old
-            → Does (AloneBatch n) (alone_sets_of self.old) result (alone_sets_of self.new) }
-        ensures waiters { waiters_of self.new ≡ waiters_of self.old }
-        ensures searches { MovesIf caller (FindsRun n) (searchers_of self.old) result (searchers_of self.new) }
+        ensures { GetsBatch n caller (state_of self.old) result (state_of self.new) }
     {
         let Found { answer, .. } = self
             .tags

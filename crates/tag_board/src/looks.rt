@@ -1,9 +1,6 @@
 //! Commands that list and count busy tags.
 ghost use Rattle.std.specs.Prelude.{◌≡◌, IfOk};
-ghost use Rattle.tag_board.specs.Boards.{state_of, alone_sets_of, waiters_of, searchers_of, IsCallerOf, IsAlone};
-ghost use Rattle.tag_board.specs.Searches.{CountsFound, PacksFound, ListsFound};
-ghost use Rattle.tag_board.specs.Wakeups.{Moves};
-ghost use Rattle.tag_board.specs.AloneSets.{AloneListsBusy, AloneShows, AloneDumps};
+ghost use Rattle.tag_board.specs.Boards.{state_of, IsCallerOf};
 ghost use Rattle.tag_board.specs.Looks.{ListsBusy, Shows, Dumps, depth_of};
 
 use crate::board::Board;
@@ -14,12 +11,7 @@ impl Board {
     /// Returns a bit for each tag, 1 for a busy one: tag `t` is the bit `t % 64` of the word `t / 64`.
     pub fn busy(&mut self, alloc: Global, caller: u32) -> Result<Vec<u64>, AllocError>
         requires { IsCallerOf self.old caller }
-        ensures answers { IfOk result (λ bits. ListsBusy caller (state_of self.old) bits.items (state_of self.new)) }
-        ensures alone { IsAlone self.old
-            → IfOk result (λ bits. AloneListsBusy (alone_sets_of self.old) bits.items (alone_sets_of self.new)) }
-        ensures waiters { waiters_of self.new ≡ waiters_of self.old }
-        ensures searches { IfOk result (λ bits. Moves caller (ListsFound bits.items) (searchers_of self.old)
-            (searchers_of self.new)) }
+        ensures { IfOk result (λ bits. ListsBusy caller (state_of self.old) bits.items (state_of self.new)) }
     {
         let mut bits = vec![in alloc; 0u64; self.total.div_ceil(64) as usize]?;
         self.tags.busy(&mut self.hands[caller as usize], &mut bits);
@@ -29,10 +21,7 @@ impl Board {
     /// Returns the sizes of a set, and how many of its tags are busy and how many set aside.
     pub fn show(&mut self, caller: u32, kind: Kind) -> Shown
         requires { IsCallerOf self.old caller }
-        ensures answers { Shows kind (state_of self.old) result (state_of self.new) }
-        ensures alone { IsAlone self.old → AloneShows kind (alone_sets_of self.old) result (alone_sets_of self.new) }
-        ensures waiters { waiters_of self.new ≡ waiters_of self.old }
-        ensures searches { Moves caller (CountsFound kind result) (searchers_of self.old) (searchers_of self.new) }
+        ensures { Shows kind caller (state_of self.old) result (state_of self.new) }
     {
         self.tags.show(&mut self.hands[caller as usize], kind)
     }
@@ -40,12 +29,7 @@ impl Board {
     /// Returns a bit for each tag of a set, 1 for a busy one, eight per byte, low bit first.
     pub fn dump(&mut self, alloc: Global, caller: u32, kind: Kind) -> Result<Vec<u8>, AllocError>
         requires { IsCallerOf self.old caller }
-        ensures answers { IfOk result (λ bytes. Dumps kind (state_of self.old) bytes.items (state_of self.new)) }
-        ensures alone { IsAlone self.old
-            → IfOk result (λ bytes. AloneDumps kind (alone_sets_of self.old) bytes.items (alone_sets_of self.new)) }
-        ensures waiters { waiters_of self.new ≡ waiters_of self.old }
-        ensures searches { IfOk result (λ bytes. Moves caller (PacksFound kind bytes.items) (searchers_of self.old)
-            (searchers_of self.new)) }
+        ensures { IfOk result (λ bytes. Dumps kind caller (state_of self.old) bytes.items (state_of self.new)) }
     {
         let depth = self.depth(kind);
         let mut bytes = vec![in alloc; 0u8; depth.div_ceil(8) as usize]?;

@@ -1,12 +1,9 @@
 //! Opening a board.
-ghost use Rattle.std.specs.Prelude.{ℕ, ◌<◌, IfOk};
+ghost use Rattle.std.specs.Prelude.{IfOk};
 ghost use Rattle.refusals.specs.Refusals.{RefusesOrRunsOut};
 ghost use Rattle.tag_sets.specs.Refusals.{open_checks};
-ghost use Rattle.tag_board.specs.Boards.{state_of, alone_sets_of, waiters_of, searchers_of, IsAlone};
-ghost use Rattle.tag_board.specs.AloneSets.{AreUntouched};
+ghost use Rattle.tag_board.specs.Boards.{state_of};
 ghost use Rattle.tag_board.specs.Opening.{IsOpen};
-ghost use Rattle.tag_board.specs.Searches.{Begins};
-ghost use Rattle.tag_board.specs.Wakeups.{Starts};
 
 use crate::board::Board;
 use std::alloc::Global;
@@ -23,10 +20,6 @@ impl Board {
         options: Options,
     ) -> Result<Board, SetFault>
         ensures ok { IfOk result (λ board. IsOpen total reserved options (state_of board)) }
-        ensures alone { IfOk result (λ board. IsAlone board → AreUntouched total reserved options (alone_sets_of board)) }
-        ensures waiters { IfOk result (λ board. (caller : ℕ) → caller < options.callers → Starts (waiters_of board caller)) }
-        ensures searches { IfOk result (λ board. (caller : ℕ) → caller < options.callers
-            → Begins total reserved options (searchers_of board caller)) }
         ensures refusals { RefusesOrRunsOut (open_checks total reserved options) SetFault.Memory result }
     {
         let (tags, hands) = Tags::open(alloc, total, reserved, options, 0u64)?;

@@ -1,9 +1,7 @@
 //! Resizing a board.
-ghost use Rattle.std.specs.Prelude.{◌≡◌, IfOk, IsErr};
-ghost use Rattle.tag_board.specs.Boards.{state_of, alone_sets_of, waiters_of, searchers_of, IsAlone};
-ghost use Rattle.tag_board.specs.AloneSets.{AloneResizes};
+ghost use Rattle.std.specs.Prelude.{IfOk, IsErr};
+ghost use Rattle.tag_board.specs.Boards.{state_of};
 ghost use Rattle.tag_board.specs.Resizes.{Resizes, MayResize};
-ghost use Rattle.tag_board.specs.Searches.{ResizesSets};
 
 use crate::board::Board;
 use std::alloc::{AllocError, Global};
@@ -18,11 +16,6 @@ impl Board {
         total: u32,
     ) -> Result<(Result<(), ResizeCause>, Board), AllocError>
         ensures answers { IfOk result (λ resized. Resizes total (state_of self) resized.0 (state_of resized.1)) }
-        ensures alone { IfOk result (λ resized. IsAlone self
-            → AloneResizes total (alone_sets_of self) resized.0 (alone_sets_of resized.1)) }
-        ensures waiters { IfOk result (λ resized. waiters_of resized.1 ≡ waiters_of self) }
-        ensures searches { IfOk result (λ resized. ResizesSets (state_of self).terms.callers total resized.0
-            (searchers_of self) (searchers_of resized.1)) }
         ensures memory { IsErr result → MayResize (state_of self) total }
     {
         let Board {

@@ -9,7 +9,7 @@ use Rattle.tag_lines.specs.declared.fault.Misfit.TheVariants.{EmptyWord, Unknown
 use Rattle.tag_lines.specs.declared.event_list.Single.{Single}
 use Rattle.tag_lines.specs.declared.event_list.Single.TheVariants.{Put, Sweep, Spill, Post, Take}
 use Rattle.tag_lines.specs.declared.event_list.Masked.{Masked}
-use Rattle.tag_lines.specs.declared.event_list.Masked.TheVariants.{Win, Give}
+use Rattle.tag_lines.specs.declared.event_list.Masked.TheVariants.{Win, Give, Keep}
 use Rattle.tag_lines.specs.Lines.{number_below}
 
 -- the kind of event with this name, among those on one tag or one word
@@ -24,7 +24,8 @@ single_of name =
 -- the kind of event with this name, among those on a mask
 abbrev pub masked_of : List ℕ → Option Masked
 masked_of name = if bytes_eq name (codes "win") then Some Win else
-    (if bytes_eq name (codes "give") then Some Give else None)
+    (if bytes_eq name (codes "give") then Some Give else
+    (if bytes_eq name (codes "keep") then Some Keep else None))
 
 -- the event of a caller on a tag or a word
 abbrev pub single_event : Single → ℕ → ℕ → Event
@@ -38,6 +39,7 @@ single_event Take caller on = events.Take caller on
 abbrev pub masked_event : Masked → ℕ → ℕ → ℕ → Event
 masked_event Win caller word mask = events.Win caller word mask
 masked_event Give caller word mask = events.Give caller word mask
+masked_event Keep caller word mask = events.Keep caller word mask
 
 -- the first word is no event's name with as many words
 abbrev pub unknown : Result Event LineFault

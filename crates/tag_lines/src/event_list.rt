@@ -69,6 +69,8 @@ pub enum Masked {
     Win,
     /// On tags that the caller holds.
     Give,
+    /// On tags that the caller swept.
+    Keep,
 }
 
 impl Masked {
@@ -80,6 +82,8 @@ impl Masked {
             Some(Masked::Win)
         } else if name == b"give".as_slice() {
             Some(Masked::Give)
+        } else if name == b"keep".as_slice() {
+            Some(Masked::Keep)
         } else {
             None
         }
@@ -92,6 +96,7 @@ impl Masked {
         match self {
             Masked::Win => Event::Win(caller, word, mask),
             Masked::Give => Event::Give(caller, word, mask),
+            Masked::Keep => Event::Keep(caller, word, mask),
         }
     }
 }

@@ -27,6 +27,7 @@ number_of_event_fault events.NotFree = 3
 number_of_event_fault events.NotHeld = 4
 number_of_event_fault events.NotPosted = 5
 number_of_event_fault events.Spent = 6
+number_of_event_fault events.NotSwept = 7
 
 -- of a command
 abbrev pub number_of_tag_fault : TagFault → ℕ

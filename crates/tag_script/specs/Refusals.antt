@@ -3,9 +3,9 @@ use Rattle.std.specs.Prelude.{◌≡◌, ℕ, nat_lt, if◌then◌else◌}
 use Rattle.tag_layout.specs.Layout.{Layout, words}
 use Rattle.tag_lines.specs.declared.refusal.Place.{Place}
 use Rattle.tag_model.specs.declared.event.Event.{Event}
-use Rattle.tag_model.specs.declared.event.Event.TheVariants.{Look, Win, Put, Give, Sweep, Spill, Post, Take}
+use Rattle.tag_model.specs.declared.event.Event.TheVariants.{Look, Win, Put, Give, Sweep, Keep, Spill, Post, Take}
 use Rattle.tag_model.specs.declared.event.EventFault.{EventFault}
-use Rattle.tag_model.specs.declared.event.EventFault.TheVariants.{NoSuchTag, NoSuchCaller, Spent, NotFree, NotHeld, NotPosted}
+use Rattle.tag_model.specs.declared.event.EventFault.TheVariants.{NoSuchTag, NoSuchCaller, Spent, NotFree, NotHeld, NotPosted, NotSwept}
 use Rattle.tag_script.specs.declared.ending.Ending.{Ending}
 use Rattle.tag_script.specs.declared.ending.Ending.TheVariants.{Done, Refused}
 
@@ -16,6 +16,7 @@ tags_word (Win caller word mask) = 4
 tags_word (Put caller tag) = 3
 tags_word (Give caller word mask) = 4
 tags_word (Sweep caller word) = 3
+tags_word (Keep caller word mask) = 4
 tags_word (Spill caller word) = 3
 tags_word (Post caller tag) = 3
 tags_word (Take caller tag) = 3
@@ -27,6 +28,7 @@ unknown_word l (Win caller word mask) = if nat_lt word (words l) then 4 else 3
 unknown_word l (Put caller tag) = 3
 unknown_word l (Give caller word mask) = if nat_lt word (words l) then 4 else 3
 unknown_word l (Sweep caller word) = 3
+unknown_word l (Keep caller word mask) = if nat_lt word (words l) then 4 else 3
 unknown_word l (Spill caller word) = 3
 unknown_word l (Post caller tag) = 3
 unknown_word l (Take caller tag) = 3
@@ -39,6 +41,7 @@ wrong_word l event Spent = 2
 wrong_word l event NotFree = tags_word event
 wrong_word l event NotHeld = tags_word event
 wrong_word l event NotPosted = tags_word event
+wrong_word l event NotSwept = tags_word event
 
 -- the run ended with a refusal, and this is where the input is wrong
 abbrev pub IsRefusedAt : Place → Ending → Type 0

@@ -1,17 +1,15 @@
 -- The output of a script whose callers share tags.
-use Rattle.std.specs.Prelude.{ℕ, ◌^◌, ◌<◌, List}
+use Rattle.std.specs.Prelude.{ℕ, ◌^◌, List}
 use Rattle.refusals.specs.Refusals.{FailsFirst, PassesAll}
 use Rattle.tag_lines.specs.declared.order.Order.{Order}
 use Rattle.tag_sets.specs.declared.fault.SetFault.{SetFault}
 use Rattle.tag_sets.specs.Refusals.{open_checks}
 use Rattle.tag_queue.specs.declared.queue.Options.{Options}
-use Rattle.tag_board.specs.AloneSets.{AreUntouched}
 use Rattle.tag_board.specs.Opening.{IsOpen}
-use Rattle.tag_board.specs.Searches.{Begins}
-use Rattle.tag_board.specs.Wakeups.{Starts}
+use Rattle.tag_board.specs.States.{State}
 use Rattle.tag_script.specs.declared.options.ScriptOptions.{ScriptOptions}
 use Rattle.tag_script.specs.Outputs.{IsRun}
-use Rattle.tag_script.specs.SharedCommands.{Scene, IsAlone, ObeysShared, AreSharedTotals}
+use Rattle.tag_script.specs.SharedCommands.{ObeysShared, AreSharedTotals}
 
 -- the options with which the tags are opened; each caller may count the most completions possible
 abbrev pub tag_options : ScriptOptions → Options
@@ -32,16 +30,9 @@ IsRefusedShared o = FailsFirst (open_checks o.tags o.reserved (tag_options o))
 abbrev pub IsAllowed : ScriptOptions → Type 0
 IsAllowed o = PassesAll (open_checks o.tags o.reserved (tag_options o))
 
--- new tags with these options, on which nothing was done
-pub record IsNewScene (o : ScriptOptions) (s : Scene) : Type 0 where
-  pub opened : IsOpen o.tags o.reserved (tag_options o) s.state
-  pub untouched : IsAlone s → AreUntouched o.tags o.reserved (tag_options o) s.sets
-  pub outside : (caller : ℕ) → caller < o.callers → Starts (s.waiters caller)
-  pub begins : (caller : ℕ) → caller < o.callers → Begins o.tags o.reserved (tag_options o) (s.searchers caller)
-
 -- the output of the orders: the options are allowed, and the orders are answered one after another, from new tags on
 pub record IsToldShared (o : ScriptOptions) (orders : List Order) (text : List ℕ) : Type 0 where
-  pub first : Scene
+  pub first : State
   pub allowed : IsAllowed o
-  pub new : IsNewScene o first
+  pub new : IsOpen o.tags o.reserved (tag_options o) first
   pub run : IsRun ObeysShared AreSharedTotals first orders text

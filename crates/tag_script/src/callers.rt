@@ -1,11 +1,8 @@
 //! The world of a script whose callers share tags.
 ghost use Rattle.std.specs.Prelude.{◌≡◌, IfOk};
-ghost use Rattle.tag_board.specs.Boards.{IsCallerOf};
+ghost use Rattle.tag_board.specs.Boards.{state_of, IsCallerOf};
 ghost use Rattle.tag_board.specs.Looks.{Dumps};
-ghost use Rattle.tag_board.specs.AloneSets.{AloneDumps};
-ghost use Rattle.tag_board.specs.Searches.{PacksFound};
-ghost use Rattle.tag_script.specs.SharedCommands.{ObeysBy, ObeysShared, AreSharedTotals};
-ghost use Rattle.tag_script.specs.SharedCommands.{scene_of, Quietly, Looks, IsNoResize, ListsTags};
+ghost use Rattle.tag_script.specs.SharedCommands.{ObeysBy, ObeysShared, AreSharedTotals, IsNoResize, ListsTags};
 
 use crate::answer::{Answer, BusyTags, DumpBytes};
 use crate::world::World;
@@ -16,7 +13,7 @@ use tag_lines::{Command, Order};
 use tag_model::Totals;
 use tag_sets::Kind;
 
-/// Callers that share tags. A contract sees the `scene_of` their board.
+/// Callers that share tags. A contract sees the `state_of` their board.
 pub(crate) struct Callers<'a, W> {
     /// The runtime that a leave takes. A leave never sleeps.
     rt: &'a W,
@@ -30,9 +27,9 @@ impl<'a, W: Wait> World for Callers<'a, W> {
 
     ghost knows = { λ p order. IsCallerOf p.board order.caller };
 
-    ghost answers = { λ p order answer q. ObeysShared (scene_of p.board) order answer (scene_of q.board) };
+    ghost answers = { λ p order answer q. ObeysShared (state_of p.board) order answer (state_of q.board) };
 
-    ghost counts = { λ p totals. AreSharedTotals (scene_of p.board) totals };
+    ghost counts = { λ p totals. AreSharedTotals (state_of p.board) totals };
 
     ghost ready_fewer = { λ p m n few ready. tt };
 
@@ -75,7 +72,7 @@ impl<'a, W: Wait> Callers<'a, W> {
         requires caller { IsCallerOf self.old.board caller }
         requires no_resize { IsNoResize command.now }
         ensures { IfOk result (λ answer.
-            ObeysBy caller command.now (scene_of self.old.board) answer (scene_of self.new.board)) }
+            ObeysBy caller command.now (state_of self.old.board) answer (state_of self.new.board)) }
     {
         let board = &mut self.board;
         match command {
@@ -105,7 +102,7 @@ impl<'a, W: Wait> Callers<'a, W> {
     fn busy(&mut self, caller: u32) -> Result<BusyTags, AllocError>
         requires { IsCallerOf self.old.board caller }
         ensures { IfOk result (λ tags.
-            ListsTags caller (scene_of self.old.board) tags (scene_of self.new.board)) }
+            ListsTags caller (state_of self.old.board) tags (state_of self.new.board)) }
     {
         let bits = self.board.busy(self.alloc, caller)?;
         BusyTags::of_bits(self.alloc, &bits)
@@ -115,8 +112,7 @@ impl<'a, W: Wait> Callers<'a, W> {
     fn dump(&mut self, caller: u32, kind: Kind) -> Result<DumpBytes, AllocError>
         requires { IsCallerOf self.old.board caller }
         ensures { IfOk result (λ bytes.
-            Quietly (Dumps kind) (AloneDumps kind) (Looks caller (PacksFound kind)) (scene_of self.old.board) bytes
-            (scene_of self.new.board)) }
+            Dumps kind caller (state_of self.old.board) bytes (state_of self.new.board)) }
     {
         let bytes = self.board.dump(self.alloc, caller, kind)?;
         Ok(DumpBytes::new(bytes))

@@ -142,5 +142,6 @@ fn number_of(fault: EventFault) -> u64
         EventFault::NotHeld => 4,
         EventFault::NotPosted => 5,
         EventFault::Spent => 6,
+        EventFault::NotSwept => 7,
     }
 }

@@ -37,6 +37,7 @@ pub(crate) fn event_words(fault: EventFault) -> &'static str {
         EventFault::NotFree => "a tag that is not free",
         EventFault::NotHeld => "a tag that the caller does not hold",
         EventFault::NotPosted => "a tag that is not posted",
+        EventFault::NotSwept => "a tag that the caller has not swept",
         EventFault::Spent => "a caller that would have won more than 281474976710656 tags",
     }
 }
@@ -48,7 +49,8 @@ pub(crate) fn wrong_word(layout: Layout, event: Event, fault: EventFault) -> u64
     match fault {
         EventFault::NoSuchCaller | EventFault::Spent => 2,
         EventFault::NoSuchTag => unknown_word(layout, event),
-        EventFault::NotFree | EventFault::NotHeld | EventFault::NotPosted => tags_word(event),
+        EventFault::NotFree | EventFault::NotHeld | EventFault::NotPosted | EventFault::NotSwept =>
+            tags_word(event),
     }
 }
 
@@ -57,7 +59,8 @@ fn unknown_word(layout: Layout, event: Event) -> u64
     ensures { result ≡ unknown_word layout event }
 {
     match event {
-        Event::Win(_, word, _) | Event::Give(_, word, _) if word >= layout.words() => 3,
+        Event::Win(_, word, _) | Event::Give(_, word, _) | Event::Keep(_, word, _)
+            if word >= layout.words() => { 3 }
         _ => tags_word(event),
     }
 }
@@ -67,7 +70,7 @@ fn tags_word(event: Event) -> u64
     ensures { result ≡ tags_word event }
 {
     match event {
-        Event::Win(_, _, _) | Event::Give(_, _, _) => 4,
+        Event::Win(_, _, _) | Event::Give(_, _, _) | Event::Keep(_, _, _) => 4,
         _ => 3,
     }
 }

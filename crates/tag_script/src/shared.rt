@@ -1,8 +1,9 @@
 //! Scripts of callers that share tags.
 ghost use Rattle.std.specs.Prelude.{◌≡◌, ◌<◌, IfOk, IfErr, All};
 ghost use Rattle.tag_script.specs.Setups.{IsOpenFault};
-ghost use Rattle.tag_script.specs.SharedCommands.{scene_of};
-ghost use Rattle.tag_script.specs.SharedScript.{IsToldShared, IsRefusedShared, IsAllowed, IsNewScene};
+ghost use Rattle.tag_board.specs.Boards.{state_of};
+ghost use Rattle.tag_board.specs.Opening.{IsOpen};
+ghost use Rattle.tag_script.specs.SharedScript.{IsToldShared, IsRefusedShared, IsAllowed, tag_options};
 
 use crate::callers::Callers;
 use crate::fault::OpenFault;
@@ -35,7 +36,8 @@ pub(crate) fn run_shared<W: Wait>(
 /// Opens the board that the options describe.
 fn open(alloc: Global, options: &ScriptOptions) -> Result<Board, OpenFault>
     ensures allowed { IfOk result (λ board. IsAllowed options.now) }
-    ensures new { IfOk result (λ board. IsNewScene options.now (scene_of board)) }
+    ensures new { IfOk result (λ board.
+        IsOpen options.now.tags options.now.reserved (tag_options options.now) (state_of board)) }
     ensures fault { IfErr result (IsOpenFault (IsRefusedShared options.now)) }
 {
     match Board::open(alloc, options.tags, options.reserved, options.tag_options()) {

@@ -68,7 +68,7 @@ fn check_command<'a>(alloc: Global) -> Result<Command<'a>, AllocError>
         .arg(shift(alloc))?
         .arg(count(alloc, "callers", "C", "1").help("Number of callers, 1 to 64, numbered from 0"))?
         .after_help(
-            "Each line is look, win C W M, give C W M, put C T, sweep C W, spill C W, post C T or take C T:\n\
+            "Each line is look, win C W M, give C W M, keep C W M, put C T, sweep C W, spill C W, post C T or take C T:\n\
             caller C, word W, tag T, and decimal mask M, whose lowest bit is the word's first tag.\n\
             Exit status: 0 possible, 1 refused, 2 mistaken command line, 3 out of memory, input too long, or a read or write fault.",
         );

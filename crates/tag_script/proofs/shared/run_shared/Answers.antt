@@ -1,19 +1,21 @@
--- A run on the callers' board is a run in its scene, since each answer on the board is one in the scene.
+-- A run on the callers' board is a run on its states, since each answer on the board is one on its states.
 use Rattle.std.proofs.Common.{ℕ, List, ap, subst}
 use Rattle.tag_lines.specs.declared.order.Order.{Order}
 use Rattle.tag_script.specs.Outputs.{IsRun}
-use Rattle.tag_script.specs.SharedCommands.{Scene, scene_of, ObeysShared, AreSharedTotals}
+use Rattle.tag_board.specs.Boards.{state_of}
+use Rattle.tag_board.specs.States.{State}
+use Rattle.tag_script.specs.SharedCommands.{ObeysShared, AreSharedTotals}
 use Rattle.tag_script.proofs.RunFacts.{run_as}
 use Rattle.tag_script.proofs.shared.run_shared.Goals as goal
 
 pub returns-in-Ok-clause-told : goal.returns-in-Ok-clause-told
 returns-in-Ok-clause-told g c =
     let orders : List Order = c.args.orders.now in let text : List ℕ = c.in-Ok.text.items in
-    let told = run_as ObeysShared AreSharedTotals (λ p. scene_of p.board) c.new.result orders text c.in-Ok.ensures in
+    let told = run_as ObeysShared AreSharedTotals (λ p. state_of p.board) c.new.result orders text c.in-Ok.ensures in
     record {
-      first = scene_of c.in_ok-board.board;
+      first = state_of c.in_ok-board.board;
       allowed = c.in_ok-board.ensures.allowed;
       new = c.in_ok-board.ensures.new;
-      run = subst (λ (s : Scene). IsRun ObeysShared AreSharedTotals s orders text) (ap scene_of c.new.ensures)
+      run = subst (λ (s : State). IsRun ObeysShared AreSharedTotals s orders text) (ap state_of c.new.ensures)
           told;
     }

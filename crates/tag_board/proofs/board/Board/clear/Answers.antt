@@ -1,6 +1,6 @@
 -- The hand loses the tag and counts it.
 use Rattle.std.proofs.Common.{◌≡◌, ℕ, nat_eq, ◌<◌, length, arith}
-use Rattle.tag_board.proofs.Uses.{reserved_of, state_of, RefusesTag, Changes, cleared, State, GrantsForTag}
+use Rattle.tag_board.proofs.Uses.{AloneClears, reserved_of, state_of, RefusesTag, Changes, cleared, State, GrantsForTag}
 use Rattle.tag_board.proofs.Commands.{kept, replies, seated, clear_does, none_woken, both_ok, own_here, sits, tag_means, same_held}
 use Rattle.tag_board.proofs.AloneCalls as alone
 use Rattle.tag_board.proofs.board.Board.clear.Goals as goal
@@ -17,11 +17,12 @@ returns c =
     let b = c.args.self.now in let at = sits c.requires c.index_mut.ensures.value in let old = c.index_mut.result.now in
     let new = c.clear.new.hand in let e = c.clear.ensures.does in let r = c.clear.result in let i : ℕ = c.args.caller in
     let tag : ℕ = c.args.tag in let s = state_of b in
-    let k = replies b at new c.clear.ensures.hand {refuses = RefusesTag s i tag} (λ woken. cleared (nat_eq tag) 1)
-    (λ (woken : ℕ) (t : State). (tag < reserved_of b.tags → woken ≡ 0) × Changes i (cleared (nat_eq tag) 1) s t)
-    (GrantsForTag s.terms tag) (λ woken. alone.puts tag) (tag_means s i tag (same_held b.tags at tag)) r e.refusals
+    replies b at new c.clear.ensures.hand {refuses = RefusesTag s i tag} (λ woken. cleared (nat_eq tag) 1)
+    (GrantsForTag s.terms tag)
+    (λ (woken : ℕ) (t : State). (tag < reserved_of b.tags → woken ≡ 0)
+    × Changes i (cleared (nat_eq tag) 1) (GrantsForTag s.terms tag woken) (AloneClears tag) s t)
+    (λ woken. alone.puts tag) (tag_means s i tag (same_held b.tags at tag)) r e.refusals
     (both_ok r e.clears e.counts (λ woken p q. (
       clear_does b.tags old new (own_here b.tags at b.own) (length b.hands.items) tag woken p q,
       (λ to. (none_woken b.tags old new tag woken q, to)),
-    ))) in
-    record { answers = k.answers; alone = k.alone; waiters = k.waiters; searches = k.searches }
+    )))

@@ -1,6 +1,6 @@
 -- The hand loses the listed tags and counts them.
 use Rattle.std.proofs.Common.{ℕ, length, arith}
-use Rattle.tag_board.proofs.Uses.{state_of, RefusesList, Changes, cleared, is_in_list, GrantsFor}
+use Rattle.tag_board.proofs.Uses.{AloneClearsList, state_of, RefusesList, Changes, cleared, is_in_list, GrantsFor}
 use Rattle.tag_board.proofs.Commands.{kept, replies, seated, list_does, both_ok, both_on, held_here, here_held, own_here, sits, list_means}
 use Rattle.tag_board.proofs.AloneCalls as alone
 use Rattle.tag_board.proofs.board.Board.clear_batch.Goals as goal
@@ -17,9 +17,10 @@ returns c =
     let b = c.args.self.now in let at = sits c.requires c.index_mut.ensures.value in let old = c.index_mut.result.now in
     let new = c.clear_batch.new.hand in let e = c.clear_batch.ensures.does in let r = c.clear_batch.result in
     let i : ℕ = c.args.caller in let tags = c.args.tags.now in let s = state_of b in
-    let k = replies b at new c.clear_batch.ensures.hand {refuses = RefusesList s i tags} (λ woken. cleared (is_in_list tags) (length tags))
-    (λ (woken : ℕ). Changes i (cleared (is_in_list tags) (length tags)) s)
-    (GrantsFor s.terms.cap (length tags)) (λ woken. alone.gives tags)
+    replies b at new c.clear_batch.ensures.hand {refuses = RefusesList s i tags}
+    (λ woken. cleared (is_in_list tags) (length tags)) (GrantsFor s.terms.cap (length tags))
+    (λ (woken : ℕ). Changes i (cleared (is_in_list tags) (length tags)) (GrantsFor s.terms.cap (length tags) woken)
+    (AloneClearsList tags) s) (λ woken. alone.gives tags)
     (list_means s i tags (
       (λ h. (λ k d l. here_held b.tags at _ (h.0 k d l), h.1)),
       (λ h. (λ k d l. held_here b.tags at _ (h.0 k d l), h.1)),
@@ -28,5 +29,4 @@ returns c =
     (λ woken p q. (
       list_does b.tags old new (own_here b.tags at b.own) (length b.hands.items) tags woken p.0 p.1 q,
       (λ to. to),
-    ))) in
-    record { answers = k.answers; alone = k.alone; waiters = k.waiters; searches = k.searches }
+    )))

@@ -1,7 +1,7 @@
 -- The hand did not hold the tags before, and no other caller holds one now, so no caller held one.
-use Rattle.std.proofs.Common.{◌≡◌, ℕ, true, Option, None, Ok, sym, ap, ◌∙◌, arith}
-use Rattle.tag_board.proofs.Uses.{count_of_run, Ordinary, state_of, RefusesBatch, Wins, is_in_run, State}
-use Rattle.tag_board.proofs.Commands.{got, holds_gained, kept, none_moved, seated, seen_of, batch_gains, batch_number, own_here, round_here, sits, batch_means, room_here}
+use Rattle.std.proofs.Common.{◌≡◌, ℕ, true, Option, None, sym, ap, ◌∙◌, arith}
+use Rattle.tag_board.proofs.Uses.{AloneBatch, count_of_run, Ordinary, state_of, RefusesBatch, Wins, is_in_run, State}
+use Rattle.tag_board.proofs.Commands.{got, holds_gained, kept, seated, batch_gains, batch_number, own_here, round_here, sits, batch_means, room_here}
 use Rattle.tag_board.proofs.AloneCalls as alone
 use Rattle.tag_board.proofs.board.Board.get_batch.Goals as goal
 
@@ -28,15 +28,14 @@ returns c =
     let e = c.in_ok-answer.ensures.does in let i : ℕ = c.args.caller in let s = state_of b in
     let own = own_here b.tags at b.own in let n : ℕ = c.args.n in let round = round_here b.tags at own in
     let around = e.round_robin e.refusals.passes.0 in let room = room_here b.tags at own Ordinary n in
-    let k = got b at new {refuses = RefusesBatch s i n}
+    got b at new {refuses = RefusesBatch s i n}
     (λ (o : Option (ℕ × ℕ)) (t : State). ((s.part i).round_robin ≡ true → o ≡ None)
-    × Wins i Ordinary (is_in_run o) (count_of_run o) s t) (alone.finds_run n)
+    × Wins i Ordinary (is_in_run o) (count_of_run o) (AloneBatch n o) s t) (alone.finds_run n)
     c.get_batch_freed.ensures.hand a
-    (seen_of c.tell_run_free.new.self) (ap seen_of c.tell_run_free.ensures.same)
+    (state_of c.tell_run_free.new.self) (ap state_of c.tell_run_free.ensures.same)
     (batch_gains b.tags old new own b.hands.items n a around e.gets) c.tell_run_free.ensures.alone
     ((batch_means s i n (
       (λ may straight. room.0 (may (sym round ∙ straight))),
       (λ fits straight. room.1 (fits (round ∙ straight))),
     )).passes e.refusals.passes)
-    (λ w. ((λ t. (around (sym round ∙ t)).0), w)) in
-    record { answers = k.answers; alone = k.alone; waiters = none_moved i (Ok a) k.waiters; searches = k.searches }
+    (λ w. ((λ t. (around (sym round ∙ t)).0), w))

@@ -1,7 +1,7 @@
 -- The hand did not hold the tag before, and no other caller holds it now, so no caller held it.
-use Rattle.std.proofs.Common.{ℕ, Option, Ok, ap, arith}
-use Rattle.tag_board.proofs.Uses.{count_of, Reserved, plain, state_of, RefusesGet, Wins, is_answer}
-use Rattle.tag_board.proofs.Commands.{got, holds_gained, kept, none_moved, seated, seen_of, reserved_gains, ok_map, own_here, sits, reserved_means, room_here}
+use Rattle.std.proofs.Common.{ℕ, Option, ap, arith}
+use Rattle.tag_board.proofs.Uses.{AloneGets, count_of, Reserved, plain, state_of, RefusesGet, Wins, is_answer}
+use Rattle.tag_board.proofs.Commands.{got, holds_gained, kept, seated, reserved_gains, ok_map, own_here, sits, reserved_means, room_here}
 use Rattle.tag_board.proofs.AloneCalls as alone
 use Rattle.tag_board.proofs.board.Board.get_reserved.Goals as goal
 
@@ -25,10 +25,9 @@ returns c =
     let b = c.args.self.now in let at = sits c.requires c.index_mut.ensures.value in let old = c.index_mut.result.now in
     let new = c.get_reserved.new.hand in let a : Option ℕ = c.in_ok-answer.answer in let e = c.in_ok-answer.ensures.does in
     let i : ℕ = c.args.caller in let s = state_of b in let own = own_here b.tags at b.own in
-    let k = got b at new {refuses = RefusesGet s i Reserved}
-    (λ (o : Option ℕ). Wins i Reserved (is_answer o) (count_of o) s) (alone.finds Reserved plain)
+    got b at new {refuses = RefusesGet s i Reserved}
+    (λ (o : Option ℕ). Wins i Reserved (is_answer o) (count_of o) (AloneGets Reserved plain o) s) (alone.finds Reserved plain)
     c.get_reserved.ensures.hand a
-    (seen_of c.tell_free.new.self) (ap seen_of c.tell_free.ensures.same)
+    (state_of c.tell_free.new.self) (ap state_of c.tell_free.ensures.same)
     (reserved_gains b.tags old new own b.hands.items a e.gets) c.tell_free.ensures.alone
-    ((reserved_means s i (room_here b.tags at own Reserved 1)).passes e.refusals.passes) (λ w. w) in
-    record { answers = k.answers; alone = k.alone; waiters = none_moved i (Ok a) k.waiters; searches = k.searches }
+    ((reserved_means s i (room_here b.tags at own Reserved 1)).passes e.refusals.passes) (λ w. w)

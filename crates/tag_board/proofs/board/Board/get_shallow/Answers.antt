@@ -1,7 +1,7 @@
 -- The hand did not hold the tag before, and no other caller holds it now, so no caller held it.
-use Rattle.std.proofs.Common.{ℕ, Option, Ok, ap, arith}
-use Rattle.tag_board.proofs.Uses.{count_of, Ordinary, shallow, state_of, RefusesShallow, Wins, is_answer}
-use Rattle.tag_board.proofs.Commands.{got, holds_gained, kept, none_moved, seated, seen_of, shallow_gains, ok_map, own_here, sits, shallow_means, room_here}
+use Rattle.std.proofs.Common.{ℕ, Option, ap, arith}
+use Rattle.tag_board.proofs.Uses.{AloneGets, count_of, Ordinary, shallow, state_of, RefusesShallow, Wins, is_answer}
+use Rattle.tag_board.proofs.Commands.{got, holds_gained, kept, seated, shallow_gains, ok_map, own_here, sits, shallow_means, room_here}
 use Rattle.tag_board.proofs.AloneCalls as alone
 use Rattle.tag_board.proofs.board.Board.get_shallow.Goals as goal
 
@@ -25,10 +25,9 @@ returns c =
     let b = c.args.self.now in let at = sits c.requires c.index_mut.ensures.value in let old = c.index_mut.result.now in
     let new = c.get_shallow_freed.new.hand in let a : Option ℕ = c.in_ok-answer.field-0.answer in let e = c.in_ok-answer.ensures.does in
     let i : ℕ = c.args.caller in let s = state_of b in let own = own_here b.tags at b.own in
-    let k = got b at new {refuses = RefusesShallow s i c.args.depth}
-    (λ (o : Option ℕ). Wins i Ordinary (is_answer o) (count_of o) s) (alone.finds Ordinary (shallow c.args.depth))
+    got b at new {refuses = RefusesShallow s i c.args.depth}
+    (λ (o : Option ℕ). Wins i Ordinary (is_answer o) (count_of o) (AloneGets Ordinary (shallow c.args.depth) o) s) (alone.finds Ordinary (shallow c.args.depth))
     c.get_shallow_freed.ensures.hand a
-    (seen_of c.tell_free.new.self) (ap seen_of c.tell_free.ensures.same)
+    (state_of c.tell_free.new.self) (ap state_of c.tell_free.ensures.same)
     (shallow_gains b.tags old new own b.hands.items c.args.depth a e.gets) c.tell_free.ensures.alone
-    ((shallow_means s i c.args.depth (room_here b.tags at own Ordinary 1)).passes e.refusals.passes) (λ w. w) in
-    record { answers = k.answers; alone = k.alone; waiters = none_moved i (Ok a) k.waiters; searches = k.searches }
+    ((shallow_means s i c.args.depth (room_here b.tags at own Ordinary 1)).passes e.refusals.passes) (λ w. w)

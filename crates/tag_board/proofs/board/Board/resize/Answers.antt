@@ -1,11 +1,9 @@
 -- All hands are passed in, so none is missing; the tags in use that a refusal reports are the sums over both sets.
-use Rattle.std.proofs.Common.{◌≡◌, ℕ, ◌≤◌, length, Ok, refl, sym, ap, ◌∙◌, subst, arith}
-use Rattle.tag_board.proofs.Uses.{alone_sets_of_all, AloneResizes, AloneSets, Searchers, searchers_of_all, sets_left}
+use Rattle.std.proofs.Common.{◌≡◌, refl, sym, ap, ◌∙◌}
 use Rattle.tag_queue.specs.Agents as queue
-use Rattle.tag_board.proofs.Continuing.{order_kept, every_there, world_resized, world_free, waiters_resized, total_kept, world_kept, waiters_kept, numbers_kept, may_resize, refuses}
+use Rattle.tag_board.proofs.Continuing.{order_kept, every_there, total_kept, numbers_kept, may_resize, refuses}
 use Rattle.tag_board.proofs.Endings.{all_there}
-use Rattle.tag_board.proofs.AloneCalls.{first_sets, resizes}
-use Rattle.tag_board.proofs.Reopened.{sets_kept, sets_resized}
+use Rattle.tag_board.proofs.Reopened.{state_kept, state_resized}
 use Rattle.tag_board.proofs.board.Board.resize.Goals as goal
 
 pub invariant_of-result : goal.invariant_of-result
@@ -22,11 +20,9 @@ pub returns-in-Ok-clause-answers : goal.returns-in-Ok-clause-answers
 returns-in-Ok-clause-answers c =
     let b = c.args.self in let tags = c.in-Ok.tags in let hands = c.in-Ok.hands.items in
     let is = c.in-Ok.ensures.ok in
-    let may = c.in-Ok.ensures.may refl in let none = may.1.0 in (
-      may_resize b.tags b.hands.items b.own c.args.total may,
-      world_resized b.tags tags b.hands.items hands c.args.total is none,
-      world_free b.tags tags b.hands.items hands c.args.total is none,
-    )
+    let may = c.in-Ok.ensures.may refl in
+    state_resized b.tags tags b.hands.items hands c.args.total b.own is
+    (may_resize b.tags b.hands.items b.own c.args.total may) may.1.0
 
 pub invariant_of-board : goal.invariant_of-board
 invariant_of-board c =
@@ -57,36 +53,5 @@ returns-in_default-clause-answers c =
             waiting = e.waiting;
             memory = e.memory;
           } e.balance (all_there b.tags hands b.ordered b.every) fault.cause c.in_default.not-Memory refl,
-      world_kept b.tags fault.tags hands fault.hands.items e.err.0 e.err.1,
+      state_kept b.tags fault.tags hands fault.hands.items e.err.0 e.err.1,
     )
-
-pub returns-in-Ok-clause-alone : goal.returns-in-Ok-clause-alone
-returns-in-Ok-clause-alone c = λ one. let b = c.args.self in let some : 1 ≤ length b.hands.items = omega arith in
-    subst (λ (v : AloneSets). AloneResizes c.args.total v (Ok tt) (alone_sets_of_all c.in-Ok.hands.items))
-    (sym (first_sets b.hands.items))
-    (subst (λ (v : AloneSets). AloneResizes c.args.total (sets_left (searchers_of_all b.hands.items 0)) (Ok tt) v)
-    (sym (first_sets c.in-Ok.hands.items))
-    (resizes (length b.hands.items) c.args.total (searchers_of_all b.hands.items)
-    (searchers_of_all c.in-Ok.hands.items) some
-    (sets_resized b.tags c.in-Ok.tags b.hands.items c.in-Ok.hands.items c.args.total b.own c.in-Ok.ensures.ok)))
-
-pub returns-in_default-clause-alone : goal.returns-in_default-clause-alone
-returns-in_default-clause-alone c = λ one. let b = c.args.self in let hands = c.in-Err.field-0.hands.items in
-    first_sets hands ∙ ap (λ (s : ℕ → Searchers). sets_left (s 0))
-    (sets_kept b.hands.items hands c.in-Err.ensures.err.1) ∙ sym (first_sets b.hands.items)
-
-pub returns-in-Ok-clause-waiters : goal.returns-in-Ok-clause-waiters
-returns-in-Ok-clause-waiters c = let b = c.args.self in let is = c.in-Ok.ensures.ok in
-    waiters_resized b.tags c.in-Ok.tags b.hands.items c.in-Ok.hands.items c.args.total is
-
-pub returns-in_default-clause-waiters : goal.returns-in_default-clause-waiters
-returns-in_default-clause-waiters c = let b = c.args.self in let fault = c.in-Err.field-0 in
-    let back = c.in-Err.ensures.err in waiters_kept b.tags fault.tags b.hands.items fault.hands.items back.0 back.1
-
-pub returns-in-Ok-clause-searches : goal.returns-in-Ok-clause-searches
-returns-in-Ok-clause-searches c = let b = c.args.self in
-    sets_resized b.tags c.in-Ok.tags b.hands.items c.in-Ok.hands.items c.args.total b.own c.in-Ok.ensures.ok
-
-pub returns-in_default-clause-searches : goal.returns-in_default-clause-searches
-returns-in_default-clause-searches c = let b = c.args.self in
-    sets_kept b.hands.items c.in-Err.field-0.hands.items c.in-Err.ensures.err.1

@@ -1,8 +1,7 @@
 -- The sizes are those of the set, and the loads change no part.
 use Rattle.std.proofs.Common.{ap, arith}
-use Rattle.tag_board.proofs.Uses.{state_of}
 use Rattle.tag_board.proofs.Lookings.{show_depth, show_words, show_few}
-use Rattle.tag_board.proofs.Commands.{all_rest, effect_on, seated, show_does, own_here, same_state, sits}
+use Rattle.tag_board.proofs.Commands.{effect_on, seated, show_does, own_here, sits}
 use Rattle.tag_board.proofs.AloneCalls as alone
 use Rattle.tag_board.proofs.board.Board.show.Goals as goal
 
@@ -19,14 +18,10 @@ returns c =
     let new = c.show.new.hand in let hands = b.hands.items in let s = c.show.ensures.shows in
     let k = effect_on b at new c.show.ensures.hand (alone.counts c.args.kind c.show.result)
     (show_does b.tags old new (own_here b.tags at b.own) c.args.kind c.show.result s) in record {
-      answers = record {
-        depth = show_depth b.tags hands old new c.args.kind c.show.result s;
-        bits_per_word = ap (λ x. x.bits_per_word) s.shown_is;
-        map_nr = show_words b.tags hands old new c.args.kind c.show.result s;
-        busy = show_few b.tags hands old new c.args.kind c.show.result s;
-        same = same_state (state_of b) _ c.args.caller k.changes;
-      };
-      alone = k.alone;
-      waiters = all_rest k.waiters;
-      searches = k.searches;
+      depth = show_depth b.tags hands old new c.args.kind c.show.result s;
+      bits_per_word = ap (λ x. x.bits_per_word) s.shown_is;
+      map_nr = show_words b.tags hands old new c.args.kind c.show.result s;
+      busy = show_few b.tags hands old new c.args.kind c.show.result s;
+      found = k.steps;
+      change = k.changes;
     }

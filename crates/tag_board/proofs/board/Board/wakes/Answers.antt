@@ -1,7 +1,7 @@
 -- The call adds loads to the lists of its caller, and nothing else.
 use Rattle.std.proofs.Common.{arith}
-use Rattle.tag_board.proofs.Uses.{state_of, Finds}
-use Rattle.tag_board.proofs.Commands.{all_rest, effect_on, seated, stay_does, same_state, sits, standing_here}
+use Rattle.tag_board.proofs.Uses.{Finds}
+use Rattle.tag_board.proofs.Commands.{effect_on, seated, stay_does, sits, standing_here}
 use Rattle.tag_board.proofs.AloneCalls as alone
 use Rattle.tag_board.proofs.board.Board.wakes.Goals as goal
 
@@ -23,8 +23,5 @@ returns c =
     }) in record {
       ordered = e.ordered;
       active = λ t. e.active ((standing_here b.tags at).1 t);
-      same = same_state (state_of b) _ c.args.caller k.changes;
-      alone = k.alone;
-      waiters = k.waiters;
-      searches = all_rest k.searches;
+      change = k.changes;
     }
