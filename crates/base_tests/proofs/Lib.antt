@@ -1,2 +1,2 @@
-pub mod Slow
-pub mod SlowOrders
+pub mod Reference
+pub mod ReferenceOrders

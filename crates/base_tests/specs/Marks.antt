@@ -1,4 +1,4 @@
--- Two lists with one mark for each tag, as a pool. The slow search of the tests scans them.
+-- Two lists with one mark for each tag, as a pool. The reference search scans them.
 use Rattle.std.specs.Prelude.{◌≡◌, ℕ, ◌+◌, Bool, false, not, ◌&&◌, ◌||◌, nat_eq, nat_lt, nat_le, List, length, slice_index_or}
 use Rattle.tag_layout.specs.Layout.{Layout, word_depth, tag_at}
 use Rattle.tag_search.specs.Pool.{Pool, is_in}

@@ -1,7 +1,7 @@
 //! Worked examples, refusals, want of memory, and threads.
+pub(crate) mod callers;
 mod calls;
 mod gathering;
-pub(crate) mod hands;
 mod memory;
 mod opening;
 mod reopening;

@@ -2,8 +2,8 @@
 use crate::tests::totals::totals;
 use std::test::Fail;
 use tag_layout::Layout;
-use tag_model::Event::{Give, Look, Post, Put, Spill, Sweep, Take, Win};
-use tag_model::EventFault::{NoSuchCaller, NoSuchTag, NotFree, NotHeld, NotPosted};
+use tag_model::Event::{Give, Keep, Look, Post, Put, Spill, Sweep, Take, Win};
+use tag_model::EventFault::{NoSuchCaller, NoSuchTag, NotFree, NotHeld, NotPosted, NotSwept};
 use tag_model::{
     Event, EventFault, ModelFault, Totals, World, held_tags_stay, runs_balance, runs_join,
 };
@@ -55,6 +55,21 @@ fn a_run_ends_with_its_totals_or_at_a_fault(rt: HostRuntime) -> Result<(), Fail>
             ][..],
             Ok(totals(2, 1, 1, 0)),
             totals(2, 1, 1, 0),
+        ),
+        (
+            "what is kept is held, and not spilled",
+            &[
+                Win(0, 0, 12),
+                Put(0, 2),
+                Put(0, 3),
+                Sweep(1, 0),
+                Keep(1, 0, 4),
+                Spill(1, 0),
+                Win(0, 0, 8),
+                Keep(1, 0, 8),
+            ][..],
+            Err((7, NotSwept)),
+            totals(4, 2, 2, 0),
         ),
     ] {
         let mut world = World::open(rt.alloc(), Layout::new(4, Some(2))?, 2)?;

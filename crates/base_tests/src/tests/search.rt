@@ -1,80 +1,26 @@
-//! Searches worked out on paper, with their steps counted.
+//! Searches of maps: worked examples with their steps counted, and comparisons with a search by the definitions.
 ghost use Rattle.std.specs.Prelude.{ℕ, ◌<◌};
 
 mod calls;
 mod comparison;
+mod counting;
 mod draws;
 mod freed;
 mod hints;
 mod marks;
 mod memory;
+mod reference;
 mod shared;
-mod slow;
 mod threads;
 
 use calls::Answer::{Done, Nothing, Run, Tag, Word};
 use calls::Call::{Batch, Follow, Get, Give, Look, Shallow};
 use calls::wrong;
+use counting::fresh;
 use std::alloc::Global;
 use std::test::Fail;
-use tag_core::{Claim, Spent};
 use tag_layout::Layout;
 use tag_search::{Hint, PlainPort, Port, alone_batches_choose, alone_gets_choose};
-
-/// A plain port that counts its atomic steps.
-#[derive(Drop)]
-pub(crate) struct Counting {
-    pub(crate) port: PlainPort,
-    /// Number of steps so far: loads, claims, swaps and spills.
-    steps: u64,
-}
-
-impl Port for Counting {
-    ghost use Rattle.tag_search.specs.Plain.{RunsAlone};
-    ghost use Rattle.tag_search.specs.PlainLaws.{runs_nothing, runs_on};
-
-    ghost sizes = { λ p. p.port.layout };
-
-    ghost ready = { λ _. Unit {0} };
-
-    ghost has_room = { λ _ _. Unit {0} };
-
-    ghost adds = { λ p xs q. RunsAlone p.port xs q.port };
-
-    ghost adds_none = { λ p. runs_nothing p.port };
-
-    ghost adds_more = { λ p q r xs ys a b. runs_on p.port q.port r.port xs ys a b };
-
-    fn layout(&self) -> Layout {
-        self.port.layout()
-    }
-
-    fn room(&self, n: u32) -> bool {
-        self.port.room(n)
-    }
-
-    fn look(&mut self, word: u32) -> u64 {
-        self.steps = self.steps.wrapping_add(1);
-        self.port.look(word)
-    }
-
-    fn claim(&mut self, word: u32, mask: u64) -> Result<Claim, Spent> {
-        self.steps = self.steps.wrapping_add(1);
-        self.port.claim(word, mask)
-    }
-
-    fn sweep(&mut self, word: u32) -> u64 {
-        let mask = self.port.sweep(word);
-        self.steps = self.steps.wrapping_add(if mask == 0 { 1 } else { 3 });
-        mask
-    }
-}
-
-/// Plain words of which nothing is taken.
-pub(crate) fn fresh(alloc: Global, depth: u32, shift: u32) -> Result<Counting, Fail> {
-    let port = PlainPort::open(alloc, Layout::new(depth, Some(shift))?)?;
-    Ok(Counting { port, steps: 0 })
-}
 
 /// Takes the tags of the masks that are in their words, and then sets these tags aside, if they are taken.
 fn take(port: &mut PlainPort, taken: &[(u32, u64)], aside: &[u32]) {
@@ -165,22 +111,38 @@ fn searches_answer_as_on_paper(rt: HostRuntime) -> Result<(), Fail> {
 
 #[test]
 fn a_get_makes_as_many_steps_as_on_paper(rt: HostRuntime) -> Result<(), Fail> {
-    for (name, taken, found, steps) in [
+    for (name, taken, aside, found, steps) in [
         (
             "a plain get begins at place 0 of the hint's word",
             [(0, 0b1100), (1, 0b1111)],
+            &[4][..],
             Tag(0),
             2,
         ),
         (
             "a cleared tag is found after a sweep",
             [(0, 0b1111), (1, 0b1111)],
+            &[4][..],
             Tag(4),
             15,
         ),
+        (
+            "a sweep of the hint's word keeps the only tag",
+            [(0, 0b1111), (1, 0b1111)],
+            &[3][..],
+            Tag(3),
+            3,
+        ),
+        (
+            "a sweep of the hint's word keeps the least tag and frees the others",
+            [(0, 0b1111), (1, 0b1111)],
+            &[1, 3][..],
+            Tag(1),
+            4,
+        ),
     ] {
         let mut counting = fresh(rt.alloc(), 8, 2)?;
-        take(&mut counting.port, &taken, &[4]);
+        take(&mut counting.port, &taken, aside);
         let wrong = wrong(&mut counting, hint_at(2, false), &[(Get, found, 2)]);
         assert_eq!(rt; (wrong, counting.steps), (None, steps), "{name}");
     }

@@ -11,6 +11,7 @@ mod granted;
 mod keeping;
 mod mixed;
 mod resizing;
+mod sleeps;
 mod slots;
 mod stages;
 mod threads;

@@ -13,6 +13,7 @@ mod memory;
 mod opening;
 mod outputs;
 mod resizing;
+mod sleeps;
 mod slots;
 mod stages;
 

@@ -1,7 +1,7 @@
 //! Calls that the callers of a stage make one after another.
 ghost use Rattle.tag_core.specs.Callers.{IsCallerOf};
 
-use crate::tests::map::hands::{
+use crate::tests::map::callers::{
     claim_bits, exchange, give_tag, has, look_at, post_tag, put_tag, read, sweep_word, take_tag,
 };
 use step_ledger::Numbered;

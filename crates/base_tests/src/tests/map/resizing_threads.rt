@@ -2,7 +2,7 @@
 ghost use Rattle.std.specs.Prelude.{All, IfOk};
 ghost use Rattle.tag_core.specs.Callers.{IsCallerOf};
 
-use crate::tests::map::hands::{claim_bits, close, give_tag, opened, put_tag, sweep_word};
+use crate::tests::map::callers::{claim_bits, close, give_tag, opened, put_tag, sweep_word};
 use crate::tests::map::resizing::resize;
 use crate::tests::totals::totals;
 use std::alloc::Global;

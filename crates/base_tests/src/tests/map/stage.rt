@@ -2,8 +2,8 @@
 ghost use Rattle.std.specs.Prelude.{◌≡◌, All, IfSome};
 ghost use Rattle.tag_core.specs.Callers.{IsCallerOf};
 
+use crate::tests::map::callers::opened;
 use crate::tests::map::calls::{Answer, Call, act};
-use crate::tests::map::hands::opened;
 use crate::tests::map::resizing::resize;
 use std::alloc::Global;
 use std::mem::replace;

@@ -2,7 +2,7 @@
 ghost use Rattle.std.specs.Prelude.{◌<◌, All};
 ghost use Rattle.tag_core.specs.Callers.{IsCallerOf};
 
-use crate::tests::map::hands::{
+use crate::tests::map::callers::{
     claim_bits, close, exchange, give_tag, opened, post_tag, put_tag, sweep_word, take_tag,
 };
 use crate::tests::totals::totals;
@@ -21,7 +21,7 @@ const DEPTH: u32 = 8;
 const THREADS: u32 = 4;
 
 /// Rounds of each thread.
-const ROUNDS: u32 = 800_000;
+const ROUNDS: u32 = 200_000;
 
 /// What the threads saw.
 #[derive(Drop)]

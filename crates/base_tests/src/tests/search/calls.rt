@@ -3,7 +3,7 @@ ghost use Rattle.std.specs.Prelude.{◌<◌};
 ghost use Rattle.tag_layout.specs.Layout.{word_of, place_of};
 ghost use Rattle.tag_search.specs.Plain.{IsTaken};
 
-use super::Counting;
+use super::counting::Counting;
 use tag_core::Spent;
 use tag_search::{Hint, PlainPort, Port, after_clear, get, get_batch, get_shallow};
 

@@ -1,4 +1,4 @@
-//! The search over plain words compared with the slow one, on pseudo-random states and calls.
+//! The search over plain words compared with the reference search, on pseudo-random states and calls.
 ghost use Rattle.std.specs.Prelude.{◌<◌, ◌≤◌, ◌≡◌, IsTrue};
 ghost use Rattle.tag_layout.specs.Layout.{words, word_bits};
 ghost use Rattle.base_tests.specs.Marks.{AreMarks};
@@ -6,7 +6,7 @@ ghost use Rattle.base_tests.specs.Marks.{AreMarks};
 use super::draws::Draws;
 use super::hints::{hint_after, hint_after_batch};
 use super::marks::Marks;
-use super::slow::{batch_choice, plain_choice, shallow_choice};
+use super::reference::{batch_choice, plain_choice, shallow_choice};
 use std::alloc::{AllocError, Global};
 use std::test::Fail;
 use tag_layout::Layout;
@@ -230,19 +230,19 @@ fn difference(alloc: Global, seed: u64) -> Result<Option<(u32, u32)>, Fail> {
 // Three tests of 99,400 calls each, since one test of all of them would run past the limit of a test.
 
 #[test]
-fn the_search_answers_the_slow_choice(rt: HostRuntime) -> Result<(), Fail> {
+fn the_search_answers_the_reference_choice(rt: HostRuntime) -> Result<(), Fail> {
     assert_eq!(rt; difference(rt.alloc(), 20_260_917)?, None);
     Ok(())
 }
 
 #[test]
-fn the_search_answers_the_slow_choice_of_a_second_seed(rt: HostRuntime) -> Result<(), Fail> {
+fn the_search_answers_the_reference_choice_of_a_second_seed(rt: HostRuntime) -> Result<(), Fail> {
     assert_eq!(rt; difference(rt.alloc(), 34_155_617)?, None);
     Ok(())
 }
 
 #[test]
-fn the_search_answers_the_slow_choice_of_a_third_seed(rt: HostRuntime) -> Result<(), Fail> {
+fn the_search_answers_the_reference_choice_of_a_third_seed(rt: HostRuntime) -> Result<(), Fail> {
     assert_eq!(rt; difference(rt.alloc(), 77_410_903)?, None);
     Ok(())
 }

@@ -3,7 +3,7 @@ ghost use Rattle.tag_core.specs.Callers.{IsCallerOf};
 
 use super::calls::{Answer, told, told_of_batch};
 use super::hint_at;
-use crate::tests::map::hands::{claim_bits, give_tag, opened, put_tag};
+use crate::tests::map::callers::{claim_bits, give_tag, opened, put_tag};
 use std::test::Fail;
 use tag_core::{Caller, Map};
 use tag_layout::Layout;

@@ -1,4 +1,4 @@
-//! The hints of the slow gets, by their definition.
+//! The hints of the reference search, by their definition.
 ghost use Rattle.std.specs.Prelude.{◌≡◌, ◌+◌, ◌<◌, ◌≤◌, false, IfSome};
 ghost use Rattle.tag_search.specs.Follows.{HintFollows, BatchFollows};
 ghost use Rattle.tag_search.specs.Hints.{reduced};

@@ -2,8 +2,9 @@
 ghost use Rattle.tag_core.specs.Callers.{IsCallerOf};
 
 use super::calls::{Answer, Call, call_plain, told, told_of_batch};
-use super::{Counting, fresh, hint_at};
-use crate::tests::map::hands::{has, opened};
+use super::counting::{Counting, fresh};
+use super::hint_at;
+use crate::tests::map::callers::{has, opened};
 use std::test::Fail;
 use tag_core::{Caller, Map};
 use tag_layout::Layout;

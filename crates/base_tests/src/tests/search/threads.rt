@@ -2,7 +2,7 @@
 ghost use Rattle.std.specs.Prelude.{All};
 ghost use Rattle.tag_core.specs.Callers.{IsCallerOf};
 
-use crate::tests::map::hands::opened;
+use crate::tests::map::callers::opened;
 use std::alloc::Global;
 use std::sync::atomic::AtomicU64;
 use std::sync::atomic::Ordering::SeqCst;

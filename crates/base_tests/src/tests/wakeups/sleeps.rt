@@ -19,7 +19,7 @@ const SLEEPS: u64 = 8;
 const YIELDS: u64 = 1000;
 
 /// For how many milliseconds a thread holds itself at most.
-const LIMIT: u64 = 5000;
+const LIMIT: u64 = 10_000;
 
 /// How many milliseconds a sleep has to last that nothing ends.
 const REST: u64 = 20;
@@ -185,14 +185,18 @@ struct Tally {
     announced: AtomicU64,
     /// Of these, those that have ended.
     ended: AtomicU64,
+    /// Nudges that are over.
+    nudged: AtomicU64,
 }
 
-/// Sleeps once in each group.
-fn sleep_on<R: Wait>(rt: &R, groups: &Groups, waiter: &mut Waiter, tally: &Tally)
+/// Sleeps once in each group. A nudge goes through the groups in order, so the next sleep is announced only when it is
+/// over: until then it could end that one too.
+fn sleep_on<R: Abort + Clock + Wait>(rt: &R, groups: &Groups, waiter: &mut Waiter, tally: &Tally)
     requires groups { IsWaiterOf groups.now waiter.old }
     requires out { standing_of waiter.old ≡ None }
 {
-    for _ in 0..SLEEPS {
+    for sleep in 0..SLEEPS {
+        hold_until(rt, &tally.nudged, sleep);
         groups.enter(waiter);
         let key = groups.announce(waiter, &());
         tally.announced.fetch_add(1, SeqCst);
@@ -212,6 +216,7 @@ fn end_each<R: Abort + Clock>(rt: &R, groups: &Groups, waiter: &mut Waiter, tall
         let ended = tally.ended.load(SeqCst);
         assert!(rt; ended == sleep, "nobody ended sleep {sleep}");
         groups.nudge(waiter, 1);
+        tally.nudged.fetch_add(1, SeqCst);
         hold_until(rt, &tally.ended, sleep + 1);
     }
 }
@@ -228,6 +233,7 @@ fn threads_sleep_until_somebody_ends_it(rt: HostRuntime) -> Result<(), Fail> {
     let tally = Tally {
         announced: AtomicU64::new(0),
         ended: AtomicU64::new(0),
+        nudged: AtomicU64::new(0),
     };
     thread::join(
         &rt,

@@ -41,6 +41,13 @@ fn a_tag_is_won_again_only_when_its_sweep_is_spilled(rt: HostRuntime) -> Result<
         &options(2),
         spilled,
         "ok events=5 got=2 back=1 held=1 posted=0\n",
+    )?;
+    let kept = "win 0 0 12\nput 0 2\nput 0 3\nsweep 1 0\nkeep 1 0 4\nspill 1 0\nwin 0 0 8\n";
+    expect(
+        &rt,
+        &options(2),
+        kept,
+        "ok events=7 got=4 back=2 held=2 posted=0\n",
     )
 }
 
@@ -53,6 +60,8 @@ fn the_first_fault_of_a_list_is_told(rt: HostRuntime) -> Result<(), Fail> {
         ("win 1 0 16\n", "event 1 refused 1\n"),
         ("sweep 1 0\n", "event 1 refused 2\n"),
         ("put 0 3\n", "event 1 refused 4\n"),
+        ("keep 0 0 16\n", "event 1 refused 1\n"),
+        ("keep 0 0 8\n", "event 1 refused 7\n"),
         ("give 0 0 0\n", "ok events=1 got=0 back=0 held=0 posted=0\n"),
     ] {
         expect(&rt, &options(1), list, text)?;

@@ -4,7 +4,7 @@ use Rattle.std.specs.Prelude.{not, nat_lt, nat_le}
 use Rattle.tag_layout.specs.Layout.{word_of, place_of}
 use Rattle.base_tests.specs.Marks.{free_then}
 use Rattle.tag_search.specs.Pool.{is_in}
-use Rattle.base_tests.proofs.Slow.{mark_more, marks_count}
+use Rattle.base_tests.proofs.Reference.{mark_more, marks_count}
 use Rattle.base_tests.proofs.tests.search.marks.free_then.Goals as goal
 
 pub loop-tag-preserved : goal.loop-tag-preserved

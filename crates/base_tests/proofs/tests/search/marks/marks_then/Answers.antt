@@ -1,5 +1,5 @@
 -- The new marks describe the pool that is freed in the swept words and then taken from.
-use Rattle.base_tests.proofs.Slow.{marks_then}
+use Rattle.base_tests.proofs.Reference.{marks_then}
 use Rattle.base_tests.proofs.tests.search.marks.marks_then.Goals as goal
 
 pub returns-clause-pool : goal.returns-clause-pool

@@ -1,20 +1,12 @@
 -- Callers with caches may go to other threads, and threads may share the tags.
-use denote.Param.Send.{IsSend, IsSync, recorded_send, recorded_sync, struct_sync, enum_send, sendable}
-use denote.Enum.Declared.{shape as choices_of}
+use denote.Param.Send.{IsSync, recorded_sync, struct_sync, sendable}
 use denote.Struct.Declared.{shape as fields_of}
 use denote.Struct.Field.{u64-field}
 use Rattle.std.proofs.Crossing.{crosses}
-use Rattle.tag_sets.proofs.Crossing.{hand_field_send, tags_field_sync}
-use Rattle.tag_cache.proofs.Crossing.{cache_field_send}
+use Rattle.tag_sets.proofs.Crossing.{tags_field_sync}
 use Rattle.tag_tests.specs.contracts.tests.cache.mixed.Mixed as mixed
-use Rattle.tag_tests.specs.contracts.caller.Caller as caller
+use Rattle.tag_tests.proofs.Crossing.{caller_goes}
 use Rattle.tag_tests.proofs.tests.cache.threads.played_on_mixed.Goals as goal
-
-caller_goes : IsSend caller.the_row
-caller_goes = recorded_send _ _ _ caller.the_type.to_one (enum_send (choices_of caller.the_type) (
-  (hand_field_send u64-field.row (search sendable), tt),
-  ((cache_field_send u64-field.row (search sendable), tt), tt),
-))
 
 mixed_shared : IsSync mixed.the_row
 mixed_shared = recorded_sync _ _ _ mixed.the_type.to_one (struct_sync (fields_of mixed.the_type) (
