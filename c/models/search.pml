@@ -63,6 +63,31 @@ inline sweep() {
   fi
 }
 
+/* shared.rt: sweep_keeping */
+inline sweep_keeping() {
+  if
+  :: aside[at] == 0                                                        /* look_aside found nothing */
+  :: else ->
+     d_step {                                                              /* sweeps.rt: keep_least: swap */
+       mask = aside[at];
+       aside[at] = 0;
+       if
+       :: mask -> tag = at * PLACES + LOWEST(mask); mask = mask & (mask - 1)
+       :: else
+       fi
+     };
+     if
+     :: mask == 0
+     :: else ->
+#if MUTANT == 31
+        looked = WAITING_NOW;                                              /* mutant 31: looks before it spills */
+#endif
+        /* sweeps.rt: keep_least: fetch_sub. The port counts what was freed, and knows the latest of it. */
+        d_step { word[at] = word[at] & ~mask; left = left + COUNT(mask); swept = mask << (at * PLACES); mask = 0 }
+     fi
+  fi
+}
+
 #ifdef WHOLE_GET
 inline search() {
   d_step {
@@ -88,7 +113,7 @@ inline search() {
   }
 }
 #else
-/* scan.rt: visit_between; pass.rt: visit, retry */
+/* all_places.rt: search_after; pass.rt: visit, retry, retry_keeping */
 inline search() {
   d_step { tag = NONE; visits = WORDS };
 #if WORDS > 1
@@ -99,7 +124,16 @@ inline search() {
      pass();
      turns = (visits == WORDS -> TURNS : 1);
      do
-     :: tag == NONE && turns > 0 -> sweep(); pass(); turns--
+     :: tag == NONE && turns > 0 ->
+        if
+        :: visits == WORDS -> sweep_keeping()
+        :: else -> sweep()
+        fi;
+        if
+        :: tag == NONE -> pass()
+        :: else
+        fi;
+        turns--
      :: else -> break
      od;
      skip;

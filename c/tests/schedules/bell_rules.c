@@ -1,11 +1,10 @@
 /*
  * What must hold inside c/bell.c: the only file of the explorer that knows how it is made, but for
- * futures.c, which stands for the Rust crate.
+ * futures.c and queues.c, which stand for the Rust crate.
  */
-#include "bell.h"
+#include "queues.h"
 
 #include "programs.h"
-#include "scenario.h"
 
 #include <stdio.h>
 
@@ -16,45 +15,27 @@ void find_bell(void)
 	bell = pool && pool->waits ? tags_bell_of(pool->waits) : NULL;
 }
 
+static bool is_locked_by(const pthread_mutex_t *lock, int thread)
+{
+	return *(const int *)(const void *)lock == thread + 1;
+}
+
+static bool has_lock_of(const struct lender *lender, int thread)
+{
+	return is_locked_by(&lender->lock, thread) || is_locked_by(&lender->queue.lock, thread);
+}
+
 bool has_lock(int thread)
 {
-	return *(const int *)(const void *)&bell->lock == thread + 1;
+	for (int i = 0; i < MAX_THREADS; i++)
+		if (lenders[i] && has_lock_of(lenders[i], thread))
+			return true;
+	return is_locked_by(&bell->lock, thread);
 }
 
 /*
  * In each state
  */
-
-/* Whether a future stands in the list as it should, after the previous one. */
-static void check_future(const struct tags_waiter *waiter, const struct tags_waiter *previous)
-{
-	if (waiter->previous != previous)
-		fault("the links of the futures are wrong");
-	if (waiter->state != TAGS_LISTED)
-		fault("a future in the list has the state %u", waiter->state);
-	if (waiter->turn == 0 || waiter->turn > bell->turns || (previous && previous->turn >= waiter->turn))
-		fault("the turns of the futures are not in order");
-}
-
-static void check_futures(void)
-{
-	const struct tags_list *list = &bell->futures;
-	const struct tags_waiter *previous = NULL;
-	uint32_t n = 0;
-
-	for (const struct tags_waiter *waiter = list->first; waiter; waiter = waiter->next) {
-		if (++n > MAX_THREADS) {
-			fault("the list of the futures has a circle");
-			return;
-		}
-		check_future(waiter, previous);
-		previous = waiter;
-	}
-	if (list->last != previous)
-		fault("the last one of the futures is wrong");
-	if (list->length != n)
-		fault("%u futures are listed, not %u", n, list->length);
-}
 
 /* The hands in both lists of the library, where the model tells them. */
 static uint64_t listed(void)
@@ -103,10 +84,9 @@ void check_bell(void)
 		return;
 	check_turns();
 	forget_ended();
-	if (!has_lock(-1))
+	if (!is_locked_by(&bell->lock, -1))
 		return;
-	check_futures();
-	waiters = (uint32_t)__builtin_popcountll(listed()) + bell->futures.length;
+	waiters = (uint32_t)__builtin_popcountll(listed());
 	if (bell->waits.waiting < waiters || bell->waits.waiting > world->threads)
 		fault("%u are listed, and %u are counted", waiters, bell->waits.waiting);
 	if (bell->waking > (int32_t)world->threads || bell->waking < -(int32_t)world->threads)
@@ -149,17 +129,46 @@ static void check_sleeper(uint32_t i)
 		fault("thread %u saw a waiter after its last clear, and keeps a tag", i);
 }
 
+static bool has_notice(const struct tags_place *place)
+{
+	return place->notice.descriptor >= 0 || place->notice.function;
+}
+
+/* Whether a hand's thread has ended, and no future of another thread waits behind the hand. */
+static bool is_over(uint32_t i)
+{
+	return i < world->threads && world->thread[i].is_done && futures_behind(i) == 0;
+}
+
+/* The futures that wait beside the first one of their hand. */
+static uint32_t count_beside(void)
+{
+	uint32_t n = 0;
+
+	for (uint32_t i = 0; i < world->threads; i++)
+		n += futures_behind(i) > 1 ? futures_behind(i) - 1 : 0;
+	return n;
+}
+
+/* A stop ends each wait that began before it. */
+static void check_stops(void)
+{
+	for (uint32_t i = 0; i < bell->hands; i++)
+		if (bell->places[i].has_turn && bell->places[i].stops != bell->waits.stops)
+			fault("the hand in place %u waits on, and a stop has ended its wait", i);
+}
+
 /* Returns how many hands are listed as listeners. Each of them can be notified, unless its thread broke that. */
 static uint32_t count_listeners(void)
 {
 	uint32_t n = 0;
 
 	for (uint32_t i = 0; i <= world->threads; i++) {
-		if (!is_in_list(i, true) || (i < world->threads && world->thread[i].is_done))
+		if (!is_in_list(i, true) || is_over(i))
 			continue;
 		n++;
-		if (!hands[i]->place->is_listening || hands[i]->place->descriptor < 0)
-			fault("hand %u waits for an eventfd that nobody would notify", i);
+		if (!hands[i]->place->is_listening || !has_notice(hands[i]->place))
+			fault("hand %u waits for a notice that nobody would give", i);
 	}
 	return n;
 }
@@ -196,11 +205,12 @@ void check_quiet_bell(uint32_t asleep, uint32_t drains)
 		fault("%d are waking, and nobody is on the way", (int)bell->waking);
 	if (bell->listening != listeners + count_broken())
 		fault("%u listen, not %u", listeners + count_broken(), bell->listening);
-	if (asleep > 0 && bell->waits.stopped)
+	if (asleep > 0 && bell->waits.stops % 2)
 		fault("%u wait though the pool was stopped", asleep);
+	check_stops();
 	if (waiting != bell->waits.waiting)
 		fault("%u wait, not %u", waiting, bell->waits.waiting);
-	in_lists = count_sleepers() + listeners + bell->futures.length;
+	in_lists = count_sleepers() + listeners + count_beside();
 	if (asleep != in_lists)
 		fault("%u wait, and %u are listed", asleep, in_lists);
 }
@@ -236,13 +246,13 @@ void check_quiet_gate(uint32_t hirers, uint32_t drains)
 		fault("%u wait at the gate, not %u", hirers + drains, sleepers);
 	if (hirers > 0 && count_hands() < bell->hands)
 		fault("%u wait for a hand beside one that is vacant", hirers);
-	if (hirers > 0 && bell->waits.stopped)
+	if (hirers > 0 && bell->waits.stops % 2)
 		fault("%u wait for a hand though the pool was stopped", hirers);
 }
 
 static bool is_idle(const struct tags_place *place)
 {
-	return place->descriptor == -1 && !place->is_listening && !place->has_turn;
+	return !has_notice(place) && !place->running && !place->is_listening && !place->has_turn;
 }
 
 /* After the last leave. */
@@ -251,7 +261,7 @@ void check_closed_bell(void)
 	for (uint32_t i = 0; i < bell->hands; i++)
 		if (!is_idle(&bell->places[i]))
 			fault("the last hand in place %u left a wait there", i);
-	if (bell->waits.waiting || bell->listening || bell->waking || bell->futures.length || listed())
+	if (bell->waits.waiting || bell->listening || bell->waking || listed())
 		fault("somebody waits after the last leave");
 }
 
@@ -266,7 +276,7 @@ bool is_of_hand(const volatile void *address)
 /* Of a thread that has ended. One whose eventfd was closed in its wait never learns of a tag. */
 void check_idle_place(uint32_t thread)
 {
-	if (!hand_at(thread) || scenario->program[thread] == breaker)
+	if (!hand_at(thread) || scenario->program[thread] == breaker || futures_behind(thread) > 0)
 		return;
 	if (!is_idle(hands[thread]->place) || is_in_list(thread, false) || is_in_list(thread, true))
 		fault("thread %u has ended, and its place is not idle", thread);
@@ -302,19 +312,20 @@ static const struct {
 	const char *name;
 } words[] = {
 	{ offsetof(struct bell, waits.waiting), "waiting" },
-	{ offsetof(struct bell, waits.stopped), "stopped" },
+	{ offsetof(struct bell, waits.stops), "stops" },
 	{ offsetof(struct bell, listening), "listening" },
 	{ offsetof(struct bell, waking), "waking" },
 	{ offsetof(struct bell, lock), "the lock" },
-	{ offsetof(struct bell, turns), "turns" },
-	{ offsetof(struct bell, futures.length), "futures.length" },
-	{ offsetof(struct bell, futures.first), "futures.first" },
-	{ offsetof(struct bell, futures.last), "futures.last" },
 }, fields[] = {
 	{ offsetof(struct tags_place, rings), "rings" },
-	{ offsetof(struct tags_place, descriptor), "descriptor" },
+	{ offsetof(struct tags_place, running), "running" },
+	{ offsetof(struct tags_place, notice.descriptor), "descriptor" },
+	{ offsetof(struct tags_place, notice.function), "function" },
+	{ offsetof(struct tags_place, notice.argument), "argument" },
 	{ offsetof(struct tags_place, is_listening), "is_listening" },
+	{ offsetof(struct tags_place, notice.is_lasting), "is_lasting" },
 	{ offsetof(struct tags_place, has_turn), "has_turn" },
+	{ offsetof(struct tags_place, stops), "the stops of its wait" },
 };
 
 /* The locks of handles of pools.c. */
@@ -351,7 +362,7 @@ const char *name_of(uintptr_t address)
 	for (size_t i = 0; i < sizeof(words) / sizeof(*words); i++)
 		if (words[i].at == at)
 			return words[i].name;
-	if (at >= places && at < places + TAGS_MAX_HANDS * sizeof(struct tags_place))
+	if (bell && at >= places && at < places + bell->hands * sizeof(struct tags_place))
 		return name_in_place(at - places);
 	snprintf(text, sizeof(text), "bell%+ld", (long)at);
 	return text;

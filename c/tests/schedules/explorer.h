@@ -100,6 +100,8 @@ struct notes {
 	bool clears[MAX_THREADS];
 	/* the threads that have begun to drain it, and have not ended that unless they were cancelled */
 	uint32_t drains;
+	/* the threads whose wait a stop has to end, as a mask */
+	uint32_t stopped;
 	/* a thread has closed the pool */
 	bool is_closed;
 };

@@ -1,135 +1,275 @@
 /*
- * Futures, as c/rust/src/future.rs polls them: written after that code, which can't be explored
- * itself. A waker counts in an event, as an eventfd would.
+ * Futures, as c/rust/src/future.rs, shared.rs and hand.rs have them: written after that code, which
+ * can't be explored itself.
+ *
+ * A future waits behind its thread's hand, or shares the hand of the first thread that shares one,
+ * which is behind a lock.
  */
-#include "bell.h"
+#include "queues.h"
 
 #include "programs.h"
-#include "scenario.h"
 
-/* What a future is from one poll to the next. */
-struct future {
-	struct tags_waiter waiter;
-	bool is_counted;
-	bool is_listed;
-	bool was_told;
-};
+struct lender *lenders[MAX_THREADS];
+/* whether the thread's future is in the queue */
+static bool *is_queued;
 
-static struct future *futures[MAX_THREADS];
+static bool shares(int thread)
+{
+	return scenario->program[thread] == sharer || scenario->program[thread] == shared_dropper;
+}
+
+static struct lender *make_lender(int thread)
+{
+	struct lender *lender = take_own(sizeof(struct lender));
+
+	lender->hand = hands[thread];
+	lender->is_shared = shares(thread);
+	for (int i = 0; i < MAX_THREADS; i++)
+		lender->queue.answer[i] = NO_ANSWER;
+	return lender;
+}
 
 void make_futures(void)
 {
+	struct lender *shared = NULL;
+
+	for (int i = 0; i < MAX_THREADS; i++) {
+		lenders[i] = NULL;
+		if (scenario->program[i] != task && scenario->program[i] != dropper && !shares(i))
+			continue;
+		if (!is_queued)
+			is_queued = take_own(MAX_THREADS);
+		lenders[i] = shares(i) && shared ? shared : make_lender(i);
+		if (shares(i))
+			shared = lenders[i];
+	}
+}
+
+uint32_t futures_behind(uint32_t thread)
+{
+	const struct lender *lender = lenders[thread];
+
+	return lender && lender->hand == hands[thread] ? (uint32_t)lender->queue.length : 0;
+}
+
+void stop_futures(void)
+{
 	for (int i = 0; i < MAX_THREADS; i++)
-		if (scenario->program[i] == task || scenario->program[i] == dropper)
-			futures[i] = take_own(sizeof(struct future));
+		if (lenders[i] && lenders[i]->hand == hands[i])
+			queue_stop(lenders[i]);
 }
 
-/* Whoever tells a future owns its waker from then on, so the call may come late. */
-static void call_waker(void *whom)
-{
-	struct event *event = whom;
+/*
+ * The hand, which is lent for one call at a time
+ */
 
-	/* a waker may do anything, such as give a tag back */
-	if (has_lock(current))
-		fault("a waker is called with the lock");
-	pause_before(OP_EVENT_WRITE, event, sizeof(*event), 1, PC);
-	tell_step("calls a waker");
-	event->count++;
+static struct tags_hand *lend(struct lender *lender)
+{
+	if (lender->is_shared)
+		pthread_mutex_lock(&lender->lock);
+	return lender->hand;
 }
 
-static int32_t list(int me, struct future *future)
+static void take_back(struct lender *lender, const struct tags_told *due)
 {
-	int32_t status = future->is_counted ? 0 : tags_library_prepare(hands[me]);
-
-	if (status < 0)
-		fault("a future can't enter its group: %d", (int)status);
-	future->is_counted = true;
-	status = tags_library_listen(hands[me]->waits, &future->waiter, call_waker, &world->event[me]);
-	future->is_listed = status == TAGS_OK;
-	return status;
+	if (lender->is_shared)
+		pthread_mutex_unlock(&lender->lock);
+	if (due->sleepers | due->listeners)
+		tags_library_wake(lender->hand->waits, due);
 }
 
-/* Returns a tag, an error, or TAGS_NO_TAG if the future is listed now. */
-static int32_t poll_once(int me, struct future *future)
+/* Gives a tag back, and notes whom that has told. */
+static void give(struct tags_hand *hand, int32_t tag, struct tags_told *due)
 {
+	if (CALL(tags_library_clear(hand, (uint32_t)tag)) < 0)
+		fault("a clear was refused");
+	if (tags_load(&hand->waits->waiting) > 0)
+		tags_library_see(hand, 1, due);
+}
+
+static int32_t find(struct lender *lender)
+{
+	struct tags_told due = { 0, 0 };
+	struct tags_hand *hand = lend(lender);
+	uint64_t left = 0;
+	int32_t tag = CALL(tags_library_get(hand, &left));
+
+	if (left > 0 && tags_load(&hand->waits->waiting) > 0)
+		tags_library_see(hand, left, &due);
+	take_back(lender, &due);
+	return tag;
+}
+
+/*
+ * Futures
+ */
+
+/* A try for all futures: whom it told, what the caller's own future gets, and the wakers of the others that got something. */
+struct trial {
+	struct tags_told due;
+	int own;
+	int32_t answer;
+	struct event *woken[MAX_THREADS];
+};
+
+/* Returns whether the hand goes on to try. */
+static bool try_for_first(struct lender *lender, struct trial *trial)
+{
+	const int32_t answer = CALL(tags_library_poll(lender->hand, queue_tell, &lender->queue, &trial->due));
+	struct event *waker = NULL;
+	int first;
+
+	if (answer == TAGS_NO_TAG)
+		return false;
+	if (answer == TAGS_STOPPED && !tags_detail_is_stopped(lender->hand))
+		return true;
+	first = queue_answer_first(lender, answer, trial->own, &waker);
+	if (first >= 0 && first == trial->own)
+		trial->answer = answer;
+	else if (first >= 0)
+		trial->woken[first] = waker;
+	else if (answer >= 0)
+		give(lender->hand, answer, &trial->due);
+	return true;
+}
+
+static int32_t try_for_all(struct lender *lender, int own)
+{
+	struct trial trial = { { 0, 0 }, own, NO_ANSWER, { NULL } };
+	struct tags_hand *hand = lend(lender);
+	bool goes_on = true;
+
+	queue_hear(&lender->queue);
+	while (goes_on && !queue_is_empty(&lender->queue))
+		goes_on = try_for_first(lender, &trial);
+	if (goes_on)
+		tags_library_end_poll(hand, &trial.due);
+	take_back(lender, &trial.due);
+	for (int i = 0; i < MAX_THREADS; i++)
+		if (trial.woken[i])
+			call_waker(trial.woken[i]);
+	return trial.answer;
+}
+
+/* Ends the wait of a future that is dropped. */
+static void end_wait(int me)
+{
+	struct lender *lender = lenders[me];
+	struct tags_told due = { 0, 0 };
+	bool is_hand_due;
 	int32_t tag;
 
-	future->was_told = false;
-	if (future->is_listed &&
-	    !tags_library_renew(hands[me]->waits, &future->waiter, &world->event[me])) {
-		future->is_listed = false;
-		future->was_told = true;
+	if (!is_queued[me])
+		return;
+	is_queued[me] = false;
+	tag = queue_leave(lender, me, &is_hand_due);
+	if (tag >= 0) {
+		lend(lender);
+		give(lender->hand, tag, &due);
+		take_back(lender, &due);
 	}
-	if (tags_detail_is_stopped(hands[me]))
-		return TAGS_STOPPED;
-	tag = tags_get(hands[me]);
-	if (tag != TAGS_NO_TAG || future->is_listed)
-		return tag;
-	tag = list(me, future);
-	return tag == TAGS_OK ? tags_get(hands[me]) : tag;
+	if (is_hand_due)
+		try_for_all(lender, -1);
 }
 
-static void leave_group(int me)
+/* Returns what the future gets, after a try if the hand was told of a tag. */
+static int32_t look(int me)
 {
-	while (tags_library_finish(hands[me]) == TAGS_AGAIN)
-		;
+	bool is_told;
+	const int32_t answer = queue_look(&lenders[me]->queue, me, &is_told);
+
+	if (answer == NO_ANSWER && is_told)
+		return try_for_all(lenders[me], me);
+	return answer;
 }
 
-/* Ends the wait. A future that was told and needs no tag passes that on. */
-static void end_wait(int me, struct future *future, bool passes_on)
+/* The first future lists the hand, also for those that join meanwhile. */
+static int32_t begin_wait(int me)
 {
-	uint64_t told = passes_on;
+	const bool is_first = queue_join(lenders[me], me);
 
-	if (future->is_listed && !tags_library_unlist(hands[me]->waits, &future->waiter))
-		told++;
-	future->waiter.turn = 0;
-	if (future->is_counted)
-		leave_group(me);
-	if (told)
-		tags_library_tell(hands[me]->waits, told);
-	future->is_listed = future->is_counted = false;
+	is_queued[me] = true;
+	return is_first ? try_for_all(lenders[me], me) : look(me);
 }
 
-/* One wait. Returns a tag, an error, or TAGS_NO_TAG if the future was dropped. */
+static int32_t finish(int me, int32_t answer)
+{
+	struct lender *lender = lenders[me];
+
+	is_queued[me] = false;
+	if (answer == TAGS_STOPPED && queue_is_empty(&lender->queue))
+		try_for_all(lender, -1);
+	return answer;
+}
+
+/* Returns a tag, an error, or NO_ANSWER if the future waits. */
+static int32_t poll_once(int me)
+{
+	struct lender *lender = lenders[me];
+	int32_t answer;
+
+	if (is_queued[me]) {
+		queue_renew(&lender->queue, me);
+		answer = look(me);
+	} else {
+		if (tags_detail_is_stopped(lender->hand))
+			return TAGS_STOPPED;
+		answer = find(lender);
+		if (answer != TAGS_NO_TAG)
+			return answer;
+		answer = begin_wait(me);
+	}
+	return answer == NO_ANSWER ? answer : finish(me, answer);
+}
+
+/* One wait. Returns a tag, an error, or NO_ANSWER if the future was dropped. */
 static int32_t await(int me, bool may_drop)
 {
-	struct future *future = futures[me];
-	int32_t tag;
+	int32_t answer;
 
-	while ((tag = poll_once(me, future)) == TAGS_NO_TAG) {
-		if (may_drop && choose(2))
+	while ((answer = poll_once(me)) == NO_ANSWER) {
+		if (may_drop && choose(2)) {
+			end_wait(me);
 			break;
+		}
 		wait_event(me);
 	}
-	end_wait(me, future, future->was_told && tag < 0 && tag != TAGS_NO_TAG);
-	return tag;
+	return answer;
+}
+
+/* Ends a round with what a wait returned. Returns whether the thread goes on. */
+static bool use(int me, int32_t answer)
+{
+	struct lender *lender = lenders[me];
+	struct tags_told due = { 0, 0 };
+
+	if (!lender->is_shared || answer < 0)
+		return use_tag(me, answer);
+	take_tag(me, answer);
+	if (holds_for_ever())
+		return false;
+	drop_tag(answer);
+	give(lend(lender), answer, &due);
+	take_back(lender, &due);
+	return true;
 }
 
 static void run_future(int me, bool may_drop)
 {
 	for (int round = 0; goes_on(me, round); round++) {
-		int32_t tag = await(me, may_drop);
+		int32_t answer = await(me, may_drop);
 
-		if (tag != TAGS_NO_TAG && !use_tag(me, tag))
+		if (answer != NO_ANSWER && !use(me, answer))
 			return;
 	}
-	end_program(me);
-}
-
-/* Gives a tag back, and notes whom that has told. */
-static void owe(int me, int32_t tag, struct tags_due *due)
-{
-	drop_tag(tag);
-	if (CALL(tags_library_clear(hands[me], (uint32_t)tag)) < 0)
-		fault("a clear was refused");
-	if (tags_load(&hands[me]->waits->waiting) > 0)
-		tags_library_see(hands[me], 1, due);
+	if (!lenders[me]->is_shared)
+		end_program(me);
 }
 
 /* A hand of the Rust crate behind a lock: it gives two tags back, and wakes those it told once it has left the lock. */
 void ower(int me)
 {
-	struct tags_due due = { { 0, 0 }, 0 };
+	struct tags_told due = { 0, 0 };
 	int32_t tag = CALL(tags_get(hands[me])), other;
 
 	if (tag < 0)
@@ -138,9 +278,12 @@ void ower(int me)
 	other = CALL(tags_get(hands[me]));
 	if (other >= 0)
 		take_tag(me, other);
-	owe(me, tag, &due);
-	if (other >= 0)
-		owe(me, other, &due);
+	drop_tag(tag);
+	give(hands[me], tag, &due);
+	if (other >= 0) {
+		drop_tag(other);
+		give(hands[me], other, &due);
+	}
 	tags_library_wake(hands[me]->waits, &due);
 	end_program(me);
 }
@@ -151,6 +294,16 @@ void task(int me)
 }
 
 void dropper(int me)
+{
+	run_future(me, true);
+}
+
+void sharer(int me)
+{
+	run_future(me, false);
+}
+
+void shared_dropper(int me)
 {
 	run_future(me, true);
 }

@@ -156,37 +156,3 @@ void heir(int me)
 	if (CALL(tags_clear(hands[0], (uint32_t)tag)) < 0)
 		fault("a clear was refused");
 }
-
-/* In a wait group, a wait of another kind gets a tag or is refused. */
-static void try_in_group(int me, int32_t tag)
-{
-	if (tag >= 0) {
-		take_tag(me, tag);
-		clear_tag(me, tag);
-	} else if (tag != TAGS_WAITING) {
-		fault("a wait in a group returned %d", (int)tag);
-	}
-}
-
-/* Waits by tags_prepare(), with a limit as that demands, and so never sleeps here. */
-void preparer(int me)
-{
-	for (int round = 0; goes_on(me, round); round++) {
-		int32_t left;
-
-		if (CALL(tags_prepare(hands[me])) < 0)
-			fault("a prepare was refused");
-		EXPECT(TAGS_WAITING, tags_prepare(hands[me]));
-		try_in_group(me, CALL(tags_get_blocking(hands[me])));
-		open_event(me);
-		try_in_group(me, CALL(tags_get_async(hands[me], me)));
-		close_event(me);
-		EXPECT(TAGS_NOT_WAITING, tags_cancel(hands[me]));
-		do
-			left = CALL(tags_finish(hands[me]));
-		while (left == TAGS_AGAIN);
-		if (left < 0)
-			fault("a finish returned %d", (int)left);
-	}
-	end_program(me);
-}

@@ -77,6 +77,14 @@ int kernel_setcanceltype(int type, int *former)
 	return 0;
 }
 
+/* No function of a scenario is a cancellation point. */
+int kernel_setcancelstate(int state, int *former)
+{
+	(void)state;
+	*former = PTHREAD_CANCEL_ENABLE;
+	return 0;
+}
+
 void kernel_push_cleanup(struct cleanup *cleanup)
 {
 	if (current < 0)

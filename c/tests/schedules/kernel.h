@@ -17,6 +17,7 @@ int kernel_mutex_init(pthread_mutex_t *mutex, const pthread_mutexattr_t *attribu
 int kernel_mutex_destroy(pthread_mutex_t *mutex);
 int kernel_mutex_lock(pthread_mutex_t *mutex);
 int kernel_mutex_unlock(pthread_mutex_t *mutex);
+int kernel_setcancelstate(int state, int *former);
 int kernel_setcanceltype(int type, int *former);
 int kernel_clock_gettime(clockid_t clock, struct timespec *now);
 void kernel_push_cleanup(struct cleanup *cleanup);

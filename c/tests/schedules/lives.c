@@ -12,10 +12,18 @@
 
 #include <errno.h>
 
+void look_before_stop(void)
+{
+	(void)__atomic_load_n(&pool->waits->stops, __ATOMIC_SEQ_CST);
+	note_stop();
+}
+
 void stopper(int me)
 {
 	(void)me;
+	look_before_stop();
 	EXPECT(TAGS_OK, tags_stop(pool));
+	stop_futures();
 }
 
 void resumer(int me)
@@ -26,7 +34,8 @@ void resumer(int me)
 
 bool has_stop(void)
 {
-	return has_program(stopper) || has_program(resumer) || (plus_stopper && has_program(plus_stopper));
+	return has_program(stopper) || has_program(resumer) || (plus_stopper && has_program(plus_stopper)) ||
+	       (plus_resumer && has_program(plus_resumer));
 }
 
 /* Leaves, and joins again, with whatever place is vacant then. */
@@ -52,13 +61,13 @@ void reporter(int me)
 {
 	for (int round = 0; goes_on(me, round); round++) {
 		uint64_t busy[1] = { 0 };
-		struct tags_counts counts;
 		struct tags_sizes sizes;
 
 		if (CALL(tags_pool_busy(pool, busy, 1)) < 0)
 			fault("a report was refused");
 		EXPECT(TAGS_OK, tags_pool_show(pool, TAGS_ORDINARY, &sizes));
-		EXPECT(TAGS_OK, tags_pool_wakes(pool, &counts));
+		if (CALL(tags_pool_waiting(pool)) < 0)
+			fault("a report was refused");
 	}
 }
 

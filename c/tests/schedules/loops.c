@@ -1,5 +1,6 @@
 /*
- * Programs that wait by an eventfd. Thread i has the eventfds i and i + MAX_THREADS.
+ * Programs that wait by an eventfd or by a function. Thread i has the eventfds i and i + MAX_THREADS;
+ * what a function is passed is an eventfd, too.
  */
 #include "tags.h"
 
@@ -134,10 +135,7 @@ void breaker(int me)
 		end_program(me);
 }
 
-/*
- * A hand that waits by an eventfd is to enter a wait group, which is refused, and to sleep, which is
- * refused unless a tag is free.
- */
+/* A hand that waits by an eventfd is to sleep, which is refused unless a tag is free. */
 void switcher(int me)
 {
 	const struct timespec deadline = { 100, 500 };
@@ -146,7 +144,6 @@ void switcher(int me)
 	open_event(me);
 	tag = CALL(tags_get_async(hands[me], me));
 	if (tag == TAGS_NO_TAG) {
-		EXPECT(TAGS_WAITING, tags_prepare(hands[me]));
 		tag = choose(2) ? CALL(tags_get_blocking(hands[me])) :
 				  CALL(tags_get_timed(hands[me], CLOCK_REALTIME, &deadline));
 		EXPECT(TAGS_OK, tags_cancel(hands[me]));
@@ -154,4 +151,66 @@ void switcher(int me)
 	close_event(me);
 	if (tag != TAGS_WAITING && use_tag(me, tag))
 		end_program(me);
+}
+
+/* Called without the lock. Once the wait has ended, what it is passed may be gone. */
+static void note_call(void *argument)
+{
+	struct event *event = argument;
+
+	if (has_lock(current))
+		fault("a function is called with the lock");
+	for (int use = 0; use < 2; use++) {
+		pause_before(OP_EVENT_WRITE, event, sizeof(*event), 1, PC);
+		if (!event->is_open)
+			fault("a function runs after the wait has ended");
+		tell_step("the function notes a call");
+		event->count += use == 0;
+	}
+	errno = 0;
+}
+
+/* Sleeps by means of its own, as by an eventfd. It names another argument each time. */
+static int32_t wait_by_function(int me, bool may_give_up)
+{
+	int at = me;
+	int32_t tag;
+
+	open_event(at);
+	while ((tag = CALL(tags_get_notified(hands[me], note_call, &world->event[at]))) == TAGS_NO_TAG) {
+		if (at != me)
+			close_event(me);
+		if (may_give_up && choose(2)) {
+			EXPECT(TAGS_OK, tags_cancel(hands[me]));
+			break;
+		}
+		wait_event(at);
+		if (at == me)
+			open_event(at += MAX_THREADS);
+	}
+	if (at != me && world->event[me].is_open)
+		close_event(me);
+	close_event(at);
+	return tag;
+}
+
+static void wait_called(int me, bool may_give_up)
+{
+	for (int round = 0; goes_on(me, round); round++) {
+		int32_t tag = wait_by_function(me, may_give_up);
+
+		if (tag != TAGS_NO_TAG && !use_tag(me, tag))
+			return;
+	}
+	end_program(me);
+}
+
+void caller(int me)
+{
+	wait_called(me, false);
+}
+
+void canceller(int me)
+{
+	wait_called(me, true);
 }

@@ -6,11 +6,9 @@
  *  a get    passes over its first word, which is any, as with any hint, and as long as it finds
  *           nothing sweeps that word and passes again, up to four times; then it visits the other
  *           words once each. A pass is a load, and a claim for each clear bit until one is won. A
- *           sweep is a load of the cleared set, a swap of it, and a subtraction from the word
- *  a clear  sets the tag aside in one step, and loads the number of active waiters
- *  prepare  raises that number, and enters a group: here one step
- *  finish   leaves the group and lowers the number: one step, or TAGS_AGAIN
- *  a cache  a clear loads the number of active waiters first, and keeps the tag if it is 0
+ *           sweep is a load of the cleared set, a swap of it, and a subtraction from the word; that
+ *           of a plain get in its first word keeps the least tag and subtracts the others, if any
+ *  a clear  sets the tag aside in one step; with a cache it keeps the tag, which is none
  *  a wait   takes a turn by two steps if it is new, and sets the hand's bit in the list. To ask
  *           whether it was told is a load, and it gets up by a step that clears the bit
  *  telling  a load of each list, and if somebody is listed, a load of the turn of each candidate
@@ -20,8 +18,8 @@
  *
  *  a post   is one step, after which the hand has the tag no more
  *
- * Left out: slots, takes, reserved tags, round robin, grants (each clear answers 0), the limits of a
- * hand's life. Reports through a hand. Joins, reports, resizes and closes are not atomic: each checks that it has the pool's
+ * Left out: slots, takes, reserved tags, round robin, the wait groups that no call of C enters, the
+ * limits of a hand's life. Reports through a hand. Joins, reports, resizes and closes are not atomic: each checks that it has the pool's
  * handle for itself, as the library needs.
  */
 #include "bell.h"
@@ -43,18 +41,14 @@ struct member {
 	uint64_t swept;
 	uint32_t number;
 	bool is_out;
-	bool is_in_group;
 	/* from its listing until it gets up */
 	bool is_listing;
-	/* a finish of this stay answered TAGS_AGAIN */
-	bool was_refused;
 	bool is_spent;
 };
 
 struct map {
 	uint64_t word[WORDS];
 	uint64_t aside[WORDS];
-	uint32_t active;
 	bool is_one_per_word;
 	uint32_t depth, words, width;
 	uint32_t cache;
@@ -206,8 +200,6 @@ int32_t tags_library_close(struct tags_pool *pool, struct tags_sums *sums)
 	}
 	sums->got = map->got;
 	sums->back = map->back;
-	if (map->active)
-		fault("%u hands are in a wait group at the end", map->active);
 	pool->full = 0;
 	pool->object = NULL;
 	give_memory(map);
@@ -238,10 +230,9 @@ static int pass(struct map *map, uint32_t word, uint64_t bits)
 	return -1;
 }
 
-/* Returns how many tags it freed. */
-static uint32_t sweep(struct member *member, uint32_t word)
+/* Takes all that is set aside in a word. */
+static uint64_t take_aside(struct map *map, uint32_t word)
 {
-	struct map *map = member->map;
 	uint64_t mask;
 
 	stop(&map->aside[word], "looks at a cleared set");
@@ -250,12 +241,37 @@ static uint32_t sweep(struct member *member, uint32_t word)
 	stop(&map->aside[word], "sweeps: swaps a cleared set");
 	mask = map->aside[word];
 	map->aside[word] = 0;
+	return mask;
+}
+
+/* Frees what was taken in a sweep. */
+static void spill(struct member *member, uint32_t word, uint64_t mask, uint64_t *left)
+{
+	struct map *map = member->map;
+
 	if (!mask)
-		return 0;
+		return;
 	stop(&map->word[word], "sweeps: subtracts from a word");
 	map->word[word] &= ~mask;
 	member->swept = mask << (word * map->width);
-	return count(mask);
+	*left += count(mask);
+}
+
+static void sweep(struct member *member, uint32_t word, uint64_t *left)
+{
+	spill(member, word, take_aside(member->map, word), left);
+}
+
+/* Returns the place of the tag that it keeps, or -1. */
+static int sweep_keeping(struct member *member, uint32_t word, uint64_t *left)
+{
+	uint64_t mask = take_aside(member->map, word);
+
+	if (!mask)
+		return -1;
+	tell_step("map:   keeps the least of %lx", (unsigned long)mask);
+	spill(member, word, mask & (mask - 1), left);
+	return __builtin_ctzll(mask);
 }
 
 /* A sweep of a full word, as part of a get in one step. */
@@ -299,20 +315,31 @@ static uint64_t share_of(const struct map *map, uint32_t word, uint32_t depth)
 	return bits_of(map, word) & ((UINT64_C(1) << limit) - 1);
 }
 
+/* Sweeps a word, and finds a tag among these bits if it keeps one or wins one afterwards. Returns its place or -1. */
+static int retry(struct member *member, uint32_t word, uint64_t bits, bool is_keeping, uint64_t *left)
+{
+	int kept = -1;
+
+	if (is_keeping)
+		kept = sweep_keeping(member, word, left);
+	else
+		sweep(member, word, left);
+	return kept >= 0 ? kept : pass(member->map, word, bits);
+}
+
 /* Visits the words from this one on, which is the one of the hint and has more turns. */
-static int32_t search(struct member *member, uint32_t first, uint32_t depth, uint64_t *left)
+static int32_t search(struct member *member, uint32_t first, uint32_t depth, bool is_plain, uint64_t *left)
 {
 	struct map *map = member->map;
 
 	for (uint32_t i = 0; i < map->words; i++) {
 		uint32_t word = (first + i) % map->words;
+		uint64_t bits = share_of(map, word, depth);
 		int turns = i == 0 && scenario->turns ? scenario->turns : 1;
-		int place = pass(map, word, share_of(map, word, depth));
+		int place = pass(map, word, bits);
 
-		for (; place < 0 && turns > 0; turns--) {
-			*left += sweep(member, word);
-			place = pass(map, word, share_of(map, word, depth));
-		}
+		for (; place < 0 && turns > 0; turns--)
+			place = retry(member, word, bits, is_plain && i == 0, left);
 		if (place >= 0)
 			return (int32_t)(word * map->width) + place;
 	}
@@ -331,16 +358,10 @@ static void win(struct member *member, uint64_t tags, uint64_t *left)
 	tell_step("map:   won %lx, left free %lu", (unsigned long)tags, (unsigned long)*left);
 }
 
-/*
- * What a hand got is what decides, and in a wait it gets nothing; but that of a future may get tags
- * for others meanwhile.
- */
+/* What a hand got is what decides, and while it is listed it gets nothing. */
 static bool is_spent(struct member *member)
 {
-	bool waits = member->is_in_group || member->is_listing;
-	bool may_change = !waits || scenario->program[0] == task;
-
-	if (scenario->limited && member->number == 0 && !member->is_spent && may_change)
+	if (scenario->limited && member->number == 0 && !member->is_spent && !member->is_listing)
 		member->is_spent = choose(2);
 	return member->is_spent;
 }
@@ -351,7 +372,7 @@ static int32_t search_all(struct member *member, uint64_t *left)
 	const struct map *map = member->map;
 	int first = map->words > 1 ? choose((int)map->words) : 0;
 
-	return search(member, (uint32_t)first, map->depth, left);
+	return search(member, (uint32_t)first, map->depth, true, left);
 }
 
 static int32_t get_kept(struct member *member)
@@ -384,7 +405,7 @@ int32_t tags_library_get_shallow(struct tags_hand *hand, uint32_t depth, uint64_
 	int32_t tag;
 
 	*left = 0;
-	tag = search(member, 0, depth, left);
+	tag = search(member, 0, depth, false, left);
 	win(member, tag < 0 ? 0 : UINT64_C(1) << tag, left);
 	return tag;
 }
@@ -418,7 +439,7 @@ int32_t tags_library_get_batch(struct tags_hand *hand, uint32_t n, uint64_t *won
 	for (uint32_t word = 0; word < map->words; word++) {
 		uint64_t tags;
 
-		*left += sweep(member, word);
+		sweep(member, word, left);
 		tags = claim_run(map, word, (UINT64_C(1) << n) - 1, &place);
 		if (!tags)
 			continue;
@@ -439,12 +460,6 @@ uint64_t map_keeps(const void *object)
 	return object ? ((const struct member *)object)->kept : 0;
 }
 
-static uint32_t look_active(struct map *map)
-{
-	stop(&map->active, "looks at the active count");
-	return map->active;
-}
-
 /* Gives tags back by one step for each word. */
 static void give(struct member *member, uint64_t tags)
 {
@@ -459,7 +474,6 @@ static void give(struct member *member, uint64_t tags)
 		map->word[word] &= ~bits;
 	}
 	map->back += count(tags);
-	look_active(map);
 }
 
 static void flush(struct member *member)
@@ -479,14 +493,13 @@ static void set_aside(struct member *member, uint32_t tag)
 	stop(&map->aside[word], "sets a tag aside");
 	map->aside[word] |= UINT64_C(1) << (tag % map->width);
 	map->back++;
-	look_active(map);
 }
 
-/* Keeps the tag of this bit if nobody waits. Otherwise all kept tags go back. */
+/* Keeps the tag of this bit if it may be kept. Otherwise all kept tags go back. */
 static bool keep(struct member *member, uint64_t bit)
 {
 	struct map *map = member->map;
-	bool may_keep = look_active(map) == 0 && (!map->keeps_while_holding || member->held != bit);
+	bool may_keep = !map->keeps_while_holding || member->held != bit;
 
 	if (!may_keep || count(member->kept) == map->cache)
 		flush(member);
@@ -521,8 +534,6 @@ int32_t tags_library_clear_mask(struct tags_hand *hand, uint32_t first, uint64_t
 		return TAGS_BAD_COUNT;
 	if ((member->held & tags) != tags)
 		return TAGS_NOT_HELD;
-	if (member->map->cache > 0 && look_active(member->map) > 0)
-		flush(member);
 	member->held &= ~tags;
 	give(member, tags);
 	return 0;
@@ -553,40 +564,6 @@ int32_t tags_library_post(struct tags_hand *hand, uint32_t tag)
 int32_t tags_library_flush(struct tags_hand *hand)
 {
 	flush(member_of(hand));
-	return 0;
-}
-
-/*
- * Wait groups
- */
-
-int32_t tags_library_prepare(struct tags_hand *hand)
-{
-	struct member *member = member_of(hand);
-
-	if (member->is_in_group)
-		return TAGS_WAITING;
-	flush(member);
-	stop(&member->map->active, "enters a wait group");
-	member->map->active++;
-	member->is_in_group = true;
-	member->was_refused = false;
-	return 0;
-}
-
-int32_t tags_library_finish(struct tags_hand *hand)
-{
-	struct member *member = member_of(hand);
-
-	if (!member->is_in_group)
-		return TAGS_NOT_WAITING;
-	if (scenario->again && !member->was_refused && choose(2)) {
-		member->was_refused = true;
-		return TAGS_AGAIN;
-	}
-	stop(&member->map->active, "leaves its wait group");
-	member->map->active--;
-	member->is_in_group = false;
 	return 0;
 }
 
@@ -653,17 +630,13 @@ int32_t tags_library_list_self(struct tags_hand *hand, uint32_t listens)
 {
 	struct member *member = member_of(hand);
 
-	if (member->is_in_group)
-		return TAGS_WAITING;
 	take_turn(member);
 	return enter_list(member, listens != 0);
 }
 
 int32_t tags_library_list_again(struct tags_hand *hand, uint32_t listens)
 {
-	struct member *member = member_of(hand);
-
-	return member->is_in_group ? (int32_t)TAGS_WAITING : enter_list(member, listens != 0);
+	return enter_list(member_of(hand), listens != 0);
 }
 
 int32_t tags_library_is_told(struct tags_hand *hand, uint32_t listens)
@@ -827,14 +800,6 @@ int32_t tags_library_pool_show(struct tags_pool *pool, uint32_t kind, struct tag
 	sizes->bits_per_word = map->width;
 	for (uint32_t word = 0; kind == TAGS_ORDINARY && word < map->words; word++)
 		sizes->busy += count(map->word[word] & ~map->aside[word] & bits_of(map, word));
-	return TAGS_OK;
-}
-
-int32_t tags_library_pool_wakes(struct tags_pool *pool, struct tags_counts *counts)
-{
-	use_handle(map_of(pool), "report");
-	memset(counts, 0, sizeof(*counts));
-	counts->active = map_of(pool)->active;
 	return TAGS_OK;
 }
 

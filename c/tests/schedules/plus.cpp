@@ -142,6 +142,8 @@ void plus_open(void)
 		plus->hands[i] = plus->pool.join(code);
 		hands[i] = plus->hands[i].native_handle();
 	}
+	for (std::uint32_t i = 0; i < scenario->taken; i++)
+		static_cast<void>(plus->hands[world->threads].get(code)->release());
 	plus->values = tags::values<std::uint64_t>(plus->pool, code);
 	pool = plus->pool.native_handle();
 }
@@ -198,5 +200,14 @@ void plus_stopper(int)
 {
 	std::error_code code;
 
+	look_before_stop();
 	plus->pool.stop(code);
+}
+
+void plus_resumer(int me)
+{
+	std::error_code code;
+
+	plus_stopper(me);
+	plus->pool.resume(code);
 }

@@ -20,7 +20,6 @@ void pair(int me);
 void batcher(int me);
 void shallow(int me);
 void heir(int me);
-void preparer(int me);
 
 /* loops.c: event loops */
 void listener(int me);
@@ -31,12 +30,20 @@ void switcher(int me);
 void breaker(int me);
 void rejoiner(int me);
 void giver(int me);
+void caller(int me);
+void canceller(int me);
 
 /* futures.c */
 void task(int me);
 void dropper(int me);
+void sharer(int me);
+void shared_dropper(int me);
 void ower(int me);
 void make_futures(void);
+/* Ends the waits of all futures, as the crate does after tags_stop(). */
+void stop_futures(void);
+/* How many futures wait behind the thread's hand. */
+uint32_t futures_behind(uint32_t thread);
 
 /* slots.c: posts, slots and reserved tags */
 void poster(int me);
@@ -55,6 +62,8 @@ void resizer(int me);
 void closer(int me);
 void late_reporter(int me);
 void resumer(int me);
+/* Notes those that wait at some moment before a stop. */
+void look_before_stop(void);
 /* gates */
 void hirer(int me);
 void timed_hirer(int me);
@@ -77,6 +86,7 @@ PLUS void plus_leaver(int me);
 PLUS void plus_joiner(int me);
 PLUS void plus_closer(int me);
 PLUS void plus_stopper(int me);
+PLUS void plus_resumer(int me);
 
 #ifdef __cplusplus
 }

@@ -39,6 +39,20 @@ static bool waits_for_a_thread(uint32_t i)
 	       (scenario->program[i] == taker || scenario->program[i] == mask_taker);
 }
 
+void note_stop(void)
+{
+	for (uint32_t i = 0; i < world->threads; i++)
+		if (is_asleep(&world->thread[i]) && !waits_for_a_thread(i) && !drains(i))
+			world->notes.stopped |= UINT32_C(1) << i;
+}
+
+static void check_stopped(void)
+{
+	for (uint32_t i = 0; i < world->threads; i++)
+		if (is_asleep(&world->thread[i]) && world->notes.stopped >> i & 1)
+			fault("thread %u waits on, and a stop has ended its wait", i);
+}
+
 static uint32_t count_at_gate(bool (*does)(uint32_t thread))
 {
 	uint32_t n = 0;
@@ -80,6 +94,7 @@ void check_quiet(void)
 		fault("%u wait beside a free tag", asleep);
 	if (draining > 0 && count_free() == scenario->tags - scenario->reserved)
 		fault("%u wait for all tags though they are back", draining);
+	check_stopped();
 	check_quiet_bell(asleep, draining);
 	check_quiet_gate(count_at_gate(hires), draining);
 }
@@ -87,7 +102,6 @@ void check_quiet(void)
 /* All hands leave, and the pool is closed. */
 static void close_pool(void)
 {
-	struct tags_counts counts;
 	struct tags_sums sums;
 	uint64_t held = scenario->taken;
 
@@ -97,9 +111,7 @@ static void close_pool(void)
 	check_closed_bell();
 	for (int i = 0; i < MAX_TAGS; i++)
 		held += world->notes.holder[i] != 0;
-	EXPECT(TAGS_OK, tags_pool_wakes(pool, &counts));
-	if (counts.active != 0)
-		fault("%lu hands are in a wait group at the end", (unsigned long)counts.active);
+	EXPECT(0, tags_pool_waiting(pool));
 	EXPECT(TAGS_OK, tags_close(pool, &sums));
 	if (sums.got != sums.back + sums.held + sums.posted || sums.held != held)
 		fault("the sums don't balance: %lu got, %lu back, %lu held, not %lu", (unsigned long)sums.got,

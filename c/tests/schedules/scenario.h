@@ -39,8 +39,6 @@ struct scenario {
 	bool whole;
 	/* with the model: the turns of a get in its first word */
 	uint8_t turns;
-	/* with the model: a tags_library_finish() of each stay may answer TAGS_AGAIN */
-	bool again;
 	/* with the model: the gets of the first hand may be refused from some time on */
 	bool limited;
 	/* takes what the model lacks, so it is explored over the library alone */
@@ -121,6 +119,8 @@ void wait_event(int event);
 void check_state(void);
 void check_quiet(void);
 void check_end(void);
+/* Called before a stop: those that wait now must not wait for ever, also if the pool is resumed at once. */
+void note_stop(void);
 /* Whether a thread waits: it sleeps, or polls an eventfd. */
 bool is_asleep(const struct thread *thread);
 
@@ -140,7 +140,7 @@ void check_idle_place(uint32_t thread);
 bool is_of_hand(const volatile void *address);
 /* Called before each atomic load. */
 void before_load(const volatile void *address);
-/* Whether this thread has the bell's lock. */
+/* Whether this thread has the bell's lock, or that of a hand or of the futures behind it. */
 bool has_lock(int thread);
 const char *name_of(uintptr_t address);
 

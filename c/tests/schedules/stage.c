@@ -130,6 +130,7 @@ bool holds_for_ever(void)
 
 bool goes_on(int me, int round)
 {
+	world->notes.stopped &= ~(UINT32_C(1) << me);
 	return round < scenario->rounds[me] && round < most_rounds && (round == 0 || choose(2) == 0);
 }
 
