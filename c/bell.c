@@ -2,7 +2,7 @@
  * The bell of a pool: it wakes those who wait for a tag when they are told of one.
  *
  * Hands that wait are in two lists: sleepers, threads in tags_get_blocking() or tags_get_timed();
- * and listeners, hands that wait for an eventfd. The lists are words beside those of the tags, and
+ * and listeners, hands that are notified. The lists are words beside those of the tags, and
  * the steps on both are one history, of which crates/tag_bell proves that nobody sleeps beside a
  * free tag unless somebody is on the way to it. Who waits lists itself, then tries each tag. Who
  * makes tags free sees to them: it looks whether anybody is listed, and tells as many as there are
@@ -11,18 +11,23 @@
  *
  * What is C and not proved is how one that was told learns of it. Each hand has a place, with a
  * number that is a futex. Who sleeps loads the number, asks whether it was told, and sleeps while
- * the number is the same. Who tells it changes the number, then wakes it.
+ * the number is the same. Who tells it changes the number, then wakes it. A listener has a notice
+ * in its place, which one of those who tell it takes.
  *
  * And so that a call need not ask the library whether anybody waits, all who do are counted, before
  * they list themselves. Who makes tags free loads the count afterwards. Both are sequentially
  * consistent, as are the steps of the library, so if the count is 0, whoever waits later finds the
  * tags. Nor does it ask while as many sleepers are waking, told and not up yet, as there are tags:
  * each of them tries after the tags became free, and sees to all tags if it has one then.
- * Futures, of which a hand may have any number, are in a list of their own, with a lock.
+ *
+ * Coroutines and futures, of which a hand may have any number, wait behind their hand, in a queue of
+ * their own language: while one of them waits, the hand is listed, or was told and one of them is
+ * about to try.
  */
 #define _GNU_SOURCE
 #include "bell.h"
 
+#include <limits.h>
 #include <stdlib.h>
 #include <sys/syscall.h>
 #include <unistd.h>
@@ -40,7 +45,7 @@ struct bell *tags_library_make_bell(uint32_t hands)
 	syscall(SYS_getpid);
 	bell->hands = hands;
 	for (uint32_t i = 0; i < hands; i++)
-		bell->places[i].descriptor = -1;
+		bell->places[i].notice = TAGS_NO_NOTICE;
 	return bell;
 }
 
@@ -54,24 +59,17 @@ void tags_library_free_bell(struct bell *bell)
  * Hands that wait
  */
 
-int32_t tags_library_enlist(struct tags_hand *hand, bool listens)
+void tags_library_enlist(struct tags_hand *hand, bool listens)
 {
 	struct bell *bell = tags_bell_of(hand->waits);
-	int32_t status;
 
 	tags_add(&bell->listening, listens);
 	tags_add(&bell->waits.waiting, 1);
 	if (hand->place->has_turn)
-		status = tags_library_list_again(hand, listens);
+		tags_library_list_again(hand, listens);
 	else
-		status = tags_library_list_self(hand, listens);
-	if (status == TAGS_OK) {
-		hand->place->has_turn = true;
-	} else {
-		tags_subtract(&bell->waits.waiting, 1);
-		tags_subtract(&bell->listening, listens);
-	}
-	return status;
+		tags_library_list_self(hand, listens);
+	hand->place->has_turn = true;
 }
 
 bool tags_library_strike(struct tags_hand *hand, bool listens)
@@ -107,95 +105,53 @@ static bool notify(int descriptor)
 }
 
 /*
- * Notifies the hand in a place, once, unless its wait has ended. That is done with the lock: once
- * the wait has ended, the program may close the eventfd. Returns whether the hand knows.
+ * Calls a function, which may do anything but be cancelled, such as give a tag back. That is done
+ * without the lock, so whoever ends the wait meanwhile sleeps until the function has returned.
  */
-static bool notify_listener(struct bell *bell, struct tags_place *place)
+static void run(struct tags_place *place, const struct tags_notice *notice)
 {
-	bool knows = true;
+	int state;
 
-	pthread_mutex_lock(&bell->lock);
-	if (place->descriptor >= 0)
-		knows = notify(place->descriptor);
-	place->descriptor = -1;
-	pthread_mutex_unlock(&bell->lock);
-	return knows;
+	pthread_setcancelstate(PTHREAD_CANCEL_DISABLE, &state);
+	notice->function(notice->argument);
+	pthread_setcancelstate(state, &state);
+	if (notice->is_lasting)
+		return;
+	TAGS_DETAIL_SHOWS(TAGS_MAX_TOTAL);
+	tags_store(&place->running, 0);
+	syscall(SYS_futex, &place->running, TAGS_FUTEX_WAKE, INT_MAX, NULL, NULL, 0);
 }
 
-/*
- * Futures: the list, with the lock
- */
-
-/* Returns the first future of the list that began to wait after this turn. */
-static struct tags_waiter *find_later(const struct tags_list *list, uint64_t turn)
-{
-	struct tags_waiter *waiter = list->first;
-
-	if (list->last && list->last->turn < turn)
-		return NULL;
-	while (waiter && waiter->turn < turn)
-		waiter = waiter->next;
-	return waiter;
-}
-
-static void insert(struct bell *bell, struct tags_waiter *waiter)
-{
-	struct tags_list *list = &bell->futures;
-	struct tags_waiter *later = find_later(list, waiter->turn);
-	struct tags_waiter *earlier = later ? later->previous : list->last;
-
-	waiter->next = later;
-	waiter->previous = earlier;
-	*(later ? &later->previous : &list->last) = waiter;
-	*(earlier ? &earlier->next : &list->first) = waiter;
-	tags_add(&list->length, 1);
-	tags_add(&bell->waits.waiting, 1);
-	tags_store(&waiter->state, TAGS_LISTED);
-}
-
-static void take_out(struct bell *bell, struct tags_waiter *waiter, uint32_t state)
-{
-	struct tags_list *list = &bell->futures;
-
-	*(waiter->next ? &waiter->next->previous : &list->last) = waiter->previous;
-	*(waiter->previous ? &waiter->previous->next : &list->first) = waiter->next;
-	tags_subtract(&list->length, 1);
-	tags_subtract(&bell->waits.waiting, 1);
-	tags_store(&waiter->state, state);
-}
-
-/* Tells the first future, without the lock: what others call may do anything, such as give a tag back. */
-static bool tell_first(struct bell *bell)
-{
-	struct tags_waiter *first;
-	void (*tell)(void *whom) = NULL;
-	void *whom = NULL;
-
-	pthread_mutex_lock(&bell->lock);
-	first = bell->futures.first;
-	if (first) {
-		tell = first->tell;
-		whom = first->whom;
-		take_out(bell, first, TAGS_TOLD);
-	}
-	pthread_mutex_unlock(&bell->lock);
-	if (tell)
-		tell(whom);
-	return tell != NULL;
-}
-
-static void tell(struct bell *bell, uint64_t freed)
-{
-	while (freed-- > 0 && tags_load(&bell->futures.length) > 0 && tell_first(bell))
-		;
-}
-
-void tags_library_tell(struct tags_waits *waits, uint64_t freed)
+void tags_library_outwait(const struct tags_place *place)
 {
 	int kept = errno;
 
-	tell(tags_bell_of(waits), freed);
+	while (tags_load(&place->running) > 0)
+		syscall(SYS_futex, &place->running, TAGS_FUTEX_WAIT, 1, NULL, NULL, TAGS_FUTEX_ANY);
+	TAGS_DETAIL_SEES(TAGS_MAX_TOTAL);
 	errno = kept;
+}
+
+/*
+ * Notifies the hand in a place, once, unless its wait has ended. An eventfd is written with the
+ * lock: once the wait has ended, the program may close it. Returns whether the hand knows.
+ */
+static bool notify_listener(struct bell *bell, struct tags_place *place)
+{
+	struct tags_notice notice;
+	bool knows = true;
+
+	pthread_mutex_lock(&bell->lock);
+	notice = place->notice;
+	place->notice = TAGS_NO_NOTICE;
+	if (notice.descriptor >= 0)
+		knows = notify(notice.descriptor);
+	if (notice.function && !notice.is_lasting)
+		tags_store(&place->running, 1);
+	pthread_mutex_unlock(&bell->lock);
+	if (notice.function)
+		run(place, &notice);
+	return knows;
 }
 
 /*
@@ -214,13 +170,13 @@ static bool are_enough_waking(const struct bell *bell)
  * Adds hands that were told. Sleepers are waking from now on: one that wakes by itself before it is
  * rung may wait again and be told again, and is to be rung once then.
  */
-static void note(struct bell *bell, const struct tags_told *told, struct tags_due *due)
+static void note(struct bell *bell, const struct tags_told *told, struct tags_told *due)
 {
 	if (told->sleepers)
 		__atomic_fetch_add(&bell->waking, __builtin_popcountll(told->sleepers),
 				   __ATOMIC_SEQ_CST);
-	due->told.sleepers |= told->sleepers;
-	due->told.listeners |= told->listeners;
+	due->sleepers |= told->sleepers;
+	due->listeners |= told->listeners;
 }
 
 static uint64_t smaller(uint64_t a, uint64_t b)
@@ -229,62 +185,72 @@ static uint64_t smaller(uint64_t a, uint64_t b)
 }
 
 /*
- * A hand that keeps none and gave none back, as by a post, has nothing to see to. One with a cache
- * gives back what it keeps, whoever waits: the library does that if a hand is listed, but futures
- * and drains are in none of its lists, nor for a moment a hand that was told and found no tag. How
- * many futures to tell is not known then.
+ * One with a cache gives back what it keeps, whoever waits: the library does that if a hand is
+ * listed, but drains are in none of its lists, nor for a moment a hand that was told and found no tag.
  */
-void tags_library_see(struct tags_hand *hand, uint64_t freed, struct tags_due *due)
+static void tell(struct tags_hand *hand, uint32_t freed, struct tags_told *due)
 {
 	struct bell *bell = tags_bell_of(hand->waits);
 	struct tags_told told = { 0, 0 };
 
-	if (freed == 0 && !bell->is_cached)
-		return;
-	due->freed += smaller(freed + (bell->is_cached ? TAGS_MAX_CACHE : 0), bell->depth);
-	freed = smaller(freed, bell->depth);
 	if (!bell->is_cached && are_enough_waking(bell))
 		return;
-	tags_library_see_to(hand, (uint32_t)freed, &told);
+	tags_library_see_to(hand, freed, &told);
 	if (bell->is_cached && (told.sleepers | told.listeners) == 0) {
 		tags_library_flush(hand);
-		tags_library_see_to(hand, (uint32_t)freed, &told);
+		tags_library_see_to(hand, freed, &told);
 	}
 	note(bell, &told, due);
 }
 
-bool tags_library_wake(struct tags_waits *waits, const struct tags_due *due)
+/* A hand that keeps none and gave none back, as by a post, has nothing to see to. */
+void tags_library_see(struct tags_hand *hand, uint64_t freed, struct tags_told *due)
+{
+	const struct bell *bell = tags_bell_of(hand->waits);
+
+	if (freed == 0 && !bell->is_cached)
+		return;
+	tell(hand, (uint32_t)smaller(freed, bell->depth), due);
+	tags_library_open_gate(hand->waits);
+}
+
+void tags_library_see_all(struct tags_hand *hand, struct tags_told *due)
+{
+	struct tags_told told = { 0, 0 };
+
+	tags_library_see_to_all(hand, &told);
+	note(tags_bell_of(hand->waits), &told, due);
+	tags_library_open_gate(hand->waits);
+}
+
+bool tags_library_wake(struct tags_waits *waits, const struct tags_told *due)
 {
 	struct bell *bell = tags_bell_of(waits);
 	bool all_know = true;
 	uint64_t left;
 
-	for (left = due->told.sleepers; left; left &= left - 1)
+	for (left = due->sleepers; left; left &= left - 1)
 		wake_sleeper(&bell->places[__builtin_ctzll(left)]);
-	for (left = due->told.listeners; left; left &= left - 1)
+	for (left = due->listeners; left; left &= left - 1)
 		all_know &= notify_listener(bell, &bell->places[__builtin_ctzll(left)]);
-	tell(bell, due->freed);
-	tags_library_open_gate(waits);
 	return all_know;
 }
 
 /* Wakes whom the hand told; and if one of those can't be notified, tells others in its place. */
-static void wake(struct tags_hand *hand, struct tags_due *due)
+static void wake(struct tags_hand *hand, struct tags_told *due)
 {
-	struct tags_told told = { 0, 0 };
 	int kept = errno;
 
 	while (!tags_library_wake(hand->waits, due)) {
-		*due = (struct tags_due){ { 0, 0 }, 0 };
-		tags_library_see_to(hand, 1, &told);
-		note(tags_bell_of(hand->waits), &told, due);
+		*due = (struct tags_told){ 0, 0 };
+		tell(hand, 1, due);
 	}
 	errno = kept;
 }
 
 void tags_library_ring(struct tags_hand *hand, uint64_t freed)
 {
-	struct tags_due due = { { 0, 0 }, 0 };
+	struct tags_told due = { 0, 0 };
 
 	if (tags_load(&hand->waits->waiting) == 0)
 		return;
@@ -294,11 +260,9 @@ void tags_library_ring(struct tags_hand *hand, uint64_t freed)
 
 void tags_library_settle(struct tags_hand *hand)
 {
-	struct tags_told told = { 0, 0 };
-	struct tags_due due = { { 0, 0 }, 0 };
+	struct tags_told due = { 0, 0 };
 
-	tags_library_see_to_all(hand, &told);
-	note(tags_bell_of(hand->waits), &told, &due);
+	tags_library_see_all(hand, &due);
 	wake(hand, &due);
 }
 
@@ -306,90 +270,30 @@ void tags_library_settle(struct tags_hand *hand)
  * Stops
  */
 
+/* The count of stops is odd while waits are stopped. */
+static void set_stopped(struct bell *bell, uint32_t is_stopped)
+{
+	pthread_mutex_lock(&bell->lock);
+	if (tags_load(&bell->waits.stops) % 2 != is_stopped)
+		tags_add(&bell->waits.stops, 1);
+	pthread_mutex_unlock(&bell->lock);
+}
+
 void tags_library_stop(struct tags_waits *waits)
 {
 	struct bell *bell = tags_bell_of(waits);
 	int kept = errno;
 
-	pthread_mutex_lock(&bell->lock);
-	tags_store(&bell->waits.stopped, 1);
-	pthread_mutex_unlock(&bell->lock);
+	set_stopped(bell, true);
 	for (uint32_t i = 0; i < bell->hands; i++) {
 		wake_sleeper(&bell->places[i]);
 		notify_listener(bell, &bell->places[i]);
 	}
-	while (tell_first(bell))
-		;
 	tags_library_open_gate(waits);
 	errno = kept;
 }
 
 void tags_library_resume(struct tags_waits *waits)
 {
-	struct bell *bell = tags_bell_of(waits);
-
-	pthread_mutex_lock(&bell->lock);
-	tags_store(&bell->waits.stopped, 0);
-	pthread_mutex_unlock(&bell->lock);
-}
-
-/*
- * Futures of other languages
- */
-
-size_t tags_library_waiter_size(void)
-{
-	return sizeof(struct tags_waiter);
-}
-
-int32_t tags_library_listen(struct tags_waits *waits, struct tags_waiter *waiter,
-			    void (*call)(void *whom), void *whom)
-{
-	struct bell *bell = tags_bell_of(waits);
-	bool goes_on;
-
-	if (bell->depth == 0)
-		return TAGS_NO_SUCH_TAG;
-	waiter->tell = call;
-	waiter->whom = whom;
-	pthread_mutex_lock(&bell->lock);
-	goes_on = tags_load(&bell->waits.stopped) == 0;
-	if (goes_on) {
-		if (waiter->turn == 0)
-			waiter->turn = ++bell->turns;
-		insert(bell, waiter);
-	}
-	pthread_mutex_unlock(&bell->lock);
-	return goes_on ? TAGS_OK : TAGS_STOPPED;
-}
-
-void *tags_library_renew(struct tags_waits *waits, struct tags_waiter *waiter, void *whom)
-{
-	struct bell *bell = tags_bell_of(waits);
-	void *former = NULL;
-
-	pthread_mutex_lock(&bell->lock);
-	if (waiter->state == TAGS_LISTED) {
-		former = waiter->whom;
-		waiter->whom = whom;
-	} else {
-		tags_store(&waiter->state, TAGS_IDLE);
-	}
-	pthread_mutex_unlock(&bell->lock);
-	return former;
-}
-
-void *tags_library_unlist(struct tags_waits *waits, struct tags_waiter *waiter)
-{
-	struct bell *bell = tags_bell_of(waits);
-	bool was_told;
-
-	pthread_mutex_lock(&bell->lock);
-	was_told = waiter->state == TAGS_TOLD;
-	if (waiter->state == TAGS_LISTED)
-		take_out(bell, waiter, TAGS_IDLE);
-	else
-		tags_store(&waiter->state, TAGS_IDLE);
-	pthread_mutex_unlock(&bell->lock);
-	return was_told ? NULL : waiter->whom;
+	set_stopped(tags_bell_of(waits), false);
 }

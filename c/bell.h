@@ -20,50 +20,35 @@
 enum { TAGS_FUTEX_WAKE = 1 | 128, TAGS_FUTEX_WAIT = 9 | 128, TAGS_FUTEX_REALTIME = 256 };
 #define TAGS_FUTEX_ANY UINT32_MAX
 
+/* How to notify a hand: by an eventfd, or by a function; -1 and NULL if not at all. */
+struct tags_notice {
+	int32_t descriptor;
+	void (*function)(void *argument);
+	void *argument;
+	/* @argument outlives the wait, so whoever ends that does not wait until the function has returned */
+	bool is_lasting;
+};
+#define TAGS_NO_NOTICE (struct tags_notice){ -1, NULL, NULL, false }
+
 /* The place of a hand in the bell. */
 struct tags_place {
 	/* where its thread sleeps: another number whenever the hand is told, or waits are stopped */
 	uint32_t rings;
-	/* with the bell's lock: the eventfd on which to notify the hand, or -1 */
-	int32_t descriptor;
-	/* for the hand alone: it waits for an eventfd; its wait has begun, so that it has a turn */
+	/* 1 while the function of the notice runs */
+	uint32_t running;
+	/* with the bell's lock */
+	struct tags_notice notice;
+	/* for the hand alone: it waits to be notified; its wait has begun, so that it has a turn */
 	bool is_listening;
 	bool has_turn;
+	/* the pool's count of stops when its wait began */
+	uint32_t stops;
 };
 
-/* A future is idle; or it is listed; or it was told of a tag, which removed it from the list. */
-enum { TAGS_IDLE, TAGS_LISTED, TAGS_TOLD };
-
-/* A future of another language. */
-struct tags_waiter {
-	/* changed with the bell's lock */
-	uint32_t state;
-	/* 0, or when its wait began, in waits of the pool's futures */
-	uint64_t turn;
-	struct tags_waiter *next;
-	struct tags_waiter *previous;
-	/* called with @whom, without the lock, after the waiter has been removed */
-	void (*tell)(void *whom);
-	void *whom;
-};
-
-/* Futures in the order of their turns. */
-struct tags_list {
-	uint32_t length;
-	struct tags_waiter *first;
-	struct tags_waiter *last;
-};
-
-/* The hands that a call told of tags: bit i is 1 for the hand in place i. Proved in crates/tag_c. */
+/* Hands that a call told of tags: bit i is 1 for the hand in place i. Proved in crates/tag_c. */
 struct tags_told {
 	uint64_t sleepers;
 	uint64_t listeners;
-};
-
-/* Whom a hand has still to wake: hands that it told, and futures for @freed tags. */
-struct tags_due {
-	struct tags_told told;
-	uint64_t freed;
 };
 
 struct bell {
@@ -74,17 +59,15 @@ struct bell {
 	uint32_t depth;
 	uint32_t reserved;
 	bool is_cached;
-	/* hands that wait for an eventfd */
+	/* hands that wait to be notified */
 	uint32_t listening;
 	/*
 	 * sleepers that were told and have not begun to try again; for a moment one less if a sleeper
 	 * was faster than who told it, so that it can be negative
 	 */
 	int32_t waking;
+	/* of the notices, and of the count of stops */
 	pthread_mutex_t lock;
-	/* the waits of futures that have begun */
-	uint64_t turns;
-	struct tags_list futures;
 	/* one for each hand that the pool can give out, by the hand's number */
 	uint32_t hands;
 	struct tags_place places[];
@@ -115,15 +98,29 @@ static inline struct bell *tags_bell_of(struct tags_waits *waits)
 	return (struct bell *)(void *)((char *)waits - offsetof(struct bell, waits));
 }
 
+/* A hand is about to wait: from now on a stop ends its wait. One that waits already began before. */
+static inline void tags_begin_wait(struct tags_hand *hand)
+{
+	if (!hand->place->has_turn)
+		hand->place->stops = tags_load(&hand->waits->stops);
+}
+
+/* Whether a stop has ended the hand's wait, also if waits were resumed since. */
+static inline bool tags_is_ended(const struct tags_hand *hand)
+{
+	const uint32_t stops = tags_load(&hand->waits->stops);
+
+	return stops % 2 == 1 || stops != hand->place->stops;
+}
+
 /* What no program and no other language calls. */
 #pragma GCC visibility push(hidden)
 
 /*
  * The lists of hands that wait, one of sleepers and one of listeners, by the library. A hand
- * lists itself, with the next turn or again with the one that it had; TAGS_WAITING if it is in a
- * wait group. It gets up, and learns that it was told (1) or not (0). Whoever makes tags free
- * sees to them, and whoever was told and does not need the tag sees to all tags: each fills in
- * whom it told.
+ * lists itself, with the next turn or again with the one that it had. It gets up, and learns that
+ * it was told (1) or not (0). Whoever makes tags free sees to them, and whoever was told and does
+ * not need the tag sees to all tags: each fills in whom it told.
  */
 int32_t tags_library_list_self(struct tags_hand *hand, uint32_t listens);
 int32_t tags_library_list_again(struct tags_hand *hand, uint32_t listens);
@@ -131,31 +128,31 @@ int32_t tags_library_is_told(struct tags_hand *hand, uint32_t listens);
 int32_t tags_library_get_up(struct tags_hand *hand, uint32_t listens);
 int32_t tags_library_see_to(struct tags_hand *hand, uint32_t freed, struct tags_told *told);
 int32_t tags_library_see_to_all(struct tags_hand *hand, struct tags_told *told);
-/* The number of a hand, below that of the pool's hands. */
-int32_t tags_library_number(struct tags_hand *hand);
 
 /* Makes a bell for this many hands, or returns NULL. */
 struct bell *tags_library_make_bell(uint32_t hands);
 void tags_library_free_bell(struct bell *bell);
 
-/* Lists a hand, at its turn if its wait goes on. Returns TAGS_OK, or TAGS_WAITING. */
-int32_t tags_library_enlist(struct tags_hand *hand, bool listens);
+/* Lists a hand, at its turn if its wait goes on. */
+void tags_library_enlist(struct tags_hand *hand, bool listens);
 /* Ends a hand's stay in its list. Returns whether it was told. */
 bool tags_library_strike(struct tags_hand *hand, bool listens);
 /* What a hand does that was told and needs no tag any more: it sees to all tags. */
 void tags_library_settle(struct tags_hand *hand);
-/*
- * Ends a wait that tags_get_async() began, and tells another hand if this one was told.
- * Returns whether it waited.
- */
+/* The same without waking those whom it tells: adds them to @due. */
+void tags_library_see_all(struct tags_hand *hand, struct tags_told *due);
+/* Ends a wait by an eventfd or a function, and settles if the hand was told. Returns whether it waited. */
 bool tags_library_cancel(struct tags_hand *hand);
+
+/* Sleeps until no function runs that notifies the hand in a place. */
+void tags_library_outwait(const struct tags_place *place);
 
 /* Calls that use a pool's handle at once take turns. */
 void tags_library_lock_handle(const struct tags_pool *pool);
 void tags_library_unlock_handle(const struct tags_pool *pool);
-/* Of a pool's handle, with its lock: its bell, or NULL if it has none, and whether it was stopped. */
+/* Of a pool's handle, with its lock: its bell, or NULL if it has none, and its count of stops. */
 struct tags_waits *tags_library_waits_of(const struct tags_pool *pool);
-bool tags_library_is_stopped(const struct tags_pool *pool);
+uint32_t tags_library_count_stops(const struct tags_pool *pool);
 /* Something of a pool came back: who waits at its gate looks again. */
 void tags_library_open_gate(const struct tags_waits *waits);
 
@@ -164,29 +161,26 @@ void tags_library_open_gate(const struct tags_waits *waits);
 #pragma GCC visibility push(default)
 
 /*
- * tags_library_ring() in two parts, for hands behind a lock with which nobody may be told: adds
- * whom to wake to @due; and wakes them. The second one returns whether all could be notified.
+ * tags_library_ring() in two parts, for hands behind a lock with which nobody may be woken: adds
+ * those whom it tells to @due; and wakes them. The second one returns whether all could be notified.
  */
-void tags_library_see(struct tags_hand *hand, uint64_t freed, struct tags_due *due);
-bool tags_library_wake(struct tags_waits *waits, const struct tags_due *due);
-/* Tells as many futures as tags became free, while there are any. */
-void tags_library_tell(struct tags_waits *waits, uint64_t freed);
+void tags_library_see(struct tags_hand *hand, uint64_t freed, struct tags_told *due);
+bool tags_library_wake(struct tags_waits *waits, const struct tags_told *due);
 /* Ends all waits, and lets no other begin; lets them begin again. */
 void tags_library_stop(struct tags_waits *waits);
 void tags_library_resume(struct tags_waits *waits);
 
+/* The number of a hand, below that of the pool's hands. */
+int32_t tags_library_number(struct tags_hand *hand);
 /*
- * Futures of other languages: in memory of their own, of this size, aligned as a pointer and all
- * 0 before the first wait. @tell is called with @whom, and whoever tells a future owns what that
- * points to from then on. tags_library_renew() replaces it, and returns the former one while the
- * future is listed, or NULL once it was told.
+ * The waits of another language's futures, which wait behind their hand. As tags_library_get_notified()
+ * and tags_library_cancel_wait(), for a hand behind a lock: those whom they tell are added to @due, and
+ * they do not wait for a function that runs. It may run after the wait has ended, so @argument
+ * has to last as long as the pool's hands.
  */
-size_t tags_library_waiter_size(void);
-int32_t tags_library_listen(struct tags_waits *waits, struct tags_waiter *waiter,
-			    void (*tell)(void *whom), void *whom);
-void *tags_library_renew(struct tags_waits *waits, struct tags_waiter *waiter, void *whom);
-/* Returns @whom, or NULL if it was told before; then whoever told it relies on a try. */
-void *tags_library_unlist(struct tags_waits *waits, struct tags_waiter *waiter);
+int32_t tags_library_poll(struct tags_hand *hand, void (*function)(void *argument), void *argument,
+			  struct tags_told *due);
+void tags_library_end_poll(struct tags_hand *hand, struct tags_told *due);
 
 #pragma GCC visibility pop
 

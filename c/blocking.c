@@ -75,7 +75,7 @@ static void sleep_until_told(struct tags_hand *hand, const struct limit *limit)
 	pthread_cleanup_push(abandon, hand);
 	do
 		number = tags_load(&hand->place->rings);
-	while (tags_library_is_told(hand, false) == 0 && !tags_detail_is_stopped(hand) &&
+	while (tags_library_is_told(hand, false) == 0 && !tags_is_ended(hand) &&
 	       sleep_in(hand->place, number, limit));
 	pthread_cleanup_pop(0);
 }
@@ -83,11 +83,10 @@ static void sleep_until_told(struct tags_hand *hand, const struct limit *limit)
 /* Returns a tag, or TAGS_NO_TAG after a sleep. @was_told becomes true if the hand was told. */
 static int32_t get_or_sleep(struct tags_hand *hand, const struct limit *limit, bool *was_told)
 {
-	int32_t tag = tags_library_enlist(hand, false);
+	int32_t tag;
 
-	if (tag != TAGS_OK)
-		return tag;
-	tag = tags_detail_is_stopped(hand) ? (int32_t)TAGS_STOPPED : tags_get(hand);
+	tags_library_enlist(hand, false);
+	tag = tags_is_ended(hand) ? (int32_t)TAGS_STOPPED : tags_get(hand);
 	if (tag == TAGS_NO_TAG)
 		sleep_until_told(hand, limit);
 	*was_told = tags_library_strike(hand, false);
@@ -105,6 +104,7 @@ static int32_t wait_for_tag(struct tags_hand *hand, const struct limit *limit)
 		return TAGS_NO_SUCH_TAG;
 	if (hand->place->is_listening)
 		return TAGS_WAITING;
+	tags_begin_wait(hand);
 	do {
 		was_told = false;
 		tag = is_past(limit) ? (int32_t)TAGS_TIMED_OUT :

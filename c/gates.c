@@ -67,12 +67,17 @@ static bool sleep_at(struct gate *gate, uint32_t number, int32_t clock, const st
 	return status != 0 && errno == ETIMEDOUT;
 }
 
-/* Something that a thread waits for: TAGS_AGAIN while it is not so. */
+/* What a look answers while there is nothing yet. */
+enum { NOT_YET = 1 };
+
+/* Something that a thread waits for. */
 struct awaited {
 	int32_t (*look)(const struct awaited *it);
 	struct tags_pool *pool;
 	struct tags_hand *hand;
 	uint32_t flags;
+	/* the pool's count of stops when the wait began */
+	uint32_t stops;
 };
 
 /* Looks again and again, and once more after the limit. */
@@ -88,7 +93,7 @@ static int32_t wait_at(struct gate *gate, const struct awaited *it, int32_t cloc
 		const uint32_t number = tags_load(&gate->number);
 
 		status = it->look(it);
-		if (status != TAGS_AGAIN)
+		if (status != NOT_YET)
 			break;
 		status = TAGS_TIMED_OUT;
 		if (is_late)
@@ -113,20 +118,23 @@ static bool is_sound(int32_t clock, const struct timespec *end)
 static int32_t look_for_hand(const struct awaited *it)
 {
 	const int32_t status = tags_join(it->pool, it->hand, it->flags);
+	uint32_t stops;
 
 	if (status != TAGS_NO_HAND)
 		return status;
-	return tags_library_is_stopped(it->pool) ? TAGS_STOPPED : TAGS_AGAIN;
+	stops = tags_library_count_stops(it->pool);
+	return stops % 2 == 1 || stops != it->stops ? (int32_t)TAGS_STOPPED : (int32_t)NOT_YET;
 }
 
 static int32_t join_until(struct tags_pool *pool, struct tags_hand *hand, uint32_t flags,
 			  int32_t clock, const struct timespec *end)
 {
-	const struct awaited it = { look_for_hand, pool, hand, flags };
+	struct awaited it = { look_for_hand, pool, hand, flags, 0 };
 	const int32_t status = tags_join(pool, hand, flags);
 
 	if (status != TAGS_NO_HAND)
 		return status;
+	it.stops = tags_library_count_stops(pool);
 	return wait_at(gate_of(tags_library_waits_of(pool)), &it, clock, end);
 }
 
@@ -158,7 +166,7 @@ static int32_t look_for_tags(const struct awaited *it)
 		status = tags_pool_show(it->pool, TAGS_RESERVED, &reserved);
 	if (status != TAGS_OK)
 		return status;
-	return ordinary.busy + reserved.busy > 0 ? TAGS_AGAIN : TAGS_OK;
+	return ordinary.busy + reserved.busy > 0 ? (int32_t)NOT_YET : (int32_t)TAGS_OK;
 }
 
 /* The thread sanitizer is told that what was done with each tag is seen from now on. */
@@ -178,7 +186,7 @@ static void end_drain(void *waits)
 /* Whoever gives tags back looks whether anybody waits, and then opens the gate. */
 static int32_t drain_until(struct tags_pool *pool, int32_t clock, const struct timespec *end)
 {
-	const struct awaited it = { look_for_tags, pool, NULL, 0 };
+	const struct awaited it = { look_for_tags, pool, NULL, 0, 0 };
 	struct tags_waits *waits = tags_library_waits_of(pool);
 	int32_t status;
 

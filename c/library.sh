@@ -4,13 +4,14 @@
 # man pages below the prefix.
 # library.sh uninstall PREFIX: removes them.
 # library.sh crate FOLDER: makes a copy of the Rust crate that has what it makes the library of, for `cargo package`.
-# library.sh generate [FOLDER]: proves crates/tag_c and makes generated/, or FOLDER, of it, for x86-64 and 64-bit ARM.
+# library.sh generate [FOLDER]: proves crates/tag_c and makes generated/, or FOLDER, of it, for x86-64 and 64-bit ARM, and for newer
+# processors of each.
 # library.sh dist: makes archives and Debian packages for x86-64 and 64-bit ARM, and those of tagplay, in dist/ beside this file.
 # The crate is taken from generated/, which needs only a C compiler and ar, unless its sources have changed since that was made:
 # then, or with --prove, it is proved and compiled, which needs the kit. TAG_C=FILE takes that static library of the crate instead.
-# CC and AR name other tools than gcc and ar, and CROSS_COMPILE=aarch64-linux-gnu- those of another processor. OUT is another folder
-# than out/. LIBDIR is another folder of libraries than lib, as lib/x86_64-linux-gnu, or an absolute one, and DESTDIR stages an
-# install.
+# CC and AR name other tools than gcc and ar, and CROSS_COMPILE=aarch64-linux-gnu- those of another processor. CC may have flags: with
+# -march=x86-64-v3, -march=armv8.1-a or one that means more the library is for such processors alone. OUT is another folder than out/.
+# LIBDIR is another folder of libraries than lib, as lib/x86_64-linux-gnu, or an absolute one, and DESTDIR stages an install.
 set -euo pipefail
 here=$(cd "$(dirname "$0")" && pwd)
 out=${OUT:-$here/out}
@@ -20,7 +21,7 @@ AR=${AR:-${tools}ar}
 export LC_ALL=C
 
 usage() {
-  sed -n '2,13s/^# //p' "$0" >&2
+  sed -n '2,14s/^# //p' "$0" >&2
   exit 2
 }
 
@@ -36,6 +37,8 @@ fail() {
 # The version of tags.h. Each 0.x has another interface, and so a library of another name.
 version=$(sed -n 's/^#define TAGS_VERSION_MAJOR //p' "$here/tags.h").$(sed -n 's/^#define TAGS_VERSION_MINOR //p' "$here/tags.h")
 soname=libtags.so.$version
+# Beside the shared library: where the loader of glibc looks first on processors that have all of x86-64-v3.
+newer_folder=glibc-hwcaps/x86-64-v3
 
 # Stops unless the first word of each argument is a command.
 need() {
@@ -55,6 +58,26 @@ processor() {
   fail "$1: the library is for x86-64 and 64-bit ARM under Linux"
 }
 
+# The level of generated/ that a compiler and its flags ask for, or nothing for every processor of the kind: the compiler tells by macros
+# what the processors have.
+level() {
+  local macros
+  macros=$("$@" -dM -E -x c /dev/null 2> /dev/null) || :
+  if defines "$macros" __x86_64__ __AVX2__ __BMI__ __BMI2__ __F16C__ __FMA__ __LZCNT__ __MOVBE__; then
+    echo v3
+  elif defines "$macros" __aarch64__ __ARM_FEATURE_ATOMICS; then
+    echo lse
+  fi
+}
+
+# Whether a text defines each of these macros.
+defines() {
+  local it
+  for it in "${@:2}"; do
+    [[ $1 == *"#define $it "* ]] || return
+  done
+}
+
 # The sum of what decides the code of crates, and what a proof says of it: src/, specs/ and the lines of crates.txt.
 sum_of_sources() {
   local crate part
@@ -72,9 +95,10 @@ said() {
   sed -n -e "s/^ \* $1: //p" -e '/^ \*\/$/q' "$2"
 }
 
-# Prints the file of generated/ for a processor, which was not edited. Its status is 3 if the sources have changed since.
+# Prints the file of generated/ for a processor and a level, if one is named, which was not edited. Its status is 3 if the sources have
+# changed since.
 assembly() {
-  local file="$here/generated/tag_c-$1.s" lines
+  local file="$here/generated/tag_c-$1${2:+-$2}.s" lines
   [ -f "$file" ] || fail "there is no $file: c/library.sh generate makes it, with the kit"
   lines=$(sed '1,/^ \*\/$/d' "$file" | sha256sum | cut -d ' ' -f 1)
   [ "$lines" = "$(said 'Lines below' "$file")" ] ||
@@ -87,16 +111,18 @@ assembly() {
   fi
 }
 
-# Prints the file for a target, if it is of the sources as they are.
+# Prints the file for a target and a level, if it is of the sources as they are.
 current_assembly() {
-  local file status=0
-  file=$(assembly "$(processor "$1")") || status=$?
+  local kind file status=0
+  kind=$(processor "$1")
+  file=$(assembly "$kind" "${2:-}") || status=$?
   [ "$status" != 3 ] || fail "the sources of tag_c have changed since $file was made: c/library.sh generate makes it anew, with the kit"
   [ "$status" = 0 ] || exit "$status"
   echo "$file"
 }
 
-# Proves the crate and compiles it for a processor: prints the static library, with the kit's own names.
+# Proves the crate and compiles it for a processor: prints the static library, with the kit's own names. An object for a level, as
+# v3, lies beside it as libtag_c.a.v3.o.
 proved() {
   local cpu=x86-64 name=amd64
   [ "$1" = x86_64 ] || cpu=generic name=arm64
@@ -118,22 +144,43 @@ object_of() {
   "${tools}objcopy" --wildcard --keep-global-symbol='tags_library_*' "$2"
 }
 
-# Takes what is told to, or what is there: sets the crate's static library or its assembly, and what is said of its proof.
+# Makes the object of the crate, of its assembly or of what the kit made.
+make_crate() {
+  if [[ $1 == "$here"/generated/* ]]; then
+    $CC -c "$1" -o "$making/tag_c.o"
+  else
+    object_of "$1" "$making/tag_c.o"
+  fi
+}
+
+# Whether a loader may find a library for newer processors beside the plain one: that of glibc, on x86-64.
+looks_for_newer() {
+  [ "$1" = x86_64 ] && defines "$($CC -dM -E -include features.h -x c /dev/null 2> /dev/null)" __GLIBC__
+}
+
+# Takes what is told to, or what is there: sets the crate's static library or its assembly, that for the loader, and what is said of the
+# proof.
 choose() {
-  local kind status=0
-  library=${TAG_C:-} code='' rests="rests on $library, of which nothing is known here"
-  [ -z "$library" ] || return 0
+  local kind asked status=0
+  code=${TAG_C:-} newer='' rests="rests on $code, of which nothing is known here"
+  [ -z "$code" ] || return 0
   kind=$(processor "$($CC -dumpmachine)")
+  # shellcheck disable=SC2086
+  asked=$(level $CC)
+  [ -n "$asked" ] || ! looks_for_newer "$kind" || newer=v3
   if [ -z "$prove" ]; then
-    code=$(assembly "$kind") || status=$?
+    code=$(assembly "$kind" "$asked") || status=$?
     [ "$status" = 0 ] || [ "$status" = 3 ] || exit "$status"
     [ "$status" = 0 ] || say "the sources of tag_c have changed since $code was made"
   fi
   if [ -n "$prove" ] || [ "$status" = 3 ]; then
-    code='' library=$(proved "$kind")
-    rests="rests on the proof just made: $(cat "$library.verdict")"
+    code=$(proved "$kind")
+    rests="rests on the proof just made: $(cat "$code.verdict")"
+    [ -z "$newer" ] || newer=$code.$newer.o
+    [ -z "$asked" ] || code=$code.$asked.o
   else
     rests="rests on the proof of which generated/$(basename "$code") was made: $(said Proved "$code"), $(said With "$code")"
+    [ -z "$newer" ] || newer=$(current_assembly "$kind-linux" "$newer")
   fi
 }
 
@@ -143,6 +190,12 @@ marks() {
   [[ $($CC -dumpmachine) == x86_64* ]] && $CC $mark -x c -c /dev/null -o /dev/null 2> /dev/null && echo $mark || :
 }
 
+# Links the shared library. It calls its own exports directly, and not through the table by which others find them.
+link_to() {
+  $CC -shared "$making"/*.o -o "$1" -pthread -Wl,-soname,"$soname" -Wl,--version-script="$here/tags.map" -Wl,-Bsymbolic-functions \
+    -Wl,-z,relro,-z,now,-z,defs
+}
+
 build() {
   local file mark
   need "$CC" "$AR" sha256sum
@@ -150,23 +203,26 @@ build() {
   mkdir -p "$out" || fail "$out can't be written: nothing was made"
   making=$(mktemp -d "$out/making.XXXXXX") || fail "$out can't be written: nothing was made"
   trap 'rm -rf "$making"' EXIT
-  if [ -n "$library" ]; then
-    object_of "$library" "$making/tag_c.o"
-  else
-    $CC -c "$code" -o "$making/tag_c.o"
-  fi
+  make_crate "$code"
   mark=$(marks)
   for file in "$here"/*.c; do
     # shellcheck disable=SC2086
     $CC -std=c99 -O2 -fPIC -fno-plt $mark -Wall -Wextra -Wpedantic -c "$file" -o "$making/$(basename "$file" .c).o"
   done
   $AR rcsD "$making/libtags.a" "$making"/*.o
-  # The library calls its own exports directly, and not through the table by which others find them.
-  $CC -shared "$making"/*.o -o "$making/$soname" -pthread -Wl,-soname,"$soname" -Wl,--version-script="$here/tags.map" \
-    -Wl,-Bsymbolic-functions -Wl,-z,relro,-z,now,-z,defs
+  link_to "$making/$soname"
+  if [ -n "$newer" ]; then
+    make_crate "$newer"
+    link_to "$making/newer"
+  fi
   mv "$making/$soname" "$out/$soname"
   mv "$making/libtags.a" "$out/libtags.a"
-  say "made $out/libtags.a and $soname: it $rests"
+  rm -rf "$out/${newer_folder%/*}"
+  if [ -n "$newer" ]; then
+    mkdir -p "$out/$newer_folder"
+    mv "$making/newer" "$out/$newer_folder/$soname"
+  fi
+  say "made $out/libtags.a and $soname${newer:+, and the latter for newer processors}: it $rests"
 }
 
 # Sets the folders of an install as it will be found, and where it is put now.
@@ -183,8 +239,9 @@ folders() {
   include=${DESTDIR:-}$prefix/include
   lib=${DESTDIR:-}$libdir
   man=${DESTDIR:-}$prefix/share/man/man3
+  newer_lib=$lib/$newer_folder
   # The files of an install, and a page for each call.
-  files=("$include/tags.h" "$include/tags.hpp" "$lib/libtags.a" "$lib/$soname" "$lib/pkgconfig/tags.pc"
+  files=("$include/tags.h" "$include/tags.hpp" "$lib/libtags.a" "$lib/$soname" "$newer_lib/$soname" "$lib/pkgconfig/tags.pc"
     "$lib/cmake/tags/tagsConfig.cmake" "$lib/cmake/tags/tagsConfigVersion.cmake")
   pages=("$man/tags.3")
   local call
@@ -214,6 +271,11 @@ filled() {
     -e "s|@RPATH@|$(quoted "$(rpath)")|" -e "s|@INCLUDE@|$(quoted "$to")|" "$1"
 }
 
+# The shared library for newer processors, if it was built.
+put_newer() {
+  [ ! -f "$out/$newer_folder/$soname" ] || { mkdir -p "$newer_lib" && cp "$out/$newer_folder/$soname" "$newer_lib/$soname.new"; }
+}
+
 # Writes the files beside their places, which only then get their names: all of them, or none.
 put() {
   local file
@@ -223,13 +285,18 @@ put() {
     cp "$here/tags.hpp" "$include/tags.hpp.new" &&
     cp "$out/libtags.a" "$lib/libtags.a.new" &&
     cp "$out/$soname" "$lib/$soname.new" &&
+    put_newer &&
     filled "$here/tags.pc.in" > "$lib/pkgconfig/tags.pc.new" &&
     filled "$here/package/tagsConfig.cmake.in" > "$lib/cmake/tags/tagsConfig.cmake.new" &&
     filled "$here/package/tagsConfigVersion.cmake.in" > "$lib/cmake/tags/tagsConfigVersion.cmake.new"; then
+    # A loader would take an older library for newer processors in place of this one.
+    rm -f "$newer_lib/$soname"
     for file in "${files[@]}"; do
+      [ -f "$file.new" ] || continue
       chmod 644 "$file.new"
       mv "$file.new" "$file"
     done
+    [ -f "$newer_lib/$soname" ] || rmdir "$newer_lib" "${newer_lib%/*}" 2> /dev/null || :
     ln -sfn "$soname" "$lib/libtags.so"
   else
     for file in "${files[@]}"; do
@@ -264,16 +331,17 @@ uninstall_from() {
   folders "$1"
   rm -f "${files[@]}" "${pages[@]}" "$lib/libtags.so"
   # Folders that nothing else is in.
-  rmdir "$lib/cmake/tags" "$lib/cmake" "$lib/pkgconfig" "$man" "${man%/*}" 2> /dev/null || :
+  rmdir "$newer_lib" "${newer_lib%/*}" "$lib/cmake/tags" "$lib/cmake" "$lib/pkgconfig" "$man" "${man%/*}" 2> /dev/null || :
 }
 
 prove=
 # The crate takes the files from the checkout around it, and a copy has none.
 copy_crate() {
-  local kind
+  local words
   need tar sha256sum
-  for kind in x86_64 aarch64; do
-    current_assembly "$kind-linux" > /dev/null
+  for words in x86_64-linux 'x86_64-linux v3' aarch64-linux 'aarch64-linux lse'; do
+    # shellcheck disable=SC2086
+    current_assembly $words > /dev/null
   done
   mkdir -p "$1/native" || fail "$1 can't be written: nothing was made"
   tar -C "$here/rust" --exclude=./target --exclude=./.gitignore -cf - . | tar -C "$1" -xf -
@@ -292,8 +360,10 @@ case "$#:${1:-}" in
   2:put) put "$2" ;;
   2:uninstall) uninstall_from "$2" ;;
   2:crate) copy_crate "$2" ;;
-  # For CMake and Cargo: the assembly for a target. For generate.py: the sum of the sources of crates.
-  2:assembly) current_assembly "$2" ;;
+  # For CMake and Cargo: the assembly for a target, and for a level of it. For CMake: the level that a compiler and its flags ask for.
+  # For generate.py: the sum of the sources of crates.
+  2:assembly | 3:assembly) current_assembly "${@:2}" ;;
+  *:level) level "${@:2}" ;;
   *:sum) sum_of_sources "${@:2}" ;;
   *) usage ;;
 esac

@@ -56,21 +56,7 @@ int32_t tags_pool_show(struct tags_pool *pool, uint32_t kind, struct tags_sizes 
 	return tags_detail_filled(status, sizes, sizeof(*sizes));
 }
 
-int32_t tags_pool_wakes(struct tags_pool *pool, struct tags_counts *counts)
-{
-	int32_t status;
-
-	if (!pool || !counts)
-		return TAGS_NULL;
-	tags_library_lock_handle(pool);
-	status = tags_library_pool_wakes(pool, counts);
-	if (status >= 0)
-		counts->waiting = tags_load(&pool->waits->waiting);
-	tags_library_unlock_handle(pool);
-	return tags_detail_filled(status, counts, sizeof(*counts));
-}
-
-/* A number of an open pool, which a resize may change, or a refusal. */
+/* A number of an open pool, which may change meanwhile, or a refusal. */
 static int32_t number_of(struct tags_pool *pool, uint32_t (*number)(const struct bell *bell))
 {
 	int32_t answer = TAGS_BAD_HANDLE;
@@ -92,6 +78,21 @@ static uint32_t total_of(const struct bell *bell)
 static uint32_t batch_of(const struct bell *bell)
 {
 	return bell->waits.batch;
+}
+
+int32_t tags_library_waiting(const struct tags_hand *hand)
+{
+	return hand->place ? (int32_t)tags_load(&hand->waits->waiting) : (int32_t)TAGS_BAD_HANDLE;
+}
+
+static uint32_t waiting_of(const struct bell *bell)
+{
+	return tags_load(&bell->waits.waiting);
+}
+
+int32_t tags_pool_waiting(struct tags_pool *pool)
+{
+	return number_of(pool, waiting_of);
 }
 
 int32_t tags_pool_total(struct tags_pool *pool)

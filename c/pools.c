@@ -240,12 +240,12 @@ struct tags_waits *tags_library_waits_of(const struct tags_pool *pool)
 	return waits;
 }
 
-bool tags_library_is_stopped(const struct tags_pool *pool)
+uint32_t tags_library_count_stops(const struct tags_pool *pool)
 {
-	bool is_stopped;
+	uint32_t stops;
 
 	tags_library_lock_handle(pool);
-	is_stopped = pool->waits && tags_load(&pool->waits->stopped) > 0;
+	stops = pool->waits ? tags_load(&pool->waits->stops) : 0;
 	tags_library_unlock_handle(pool);
-	return is_stopped;
+	return stops;
 }

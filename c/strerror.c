@@ -14,7 +14,6 @@ static const char *const sentences[] = {
 	[-TAGS_WAITING] = "the hand waits already",
 	[-TAGS_NOT_WAITING] = "the hand does not wait",
 	[-TAGS_NO_TAG] = "no tag was found free",
-	[-TAGS_AGAIN] = "other threads changed the wait group meanwhile: try again",
 	[-TAGS_BAD_HANDLE] = "empty, as after a leave, a close, a move, a clear or a post; "
 			     "or a hand in place of a pool, or a pool of a hand",
 	[-TAGS_NOT_EMPTY] = "the handle to be filled is not empty",
@@ -32,8 +31,7 @@ static const char *const sentences[] = {
 	[-TAGS_BAD_HAND_COUNT] = "a pool has from 1 to 64 hands",
 	[-TAGS_NULL] = "a pointer is NULL",
 	[-TAGS_IN_USE] = "tags are held or posted",
-	[-TAGS_HANDS_WAIT] = "hands of the pool are in wait groups",
-	[-TAGS_TIMED_OUT] = "no tag was found free before the deadline",
+	[-TAGS_TIMED_OUT] = "the deadline passed while the call waited",
 	[-TAGS_BAD_TIME] = "the clock is CLOCK_MONOTONIC or CLOCK_REALTIME, "
 			   "and the nanoseconds are from 0 to 999,999,999",
 	[-TAGS_BAD_EVENT] = "the descriptor is below 0",

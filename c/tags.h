@@ -9,24 +9,26 @@
  *
  * The library is proved: under every schedule of the threads no tag and no slot
  * ever has two holders, no call changes what another hand holds, and the sums
- * that tags_close() fills in balance. So are its lists of hands that wait: none sleeps
+ * that tags_close() fills in balance. So are its lists of hands that wait: none waits
  * beside a free tag unless another one is on the way to it. What is C in it is not
- * proved, such as that it makes these calls in order and wakes who was told: it is
- * explored under every schedule of a few threads, and tested.
+ * proved, such as that it makes the calls on these lists in order and wakes who was
+ * told: it is explored under every schedule of a few threads, and tested.
  *
  * Threads
  *   A handle is a struct tags_pool or a struct tags_hand. A hand is in one call at a time.
  *   It may move to another thread, if a mutex, pthread_join() or the like orders the two.
- *   The handle of a pool may be in any number of calls at once, which take turns; but let
- *   tags_stop(), tags_resume() and tags_drain() run beside neither tags_open() nor
- *   tags_close(). A call beside tags_close() finds the pool open, or its handle empty.
- *   Different handles of one pool may be used at once, on any threads. Only
+ *   The handle of a pool may be in any number of calls at once, which take turns where they
+ *   use it; but let tags_stop(), tags_resume(), tags_drain() and tags_drain_timed() run beside
+ *   neither tags_open() nor tags_close(). A call beside tags_close() finds the pool open, or
+ *   its handle empty. Different handles of one pool may be used at once, on any threads. Only
  *   tags_get_blocking(), tags_join_blocking(), tags_drain() and their timed forms sleep until
  *   there is what they wait for. Any other call may wait for a lock, but only while another
- *   call uses a pool's handle or changes the list of those who wait; and a call that
- *   notifies an eventfd blocks on one that is full and not non-blocking. Only tags_open(),
- *   tags_resize() and what joins allocate memory. Make no call from a signal handler, or in
- *   the forked child of a process with threads.
+ *   call uses a pool's handle, or begins, ends or notifies a wait by an eventfd, a function or
+ *   a future of another language; a call that ends a wait by a function waits while that runs,
+ *   see tags_get_notified(); and a call that notifies an eventfd blocks on one that is full
+ *   and not non-blocking. Only tags_open(), tags_resize() and the calls that join allocate
+ *   memory. Make no call from a signal handler, or in the forked child of a process with
+ *   threads.
  *   A program that is compiled with the macro TAGS_CHECKED_HANDS ends, with a sentence, if a
  *   call finds its hand in another call; the thread sanitizer reports that without it.
  *   Only the calls that sleep are cancellation points, and only while they do:
@@ -35,14 +37,14 @@
  *
  * Waiting
  *   A thread sleeps in tags_get_blocking() or tags_get_timed() until it gets a tag; an
- *   event loop is notified by an eventfd, see tags_get_async(). Every call that makes
- *   ordinary tags free looks whether anybody waits, and tells as many as there are
- *   tags for; and whoever was told and needs no tag any more looks for a free one, and
- *   tells another hand if there is one. So nobody waits while a tag is free that no other
- *   thread is about to get. A thread must not sleep for a tag
- *   while it holds those that others wait for, nor be idle while it keeps them (see
- *   Caches). tags_stop() ends all waits. A program that sleeps by means of its own enters
- *   a wait group: see tags_prepare().
+ *   event loop is notified by an eventfd, see tags_get_async(); and a program that sleeps
+ *   by means of its own, by a function, see tags_get_notified(). Every call that makes
+ *   ordinary tags free looks whether anybody waits, and tells as many as there are tags
+ *   for, unless as many threads are waking already; and whoever was told and needs no tag
+ *   any more looks for a free one, and tells another hand if there is one. So nobody waits
+ *   while a tag is free that no other thread is about to get. A thread must not sleep for a
+ *   tag while it holds those that others wait for, nor be idle while it keeps them (see
+ *   Caches). tags_stop() ends all waits.
  *
  * Caches
  *   In a pool with a cache, each hand keeps some of the ordinary tags that it gives
@@ -72,7 +74,7 @@
  *
  * Numbers
  *   A pool has at most 10,240 tags. In its life a hand may take up to 2^48 ordinary
- *   and 2^48 reserved tags, and count up to 2^56 completions.
+ *   and 2^48 reserved tags.
  */
 #ifndef TAGS_H
 #define TAGS_H
@@ -111,7 +113,6 @@ extern "C" {
 #endif
 
 struct timespec;
-struct tags_waiter;
 
 /** enum tags_status - what a call returns if it has neither a tag nor a count to return */
 enum tags_status {
@@ -128,20 +129,18 @@ enum tags_status {
 	TAGS_NOT_HELD = -3,
 	/** the tag is not posted, or another hand took it first */
 	TAGS_NOT_POSTED = -4,
-	/** a batch of 0 tags, a list of more than TAGS_MAX_BATCH, or an empty mask */
+	/** a batch or a list of 0 tags, a list of more than TAGS_MAX_BATCH, or an empty mask */
 	TAGS_BAD_COUNT = -5,
 	/** a depth of 0, or one below the pool's min_shallow */
 	TAGS_TOO_SHALLOW = -6,
 	/** the call could take the hand past its limit, 2^48 tags in its life */
 	TAGS_SPENT = -7,
-	/** the hand is already in a wait group */
+	/** the hand waits already, by an eventfd or a function */
 	TAGS_WAITING = -8,
-	/** the hand is in no wait group */
+	/** the hand does not wait */
 	TAGS_NOT_WAITING = -9,
 	/** no free tag was found: each tag checked was taken at some moment of the call */
 	TAGS_NO_TAG = -10,
-	/** other threads changed the wait group during the call: try again */
-	TAGS_AGAIN = -11,
 	/** the handle is empty, or a hand stands in place of a pool or a pool of a hand */
 	TAGS_BAD_HANDLE = -12,
 	/** the handle to be filled is not empty */
@@ -174,9 +173,7 @@ enum tags_status {
 	TAGS_NULL = -28,
 	/** tags of the pool are held or posted */
 	TAGS_IN_USE = -29,
-	/** hands of the pool are in a wait group */
-	TAGS_HANDS_WAIT = -30,
-	/** no free tag was found before the deadline */
+	/** the deadline has passed, and what the call waits for was not there */
 	TAGS_TIMED_OUT = -31,
 	/** an unknown clock, or nanoseconds outside 0 to 999,999,999 */
 	TAGS_BAD_TIME = -32,
@@ -200,17 +197,15 @@ enum {
 	/** the most tags in one tags_clear_batch() */
 	TAGS_MAX_BATCH = 64,
 	/** the most tags that a hand keeps */
-	TAGS_MAX_CACHE = 64,
-	/** the number of wait groups of a pool */
-	TAGS_GROUPS = 8
+	TAGS_MAX_CACHE = 64
 };
 
 /** struct tags_waits - what a pool and its hands share of who waits; private to the library */
 struct tags_waits {
 	/** @waiting: how many wait, also those that were told and have not got up */
 	uint32_t waiting;
-	/** @stopped: 1 once tags_stop() was called */
-	uint32_t stopped;
+	/** @stops: how often waits were stopped or resumed, so that it is odd while they are stopped */
+	uint32_t stops;
 	/** @batch: the most tags that tags_get_batch() returns */
 	uint32_t batch;
 };
@@ -240,14 +235,6 @@ struct tags_hand {
 	uint32_t mark;
 };
 
-/** struct tags_grants - how many waiters a clear granted a wakeup */
-struct tags_grants {
-	/** @woken: in all */
-	uint32_t woken;
-	/** @in_group: in each wait group */
-	uint8_t in_group[TAGS_GROUPS];
-};
-
 #ifdef __cplusplus
 #define TAGS_EMPTY {}
 #else
@@ -273,7 +260,8 @@ enum tags_option_flags {
 	 * A get starts after the tag that the hand won last. So a tag is reused late,
 	 * though not as late as possible: a tag that was given back is free again once
 	 * its word has no free tag left. After the last tag but one a get starts at
-	 * the first, so the last tag is won only if it is the only one found free.
+	 * the first, so the last tag is mostly won where the others of its word are
+	 * found taken.
 	 */
 	TAGS_ROUND_ROBIN = 1,
 	/** words of one tag each; the shift must be 0 */
@@ -295,8 +283,7 @@ struct tags_options {
 	int32_t shift;
 	/**
 	 * @min_shallow: the least depth that tags_get_shallow() accepts; 0 accepts any
-	 * from 1. Completions are charged in batches of an eighth of the ordinary tags,
-	 * or an eighth of @min_shallow if it is lower and not 0; at least 1, at most 8.
+	 * from 1
 	 */
 	uint32_t min_shallow;
 	/** @hands: number of hands, 1 to TAGS_MAX_HANDS */
@@ -335,20 +322,6 @@ struct tags_sizes {
 	uint32_t words;
 };
 
-/** struct tags_counts - what tags_wakes() reports of completions and waiters */
-struct tags_counts {
-	/** @counted: ordinary tags given back while some hand was in a wait group */
-	uint64_t counted;
-	/** @charged: those charged so far, a batch at a time; at most @counted */
-	uint64_t charged;
-	/** @active: hands in a wait group */
-	uint64_t active;
-	/** @index: the wait group that the next wakeup visits first, below 8 */
-	uint32_t index;
-	/** @waiting: who waits for a tag asleep, by an eventfd or as a future, or for all tags */
-	uint32_t waiting;
-};
-
 /**
  * struct tags_sums - sums over all hands of a pool: got == back + held + posted
  *
@@ -363,14 +336,6 @@ struct tags_sums {
 	uint64_t held;
 	/** @posted: tags that are still posted */
 	uint64_t posted;
-	/** @counted: completions counted: issued <= charged <= counted <= back */
-	uint64_t counted;
-	/** @charged: completions charged, a batch at a time */
-	uint64_t charged;
-	/** @issued: wakeups granted */
-	uint64_t issued;
-	/** @used: granted wakeups that waiters used up */
-	uint64_t used;
 };
 
 /*
@@ -391,15 +356,8 @@ int32_t tags_library_get_batch(struct tags_hand *hand, uint32_t n, uint64_t *won
 			       uint64_t *left);
 int32_t tags_library_clear(struct tags_hand *hand, uint32_t tag);
 int32_t tags_library_clear_batch(struct tags_hand *hand, const uint32_t *tags, size_t count);
-int32_t tags_library_clear_granted(struct tags_hand *hand, uint32_t tag,
-				   struct tags_grants *grants);
-int32_t tags_library_clear_batch_granted(struct tags_hand *hand, const uint32_t *tags,
-					 size_t count, struct tags_grants *grants);
 int32_t tags_library_clear_mask(struct tags_hand *hand, uint32_t first, uint64_t mask);
-int32_t tags_library_clear_mask_granted(struct tags_hand *hand, uint32_t first, uint64_t mask,
-				       struct tags_grants *grants);
 int32_t tags_library_flush(struct tags_hand *hand);
-int32_t tags_library_flush_granted(struct tags_hand *hand, struct tags_grants *grants);
 int32_t tags_library_get_write(struct tags_hand *hand, uint64_t value, uint64_t *left);
 int32_t tags_library_read_clear(struct tags_hand *hand, uint32_t tag, uint64_t *value);
 int32_t tags_library_read(struct tags_hand *hand, uint32_t tag, uint64_t *value);
@@ -409,12 +367,8 @@ int32_t tags_library_take(struct tags_hand *hand, uint32_t tag);
 int32_t tags_library_holds(struct tags_hand *hand, uint32_t tag);
 int32_t tags_library_busy(struct tags_hand *hand, uint64_t *into, size_t words);
 int32_t tags_library_show(struct tags_hand *hand, uint32_t kind, struct tags_sizes *sizes);
-int32_t tags_library_wakes(struct tags_hand *hand, struct tags_counts *counts);
 int32_t tags_library_pool_busy(struct tags_pool *pool, uint64_t *into, size_t words);
 int32_t tags_library_pool_show(struct tags_pool *pool, uint32_t kind, struct tags_sizes *sizes);
-int32_t tags_library_pool_wakes(struct tags_pool *pool, struct tags_counts *counts);
-int32_t tags_library_prepare(struct tags_hand *hand);
-int32_t tags_library_finish(struct tags_hand *hand);
 
 /*
  * What the calls below use of the C part. The first one tells those who wait of @freed tags that
@@ -425,8 +379,10 @@ int32_t tags_library_wait(struct tags_hand *hand);
 int32_t tags_library_get_timed(struct tags_hand *hand, int32_t clock,
 			       const struct timespec *deadline);
 int32_t tags_library_get_async(struct tags_hand *hand, int descriptor);
+int32_t tags_library_get_notified(struct tags_hand *hand, void (*function)(void *argument),
+				  void *argument);
 int32_t tags_library_cancel_wait(struct tags_hand *hand);
-int32_t tags_library_enter(struct tags_hand *hand);
+int32_t tags_library_waiting(const struct tags_hand *hand);
 int32_t tags_library_return_hand(struct tags_hand *hand);
 int32_t tags_library_post_mask(struct tags_hand *hand, uint32_t first, uint64_t mask);
 int32_t tags_library_take_mask(struct tags_hand *hand, uint32_t first, uint64_t mask);
@@ -544,11 +500,6 @@ static inline int32_t tags_detail_told(struct tags_hand *hand, int32_t status, c
 	return tags_detail_end(hand, tags_detail_filled(status, start, size));
 }
 
-static inline int32_t tags_detail_granted(int32_t status, const struct tags_grants *grants)
-{
-	return tags_detail_filled(status, grants, sizeof(*grants));
-}
-
 static inline int32_t tags_detail_won(int32_t tag)
 {
 	if (tag >= 0)
@@ -641,10 +592,16 @@ static inline int32_t tags_detail_must(int32_t status, const char *call)
 	return status;
 }
 
-/* Whether tags_stop() ended the waits of the hand's pool. */
+/* The count of stops of the hand's pool. */
+static inline uint32_t tags_detail_stops(const struct tags_hand *hand)
+{
+	return hand->place ? __atomic_load_n(&hand->waits->stops, __ATOMIC_SEQ_CST) : 0;
+}
+
+/* Whether the waits of the hand's pool are stopped. */
 static inline int tags_detail_is_stopped(const struct tags_hand *hand)
 {
-	return hand->place && __atomic_load_n(&hand->waits->stopped, __ATOMIC_SEQ_CST) > 0;
+	return tags_detail_stops(hand) % 2 == 1;
 }
 
 /*
@@ -654,11 +611,11 @@ static inline int tags_detail_is_stopped(const struct tags_hand *hand)
 /**
  * tags_open() - fill an empty handle with a new pool
  * @pool: an empty handle
- * @options: its options
+ * @options: the options of the pool
  *
  * All tags are free and all slots are 0. The pool allocates its memory here: about
- * 8.6 kB, 83 bytes for each tag, 130 for each word, and for each hand 1.8 kB and 8
- * bytes for each word. tags_join() allocates some 540 bytes more.
+ * 8.3 kB, 80 bytes for each tag, 128 for each word, and for each hand 1.8 kB and 8
+ * bytes for each word. tags_join() allocates 576 bytes more.
  *
  * Return: TAGS_OK. Otherwise the first of TAGS_NOT_EMPTY, TAGS_BAD_FLAG,
  * TAGS_BAD_SHIFT, TAGS_CACHE_TOO_LARGE, TAGS_TOTAL_TOO_LARGE,
@@ -702,7 +659,7 @@ TAGS_DETAIL_ANSWER int32_t tags_join(struct tags_pool *pool, struct tags_hand *h
  * ends the sleep. Sleep for no hand while this thread has one that others wait for.
  *
  * Return: TAGS_OK, or TAGS_STOPPED if it would have to sleep and the pool was stopped.
- * Otherwise as tags_join(), except TAGS_NO_HAND.
+ * Otherwise what tags_join() returns, except TAGS_NO_HAND.
  *
  * Since: 0.3
  */
@@ -717,10 +674,12 @@ TAGS_DETAIL_ANSWER int32_t tags_join_blocking(struct tags_pool *pool, struct tag
  * @clock: CLOCK_MONOTONIC or CLOCK_REALTIME
  * @deadline: when to give up, by that clock
  *
- * If the deadline has passed already, the call tries once or twice.
+ * As tags_join_blocking(), but it gives up at the deadline; if that has passed already, it
+ * tries, and does not sleep.
  *
  * Return: TAGS_OK. Otherwise TAGS_BAD_TIME, which is checked first: another clock, or
- * nanoseconds outside 0 to 999,999,999; TAGS_TIMED_OUT; or as tags_join_blocking().
+ * nanoseconds outside 0 to 999,999,999; TAGS_TIMED_OUT; or what tags_join_blocking()
+ * returns.
  *
  * Since: 0.3
  */
@@ -734,10 +693,11 @@ TAGS_DETAIL_ANSWER int32_t tags_join_timed(struct tags_pool *pool, struct tags_h
  *
  * The hand still holds its tags, and the next thread that joins as this hand can use
  * them. What it keeps in a cache goes back, and those who wait are told of it. If the
- * hand waits by tags_get_async(), that wait ends, as by tags_cancel(). This call does
- * not use the pool's handle, so several threads can leave at once.
+ * hand waits by tags_get_async() or tags_get_notified(), that wait ends, as by
+ * tags_cancel(). This call does not use the pool's handle, so several threads can leave
+ * at once.
  *
- * Return: TAGS_OK, or TAGS_BAD_HANDLE.
+ * Return: TAGS_OK, or TAGS_BAD_HANDLE. TAGS_NO_ROOM should never happen.
  *
  * Since: 0.1
  */
@@ -758,28 +718,29 @@ TAGS_DETAIL_CALL int32_t tags_leave(struct tags_hand *hand)
  * options, so tags_close() returns the sums over the whole life of the pool.
  * Afterwards the threads join again.
  *
- * Threads: a call that uses the pool's handle meanwhile waits for this one.
+ * Threads: a call that uses the pool's handle meanwhile waits for this one, except
+ * tags_stop() and tags_resume(), which go on beside it.
  *
  * Return: TAGS_OK. Otherwise the first of TAGS_BAD_HANDLE, TAGS_TOTAL_TOO_LARGE,
  * TAGS_RESERVED_TOO_LARGE (@total is below the number of reserved tags),
  * TAGS_HANDS_OUT, TAGS_IN_USE (a tag of either kind is held by a hand that left,
- * or posted), TAGS_HANDS_WAIT (a hand left between tags_prepare() and
- * tags_finish()) and TAGS_NO_MEMORY that applies.
+ * or posted) and TAGS_NO_MEMORY that applies. TAGS_HAND_LOST should never happen.
  *
  * Since: 0.1
  */
 TAGS_DETAIL_ANSWER int32_t tags_resize(struct tags_pool *pool, uint32_t total);
 
 /**
- * tags_stop() - end every wait for a tag, now and from now on
+ * tags_stop() - end every wait for a tag or a hand, now and from now on
  * @pool: the pool
  *
- * For a shutdown. Threads that sleep for a tag wake up, and eventfds that hands wait for
- * are notified. From now on tags_get_blocking(), tags_get_timed() and tags_get_async()
- * return TAGS_STOPPED, even while a tag is free. A call that was waiting may still
- * return a tag. All other calls work as before, so that tags are given back and hands
- * leave; then tags_close() finds them. A pool stays stopped, also over a tags_resize(),
- * until tags_resume(). Threads that sleep for a hand wake up, too.
+ * For a shutdown. Threads that sleep for a tag or a hand wake up, and hands that wait by an
+ * eventfd or a function are notified. From now on tags_get_blocking(), tags_get_timed(),
+ * tags_get_async() and tags_get_notified() return TAGS_STOPPED, even while a tag is free, and
+ * tags_join_blocking() and tags_join_timed() where they would have to sleep. A call that was
+ * waiting may still return a tag or a hand. All other calls work as before, so that tags are
+ * given back and hands leave; then tags_close() finds them. A pool stays stopped, also over a
+ * tags_resize(), until tags_resume().
  *
  * Threads: this call may run beside any that uses the pool's handle, except tags_open()
  * and tags_close().
@@ -791,12 +752,14 @@ TAGS_DETAIL_ANSWER int32_t tags_resize(struct tags_pool *pool, uint32_t total);
 int32_t tags_stop(struct tags_pool *pool);
 
 /**
- * tags_resume() - let waits for a tag begin again, after tags_stop()
+ * tags_resume() - let waits begin again, after tags_stop()
  * @pool: the pool
  *
- * Waits that the stop has ended stay ended. One that it has woken, but that has not yet looked,
- * may find the pool resumed and wait on; so resume it once its waits have returned. As
- * tags_stop(), it runs beside any call but tags_open() and tags_close().
+ * A wait that began before the stop ends, with a tag or with TAGS_STOPPED, also if this call
+ * follows at once.
+ *
+ * Threads: this call may run beside any that uses the pool's handle, except tags_open()
+ * and tags_close().
  *
  * Return: TAGS_OK, or TAGS_BAD_HANDLE.
  *
@@ -830,6 +793,12 @@ TAGS_DETAIL_ANSWER int32_t tags_drain(struct tags_pool *pool);
  * @clock: CLOCK_MONOTONIC or CLOCK_REALTIME
  * @deadline: when to give up, by that clock
  *
+ * As tags_drain(), but it gives up at the deadline; if that has passed already, it looks, and
+ * does not sleep.
+ *
+ * Threads: it may run beside any call that uses the pool's handle, except tags_open() and
+ * tags_close().
+ *
  * Return: TAGS_OK. Otherwise TAGS_BAD_TIME, which is checked first: another clock, or
  * nanoseconds outside 0 to 999,999,999; TAGS_TIMED_OUT; or TAGS_BAD_HANDLE.
  *
@@ -846,7 +815,7 @@ TAGS_DETAIL_ANSWER int32_t tags_drain_timed(struct tags_pool *pool, int32_t cloc
  * Threads: a report or a tags_join() beside this call either comes first, or is refused with
  * TAGS_BAD_HANDLE. The handle's memory has to stay until they have returned.
  *
- * Return: TAGS_OK, TAGS_BAD_HANDLE, or TAGS_HANDS_OUT.
+ * Return: TAGS_OK, TAGS_BAD_HANDLE, or TAGS_HANDS_OUT. TAGS_HAND_LOST should never happen.
  *
  * Since: 0.1
  */
@@ -924,7 +893,7 @@ TAGS_DETAIL_CHECKED int32_t tags_get_shallow(struct tags_hand *hand, uint32_t de
 /**
  * tags_get_batch() - take up to @n ordinary tags out of a run of @n
  * @hand: the hand that gets the tags
- * @n: how many, at least 1; more than a word has is as many as it has, see tags_pool_batch()
+ * @n: how many tags, at least 1; if a word has fewer, as many as it has, see tags_pool_batch()
  * @won: filled in with the mask of the tags won, if any
  *
  * If the call returns the tag t, bit i of the mask is 1 if the hand won the tag t + i.
@@ -966,17 +935,14 @@ TAGS_DETAIL_CHECKED int32_t tags_get_batch(struct tags_hand *hand, uint32_t n, u
  * @hand: the hand that holds it
  * @tag: the tag
  *
- * Whoever waits for a tag is told, whether or not this clear completes a batch of
- * completions. A hand with a cache keeps an ordinary tag if it finds nobody waiting, and
- * first gives its kept tags back if there is no room for this one. If it finds somebody
- * waiting, or a hand in a wait group, all kept tags go back with this tag.
+ * Whoever waits for a tag is told. A hand with a cache keeps an ordinary tag if it finds
+ * nobody waiting, and first gives its kept tags back if there is no room for this one. If
+ * it finds somebody waiting, all kept tags go back with this tag.
  *
  * A refusal is a mistake of the program, most often a request that completed twice, so the
  * compiler warns if nobody looks: see TAGS_MUST().
  *
- * Return: how many waiters were granted a wakeup, which is 0 unless some hand
- * is in a wait group. Otherwise TAGS_BAD_HANDLE, TAGS_NO_SUCH_TAG or
- * TAGS_NOT_HELD.
+ * Return: TAGS_OK. Otherwise TAGS_BAD_HANDLE, TAGS_NO_SUCH_TAG or TAGS_NOT_HELD.
  *
  * Since: 0.1
  */
@@ -992,13 +958,13 @@ TAGS_DETAIL_CHECKED int32_t tags_clear(struct tags_hand *hand, uint32_t tag)
  * tags_clear_batch() - give several ordinary tags back
  * @hand: the hand that holds them
  * @tags: the tags, each of them once
- * @count: how many, 1 to TAGS_MAX_BATCH
+ * @count: how many tags the list has, 1 to TAGS_MAX_BATCH
  *
  * Consecutive tags of the list that belong to one word are given back in one
  * step. The tags need not come from one batch.
  *
- * Return: as tags_clear(). Otherwise the first of TAGS_BAD_HANDLE,
- * TAGS_BAD_COUNT, TAGS_NO_SUCH_TAG and TAGS_NOT_HELD that applies to any tag of
+ * Return: TAGS_OK. Otherwise the first of TAGS_BAD_HANDLE, TAGS_BAD_COUNT (the list has
+ * no tag, or too many), TAGS_NO_SUCH_TAG and TAGS_NOT_HELD that applies to any tag of
  * the list; then no tag is given back.
  *
  * Since: 0.1
@@ -1013,53 +979,6 @@ TAGS_DETAIL_CHECKED int32_t tags_clear_batch(struct tags_hand *hand, const uint3
 }
 
 /**
- * tags_clear_granted() - give a held tag back, and report the wakeups granted
- * @hand: the hand that holds it
- * @tag: the tag
- * @grants: filled in with how many waiters were granted a wakeup, in each group
- *
- * For programs that sleep by means of their own between tags_prepare() and tags_finish().
- *
- * Return: as tags_clear().
- *
- * Since: 0.2
- */
-TAGS_DETAIL_CALL int32_t tags_clear_granted(struct tags_hand *hand, uint32_t tag,
-					    struct tags_grants *grants)
-{
-	if (!grants || !tags_detail_begin(hand))
-		return TAGS_NULL;
-	tags_detail_lost(tag);
-	return tags_detail_gave(
-		hand, tags_detail_granted(tags_library_clear_granted(hand, tag, grants), grants),
-		1);
-}
-
-/**
- * tags_clear_batch_granted() - give several ordinary tags back, and report the wakeups granted
- * @hand: the hand that holds them
- * @tags: the tags, each of them once
- * @count: how many, 1 to TAGS_MAX_BATCH
- * @grants: filled in with how many waiters were granted a wakeup, in each group
- *
- * Return: as tags_clear_batch().
- *
- * Since: 0.2
- */
-TAGS_DETAIL_CALL int32_t tags_clear_batch_granted(struct tags_hand *hand, const uint32_t *tags,
-						  size_t count, struct tags_grants *grants)
-{
-	if (!tags || !grants || !tags_detail_begin(hand))
-		return TAGS_NULL;
-	tags_detail_lost_all(tags, count);
-	return tags_detail_gave(
-		hand,
-		tags_detail_granted(tags_library_clear_batch_granted(hand, tags, count, grants),
-				    grants),
-		count);
-}
-
-/**
  * tags_clear_mask() - give the ordinary tags of a mask back
  * @hand: the hand that holds them
  * @first: the tag of bit 0, as tags_get_batch() returned it
@@ -1069,9 +988,9 @@ TAGS_DETAIL_CALL int32_t tags_clear_batch_granted(struct tags_hand *hand, const 
  * step handle all tags of a word. The mask may name any tags, from one batch or not.
  * Tag @first need not be among them, and may be reserved then.
  *
- * Return: as tags_clear(). Otherwise the first of TAGS_BAD_HANDLE, TAGS_BAD_COUNT
- * for an empty mask, TAGS_NO_SUCH_TAG and TAGS_NOT_HELD that applies to any tag of
- * the mask; then no tag is given back.
+ * Return: TAGS_OK. Otherwise the first of TAGS_BAD_HANDLE, TAGS_BAD_COUNT for an empty
+ * mask, TAGS_NO_SUCH_TAG and TAGS_NOT_HELD that applies to any tag of the mask; then no
+ * tag is given back.
  *
  * Since: 0.3
  */
@@ -1084,38 +1003,13 @@ TAGS_DETAIL_CHECKED int32_t tags_clear_mask(struct tags_hand *hand, uint32_t fir
 }
 
 /**
- * tags_clear_mask_granted() - give the ordinary tags of a mask back, and report the wakeups granted
- * @hand: the hand that holds them
- * @first: the tag of bit 0
- * @mask: bit i is 1 if the tag @first + i is given back
- * @grants: filled in with how many waiters were granted a wakeup, in each group
- *
- * Return: as tags_clear_mask().
- *
- * Since: 0.3
- */
-TAGS_DETAIL_CALL int32_t tags_clear_mask_granted(struct tags_hand *hand, uint32_t first,
-						 uint64_t mask, struct tags_grants *grants)
-{
-	if (!grants || !tags_detail_begin(hand))
-		return TAGS_NULL;
-	tags_detail_lost_mask(first, mask);
-	return tags_detail_gave_mask(
-		hand,
-		tags_detail_granted(tags_library_clear_mask_granted(hand, first, mask, grants),
-				    grants),
-		mask);
-}
-
-/**
  * tags_flush() - give all kept tags back
  * @hand: a hand of a pool with or without a cache
  *
  * Call it before a thread that keeps tags goes idle, or sleeps elsewhere. Those who wait
  * are told. The tags that the hand holds stay held.
  *
- * Return: how many waiters were granted a wakeup, which is 0 if nothing was kept.
- * Otherwise TAGS_BAD_HANDLE.
+ * Return: TAGS_OK or TAGS_BAD_HANDLE.
  *
  * Since: 0.2
  */
@@ -1124,23 +1018,6 @@ TAGS_DETAIL_CALL int32_t tags_flush(struct tags_hand *hand)
 	if (!tags_detail_begin(hand))
 		return TAGS_NULL;
 	return tags_detail_gave(hand, tags_library_flush(hand), 0);
-}
-
-/**
- * tags_flush_granted() - give all kept tags back, and report the wakeups granted
- * @hand: a hand of a pool with or without a cache
- * @grants: filled in with how many waiters were granted a wakeup, in each group
- *
- * Return: as tags_flush().
- *
- * Since: 0.2
- */
-TAGS_DETAIL_CALL int32_t tags_flush_granted(struct tags_hand *hand, struct tags_grants *grants)
-{
-	if (!grants || !tags_detail_begin(hand))
-		return TAGS_NULL;
-	return tags_detail_gave(
-		hand, tags_detail_granted(tags_library_flush_granted(hand, grants), grants), 0);
 }
 
 /*
@@ -1284,7 +1161,8 @@ TAGS_DETAIL_CHECKED int32_t tags_take(struct tags_hand *hand, uint32_t tag)
  * name tags of either set, from one batch or not. Tag @first need not be among them.
  *
  * Return: TAGS_OK. Otherwise the first of TAGS_BAD_HANDLE, TAGS_BAD_COUNT for an empty mask,
- * TAGS_NO_SUCH_TAG and TAGS_NOT_HELD that applies to any tag of the mask; then no tag is posted.
+ * TAGS_NO_SUCH_TAG for a tag out of range, and TAGS_NOT_HELD that applies to any tag of the mask;
+ * then no tag is posted.
  *
  * Since: 0.3
  */
@@ -1309,7 +1187,8 @@ TAGS_DETAIL_CHECKED int32_t tags_post_mask(struct tags_hand *hand, uint32_t firs
  * posted by different calls and hands, each alone or with others.
  *
  * Return: TAGS_OK. Otherwise the first of TAGS_BAD_HANDLE, TAGS_BAD_COUNT for an empty mask,
- * TAGS_NO_SUCH_TAG and TAGS_NOT_POSTED that applies to any tag of the mask; then no tag is taken.
+ * TAGS_NO_SUCH_TAG for a tag out of range, and TAGS_NOT_POSTED that applies to any tag of the mask;
+ * then no tag is taken.
  *
  * Since: 0.3
  */
@@ -1378,24 +1257,21 @@ TAGS_DETAIL_CALL int32_t tags_show(struct tags_hand *hand, uint32_t kind, struct
 }
 
 /**
- * tags_wakes() - report the counts of completions and of waiters
+ * tags_waiting() - how many wait in the hand's pool
  * @hand: a hand of the pool
- * @counts: filled in
  *
- * Return: TAGS_OK or TAGS_BAD_HANDLE.
+ * Those who wait for a tag, also those that were told and have not tried again yet: hands, or in
+ * their place each of their futures of another language; and those who sleep until all tags are back.
  *
- * Since: 0.1
+ * Return: the number, or TAGS_BAD_HANDLE.
+ *
+ * Since: 0.3
  */
-TAGS_DETAIL_CALL int32_t tags_wakes(struct tags_hand *hand, struct tags_counts *counts)
+TAGS_DETAIL_CALL int32_t tags_waiting(struct tags_hand *hand)
 {
-	int32_t status;
-
-	if (!counts || !tags_detail_begin(hand))
+	if (!tags_detail_begin(hand))
 		return TAGS_NULL;
-	status = tags_library_wakes(hand, counts);
-	if (status >= 0)
-		counts->waiting = __atomic_load_n(&hand->waits->waiting, __ATOMIC_SEQ_CST);
-	return tags_detail_told(hand, status, counts, sizeof(*counts));
+	return tags_detail_end(hand, tags_library_waiting(hand));
 }
 
 /*
@@ -1459,17 +1335,16 @@ int32_t tags_pool_each_busy(struct tags_pool *pool, int (*function)(uint32_t tag
 int32_t tags_pool_show(struct tags_pool *pool, uint32_t kind, struct tags_sizes *sizes);
 
 /**
- * tags_pool_wakes() - report the counts of completions and of waiters of a pool, without a hand
+ * tags_pool_waiting() - how many wait in a pool, without a hand
  * @pool: the pool
- * @counts: filled in; @charged is at most @counted, and @index is below 8
  *
- * As tags_wakes(), at any time, also while all hands are out or another thread resizes the pool.
+ * As tags_waiting(), at any time, also while all hands are out or another thread resizes the pool.
  *
- * Return: TAGS_OK or TAGS_BAD_HANDLE.
+ * Return: the number, or TAGS_BAD_HANDLE.
  *
  * Since: 0.3
  */
-int32_t tags_pool_wakes(struct tags_pool *pool, struct tags_counts *counts);
+int32_t tags_pool_waiting(struct tags_pool *pool);
 
 /**
  * tags_pool_total() - how many tags a pool has
@@ -1498,9 +1373,11 @@ int32_t tags_pool_batch(struct tags_pool *pool);
 /*
  * Waiting for an ordinary tag. Whoever makes tags free tells those who wait, as many as
  * there are tags for: each tag tells one of the threads that sleep and one of the hands
- * that wait for an eventfd, each time the one that has waited longest. One that was told,
- * and then has a tag or gives up, tells another one if it sees that a tag is free. What is
- * proved of this, and what is only explored and tested, is in c/README.md.
+ * that are notified, by an eventfd or a function, each time the one that has waited longest.
+ * (Where only threads sleep, and as many of them are waking as there are tags, no other is
+ * woken: each of those tries after the tag became free.) One that was told, and then has a
+ * tag or gives up, tells another one if it sees that a tag is free. What is proved of this,
+ * and what is only explored and tested, is in c/README.md.
  */
 
 /**
@@ -1513,7 +1390,7 @@ int32_t tags_pool_batch(struct tags_pool *pool);
  *
  * Return: the tag. Otherwise TAGS_BAD_HANDLE, TAGS_SPENT, TAGS_NO_SUCH_TAG if
  * the pool has no ordinary tag, TAGS_WAITING if the hand would have to wait
- * but is already in a wait group, or TAGS_STOPPED.
+ * but waits already, by an eventfd or a function, or TAGS_STOPPED.
  *
  * Since: 0.1
  */
@@ -1538,12 +1415,13 @@ TAGS_DETAIL_CHECKED int32_t tags_get_blocking(struct tags_hand *hand)
  * @clock: CLOCK_MONOTONIC or CLOCK_REALTIME
  * @deadline: when to give up, by that clock
  *
- * If the deadline has passed already, the call tries once. A hand that timed out is in
- * no wait group, and a tag that it was told of goes to another thread. While it sleeps
- * it is a cancellation point, as tags_get_blocking() is.
+ * If the deadline has passed already, the call tries once. A hand that timed out waits no
+ * more, and a tag that it was told of goes to another thread. While it sleeps it is a
+ * cancellation point, as tags_get_blocking() is.
  *
  * Return: the tag. Otherwise TAGS_BAD_TIME, which is checked first: another clock, or
- * nanoseconds outside 0 to 999,999,999; TAGS_TIMED_OUT; or as tags_get_blocking().
+ * nanoseconds outside 0 to 999,999,999; TAGS_TIMED_OUT; or what tags_get_blocking()
+ * returns.
  *
  * Since: 0.2
  */
@@ -1574,9 +1452,9 @@ TAGS_DETAIL_CHECKED int32_t tags_get_timed(struct tags_hand *hand, int32_t clock
  * Make it non-blocking, so that no thread that gives a tag back can block on it. If it was
  * closed while the hand waits, the next hand is notified in its place.
  *
- * Return: the tag, or TAGS_NO_TAG. Otherwise, with the hand not waiting: TAGS_BAD_HANDLE,
- * TAGS_BAD_EVENT, TAGS_STOPPED, TAGS_SPENT, TAGS_NO_SUCH_TAG if the pool has no
- * ordinary tag, or TAGS_WAITING if tags_prepare() put it in a wait group.
+ * Return: the tag, or TAGS_NO_TAG. Otherwise TAGS_BAD_HANDLE, TAGS_BAD_EVENT, TAGS_STOPPED,
+ * TAGS_SPENT, or TAGS_NO_SUCH_TAG if the pool has no ordinary tag; then the hand does not
+ * wait, but after TAGS_BAD_EVENT, which changes nothing.
  *
  * Since: 0.2
  */
@@ -1588,7 +1466,41 @@ TAGS_DETAIL_CHECKED int32_t tags_get_async(struct tags_hand *hand, int descripto
 }
 
 /**
- * tags_cancel() - end a wait that tags_get_async() began
+ * tags_get_notified() - take a free ordinary tag, or have a function called when to try again
+ * @hand: the hand that gets the tag
+ * @function: called with @argument, once, when a tag is free for the hand
+ * @argument: what the function gets, which may be NULL
+ *
+ * For a program that sleeps by means of its own, such as a semaphore or the queue of a
+ * scheduler. It is as tags_get_async(), with a call of the function in place of the eventfd:
+ * TAGS_NO_TAG means that the hand now waits, with the same turns. Once the function was
+ * called, repeat this call soon, until it returns something else; or end the wait by
+ * tags_cancel() or tags_leave(). The repeated call may name another function, or be
+ * tags_get_async().
+ *
+ * The function is called in the call that makes a tag free, which may be a get, or in
+ * tags_stop(), on whatever thread makes it, without a lock. So let it return soon. It may use
+ * any hand that is in no call, except @hand: have another thread, or a later call, try again.
+ *
+ * Once the wait has ended, or the call was repeated, the function that was named before
+ * neither runs nor is called. So @argument may be freed then. For that, these calls wait until
+ * a function that already runs on another thread has returned: hold no lock that it takes.
+ *
+ * Return: the tag, or TAGS_NO_TAG. Otherwise TAGS_BAD_HANDLE, TAGS_STOPPED, TAGS_SPENT, or
+ * TAGS_NO_SUCH_TAG if the pool has no ordinary tag; then the hand does not wait.
+ *
+ * Since: 0.3
+ */
+TAGS_DETAIL_CHECKED int32_t tags_get_notified(struct tags_hand *hand,
+					      void (*function)(void *argument), void *argument)
+{
+	if (!function || !tags_detail_begin(hand))
+		return TAGS_NULL;
+	return tags_detail_end(hand, tags_library_get_notified(hand, function, argument));
+}
+
+/**
+ * tags_cancel() - end a wait that tags_get_async() or tags_get_notified() began
  * @hand: the hand that waits
  *
  * If the hand was notified of a tag, and a tag is free, another hand that waits is told of it.
@@ -1602,49 +1514,6 @@ TAGS_DETAIL_CALL int32_t tags_cancel(struct tags_hand *hand)
 	if (!tags_detail_begin(hand))
 		return TAGS_NULL;
 	return tags_detail_end(hand, tags_library_cancel_wait(hand));
-}
-
-/*
- * Waiting by other means
- */
-
-/**
- * tags_prepare() - enter a wait group, for callers that sleep by other means
- * @hand: the hand that waits
- *
- * From now on each clear of an ordinary tag is counted as a completion. Try
- * tags_get() once more before you sleep: a clear just before may not have been
- * counted. What the hand keeps in a cache goes back first, and those who wait are told.
- * A get can make tags free too, and grants no wakeup for them. So limit your sleep, which
- * nothing else may end although a tag is free. Waits by tags_get_blocking() and
- * tags_get_async() are told of such tags.
- *
- * Return: the group, below 8. Otherwise TAGS_BAD_HANDLE or TAGS_WAITING.
- *
- * Since: 0.1
- */
-TAGS_DETAIL_CHECKED int32_t tags_prepare(struct tags_hand *hand)
-{
-	if (!tags_detail_begin(hand))
-		return TAGS_NULL;
-	return tags_detail_gave(hand, tags_library_enter(hand), 0);
-}
-
-/**
- * tags_finish() - leave the wait group
- * @hand: the hand that waits
- *
- * Return: 1 if the group had a granted wakeup, which this call uses up, and 0 if not.
- * TAGS_AGAIN if other threads changed the group meanwhile: repeat the call. Otherwise
- * TAGS_BAD_HANDLE or TAGS_NOT_WAITING.
- *
- * Since: 0.1
- */
-TAGS_DETAIL_CALL int32_t tags_finish(struct tags_hand *hand)
-{
-	if (!tags_detail_begin(hand))
-		return TAGS_NULL;
-	return tags_detail_end(hand, tags_library_finish(hand));
 }
 
 /*

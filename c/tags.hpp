@@ -28,7 +28,7 @@
  *   Pools, hands, tags and batches can be moved, and not copied. A hand can be moved while its
  *   tags are out. The destructor of a hand returns it to its pool, with the tags that were
  *   released: it still holds those when it joins again. So that no tag is lost unnoticed, the
- *   destructor of a hand that still has tag, batch, wait or listener objects calls
+ *   destructor of a hand that still has tag, batch or listener objects calls
  *   std::terminate(), after a line on stderr; leave() refuses instead. If a pool is destroyed
  *   before its hands it stays open until the last of them is. Only close() returns the totals:
  *   a pool that was not closed is closed by its destructor, with any tags that are still
@@ -36,9 +36,9 @@
  *
  * Threads
  *   Any thread may call any function of a pool at any time, except that nobody else may use a
- *   pool that is moved, closed or destroyed. A hand, with its tags, batches, waits and
- *   listeners, is used by one thread at a time. It may pass to another thread if a mutex, the
- *   start of a thread or the like orders the two.
+ *   pool that is moved, closed or destroyed. A hand, with its tags, batches and listeners, is
+ *   used by one thread at a time. It may pass to another thread if a mutex, the start of a
+ *   thread or the like orders the two.
  *
  * Cancellation
  *   What sleeps is a cancellation point while it does: get_blocking(), join_blocking(), drain()
@@ -102,7 +102,6 @@ enum class errc : std::int32_t {
 	waiting = TAGS_WAITING,
 	not_waiting = TAGS_NOT_WAITING,
 	no_tag = TAGS_NO_TAG,
-	again = TAGS_AGAIN,
 	bad_handle = TAGS_BAD_HANDLE,
 	not_empty = TAGS_NOT_EMPTY,
 	no_hand = TAGS_NO_HAND,
@@ -119,7 +118,6 @@ enum class errc : std::int32_t {
 	bad_hand_count = TAGS_BAD_HAND_COUNT,
 	null = TAGS_NULL,
 	in_use = TAGS_IN_USE,
-	hands_wait = TAGS_HANDS_WAIT,
 	timed_out = TAGS_TIMED_OUT,
 	bad_time = TAGS_BAD_TIME,
 	bad_event = TAGS_BAD_EVENT,
@@ -264,10 +262,9 @@ struct joined {
 
 	tags_hand handle = TAGS_EMPTY;
 	opened *pool = nullptr;
-	/// The listener and the waits that point to it.
-	std::uint32_t users = 0;
+	/// Whether there is a listener that points to it.
 	bool has_listener = false;
-	/// Whether it waits by hand::get_async().
+	/// Whether it waits by hand::get_async() or hand::get_notified().
 	bool is_async = false;
 	/// A bit for each tag that the hand holds and for which there is no object.
 	std::uint64_t loose[words] = {};
@@ -583,8 +580,6 @@ enum class kind : std::uint32_t {
 using totals = ::tags_sums;
 /// The sizes of a set of tags.
 using sizes = ::tags_sizes;
-/// Counts of completions and of waiters.
-using counts = ::tags_counts;
 
 /*
  * Tags
@@ -968,51 +963,6 @@ private:
 	numbers numbers_;
 };
 
-/// A hand's stay in a wait group, for programs that sleep by means of their own, or empty. Its
-/// destructor leaves the group. Destroy it before its hand.
-class [[nodiscard]] wait {
-public:
-	wait() noexcept = default;
-
-	wait(wait &&other) noexcept : hand_(std::exchange(other.hand_, nullptr)) {}
-
-	/// Leaves the group that this object is in first, if it is in one.
-	wait &operator=(wait &&other) noexcept
-	{
-		if (this != &other) {
-			finish();
-			hand_ = std::exchange(other.hand_, nullptr);
-		}
-		return *this;
-	}
-
-	~wait() { finish(); }
-
-	/// Whether the hand is in the group.
-	explicit operator bool() const noexcept { return hand_ != nullptr; }
-
-	/// Leaves the group, if the hand is in it. Returns whether the group had a granted wakeup,
-	/// which this call uses up.
-	bool finish() noexcept
-	{
-		if (hand_ == nullptr)
-			return false;
-		detail::joined *const hand = std::exchange(hand_, nullptr);
-		hand->users--;
-		std::int32_t answer = TAGS_AGAIN;
-		while (answer == TAGS_AGAIN)
-			answer = tags_finish(&hand->handle);
-		return answer == 1;
-	}
-
-private:
-	friend class hand;
-
-	explicit wait(detail::joined *hand) noexcept : hand_(hand) { hand_->users++; }
-
-	detail::joined *hand_ = nullptr;
-};
-
 /*
  * Hands
  */
@@ -1035,8 +985,9 @@ public:
 		return *this;
 	}
 
-	/// Calls std::terminate() if there still is a tag, batch, wait or listener of the hand. To
-	/// see that, it looks at each busy tag of the pool. A wait by get_async() ends.
+	/// Calls std::terminate() if there still is a tag, batch or listener of the hand. To see
+	/// that, it looks at each busy tag of the pool. A wait by get_async() or get_notified()
+	/// ends.
 	~hand() { end(); }
 
 	/// Whether it has joined.
@@ -1050,7 +1001,7 @@ public:
 	/// Returns the hand to its pool, as the destructor does. The object is empty then.
 	///
 	/// Errors: bad_handle; in_use if there still is a tag or batch of the hand; waiting if
-	/// there is a wait or listener.
+	/// there is a listener.
 	void leave() { detail::check(try_leave()); }
 
 	/// Takes a free ordinary tag. No tag: each was found taken at some moment of the call, not
@@ -1109,7 +1060,7 @@ public:
 	/// cancellation point.
 	///
 	/// Errors: bad_handle, spent, stopped; no_such_tag if the pool has no ordinary tag; waiting
-	/// if it would have to sleep and the hand waits already, by a wait, get_async() or a
+	/// if it would have to sleep and the hand waits already, by get_async(), get_notified() or a
 	/// listener.
 	tag get_blocking()
 	{
@@ -1151,30 +1102,33 @@ public:
 	/// end the wait by cancel(); the hand's destructor ends it, too. Afterwards nothing is
 	/// written to the eventfd. Make it non-blocking. A listener does all this for coroutines.
 	///
-	/// Errors, after which the hand does not wait: bad_handle, spent, stopped; bad_event for a
-	/// descriptor below 0; no_such_tag if the pool has no ordinary tag; waiting if the hand has
-	/// a wait or a listener.
+	/// Errors, after which the hand does not wait: bad_handle, spent, stopped; no_such_tag if the
+	/// pool has no ordinary tag. Errors that change nothing: bad_event for a descriptor below 0;
+	/// waiting if the hand has a listener.
 	[[nodiscard]] std::optional<tag> get_async(int eventfd)
 	{
 		return found(state_, async(eventfd));
 	}
 
-	/// Ends a wait that get_async() began. If the hand was notified of a tag, and a tag is free,
-	/// another hand that waits is told of it.
+	/// The same with a function of the program's in place of the eventfd: it is called with the
+	/// argument, once, when to try again. That is done in the call that gives a tag back, or in
+	/// pool::stop(), on whatever thread makes it. So let it return soon, throw nothing, and use
+	/// any hand but this one: have another thread, or a later call, repeat this one. Afterwards,
+	/// and once the wait has ended, the function that was named before neither runs nor is called:
+	/// until then that call waits.
 	///
-	/// Errors: bad_handle, not_waiting; waiting if the hand has a wait or a listener.
-	void cancel() { detail::check(try_cancel()); }
-
-	/// Enters a wait group, for programs that sleep by means of their own. Try get() once more
-	/// before you sleep, and sleep for a limited time: see tags_prepare(). What the hand keeps
-	/// goes back first.
-	///
-	/// Errors: bad_handle, waiting.
-	wait prepare()
+	/// Errors: as of get_async(), except bad_event; bad_handle, by which nothing changes, for a null
+	/// function, too.
+	[[nodiscard]] std::optional<tag> get_notified(void (*function)(void *argument), void *argument)
 	{
-		detail::check(tags_prepare(raw()));
-		return wait(state_);
+		return found(state_, notified(function, argument));
 	}
+
+	/// Ends a wait that get_async() or get_notified() began. If the hand was notified of a tag,
+	/// and a tag is free, another hand that waits is told of it.
+	///
+	/// Errors: bad_handle, not_waiting; waiting if the hand has a listener.
+	void cancel() { detail::check(try_cancel()); }
 
 	/// Takes a tag that a hand of this pool has posted, with its slot. Whatever was written
 	/// before the post is seen after this call.
@@ -1259,14 +1213,15 @@ public:
 		return made;
 	}
 
-	/// Reports the counts of completions and of waiters.
+	/// How many wait in the pool: for a tag, with those that were told and have not tried again
+	/// yet, or asleep until all tags are back.
 	///
 	/// Errors: bad_handle.
-	counts wakes()
+	std::uint32_t waiting()
 	{
-		counts made = {};
-		detail::check(tags_wakes(raw(), &made));
-		return made;
+		const std::int32_t answer = tags_waiting(raw());
+		detail::check(answer);
+		return static_cast<std::uint32_t>(answer);
 	}
 #endif
 
@@ -1327,14 +1282,13 @@ public:
 		return found(state_, async(eventfd), ec);
 	}
 
-	void cancel(std::error_code &ec) noexcept { detail::note(try_cancel(), ec); }
-
-	wait prepare(std::error_code &ec) noexcept
+	[[nodiscard]] std::optional<tag> get_notified(void (*function)(void *argument), void *argument,
+						      std::error_code &ec) noexcept
 	{
-		const std::int32_t status = tags_prepare(raw());
-		detail::note(status, ec);
-		return status < 0 ? wait() : wait(state_);
+		return found(state_, notified(function, argument), ec);
 	}
+
+	void cancel(std::error_code &ec) noexcept { detail::note(try_cancel(), ec); }
 
 	tag take(std::uint32_t number, std::error_code &ec) noexcept
 	{
@@ -1386,11 +1340,11 @@ public:
 		return made;
 	}
 
-	counts wakes(std::error_code &ec) noexcept
+	std::uint32_t waiting(std::error_code &ec) noexcept
 	{
-		counts made = {};
-		detail::note(tags_wakes(raw(), &made), ec);
-		return made;
+		const std::int32_t answer = tags_waiting(raw());
+		detail::note(answer, ec);
+		return answer < 0 ? 0 : static_cast<std::uint32_t>(answer);
 	}
 
 private:
@@ -1405,8 +1359,8 @@ private:
 	{
 		if (state_ == nullptr)
 			return;
-		if (state_->users > 0)
-			detail::give_up("a hand was destroyed before its wait or listener");
+		if (state_->has_listener)
+			detail::give_up("a hand was destroyed before its listener");
 		if (state_->has_objects())
 			detail::give_up("a hand was destroyed before its tags");
 		std::exchange(state_, nullptr)->leave();
@@ -1416,7 +1370,7 @@ private:
 	{
 		if (state_ == nullptr)
 			return TAGS_BAD_HANDLE;
-		if (state_->users > 0)
+		if (state_->has_listener)
 			return TAGS_WAITING;
 		if (state_->has_objects())
 			return TAGS_IN_USE;
@@ -1424,22 +1378,38 @@ private:
 		return TAGS_OK;
 	}
 
+	/// Notes whether the hand waits after this call. A refusal of what the call was given changes
+	/// nothing.
+	std::int32_t noted(std::int32_t answer) noexcept
+	{
+		if (answer != TAGS_NULL && answer != TAGS_BAD_EVENT)
+			state_->is_async = answer == TAGS_NO_TAG;
+		return answer;
+	}
+
 	std::int32_t async(int eventfd) noexcept
 	{
 		if (state_ == nullptr)
 			return TAGS_BAD_HANDLE;
-		if (state_->users > 0)
+		if (state_->has_listener)
 			return TAGS_WAITING;
-		const std::int32_t answer = tags_get_async(raw(), eventfd);
-		state_->is_async = answer == TAGS_NO_TAG;
-		return answer;
+		return noted(tags_get_async(raw(), eventfd));
+	}
+
+	std::int32_t notified(void (*function)(void *argument), void *argument) noexcept
+	{
+		if (state_ == nullptr)
+			return TAGS_BAD_HANDLE;
+		if (state_->has_listener)
+			return TAGS_WAITING;
+		return noted(tags_get_notified(raw(), function, argument));
 	}
 
 	std::int32_t try_cancel() noexcept
 	{
 		if (state_ == nullptr)
 			return TAGS_BAD_HANDLE;
-		if (state_->users > 0)
+		if (state_->has_listener)
 			return TAGS_WAITING;
 		state_->is_async = false;
 		return tags_cancel(raw());
@@ -1672,15 +1642,15 @@ public:
 	/// below the number of reserved tags; in_use if a tag is still held or posted.
 	void resize(std::uint32_t total) { detail::check(try_resize(total)); }
 
-	/// Ends every wait for a tag, now and from now on, as for a shutdown. Who waits is woken,
-	/// and refused with stopped; so is who begins to wait, even while a tag is free. A call
-	/// that was waiting may still return a tag. All other calls work as before.
+	/// Ends every wait for a tag or a hand, now and from now on, as for a shutdown. Who waits is
+	/// woken, and refused with stopped; so is who begins to wait, even while a tag is free. A
+	/// call that was waiting may still return a tag or a hand. All other calls work as before.
 	///
 	/// Errors: bad_handle.
 	void stop() { detail::check(try_stop()); }
 
-	/// Lets waits for a tag begin again after stop(). Waits that it has ended stay ended. One that it has woken, but that
-	/// has not yet looked, may find the pool resumed and wait on.
+	/// Lets waits begin again after stop(). A wait that began before the stop ends, also if this
+	/// call follows at once.
 	///
 	/// Errors: bad_handle.
 	void resume() { detail::check(tags_resume(raw())); }
@@ -1726,14 +1696,14 @@ public:
 		return made;
 	}
 
-	/// Reports the counts of completions and of waiters, without a hand.
+	/// How many wait, as hand::waiting() tells, without a hand.
 	///
 	/// Errors: bad_handle.
-	counts wakes() const
+	std::uint32_t waiting() const
 	{
-		counts made = {};
-		detail::check(tags_pool_wakes(raw(), &made));
-		return made;
+		const std::int32_t answer = tags_pool_waiting(raw());
+		detail::check(answer);
+		return counted(answer);
 	}
 
 	/// Closes the pool once all hands have left, and returns its totals: how many tags were
@@ -1845,11 +1815,11 @@ public:
 		return made;
 	}
 
-	counts wakes(std::error_code &ec) const noexcept
+	std::uint32_t waiting(std::error_code &ec) const noexcept
 	{
-		counts made = {};
-		detail::note(tags_pool_wakes(raw(), &made), ec);
-		return made;
+		const std::int32_t answer = tags_pool_waiting(raw());
+		detail::note(answer, ec);
+		return counted(answer);
 	}
 
 	totals close(std::error_code &ec) noexcept
@@ -2243,8 +2213,8 @@ struct limit {
 /// it after the listener.
 ///
 /// A hand waits for one listener at a time, since it has one place among those who wait: while it
-/// has a listener, or waits by hand::get_async(), each get() of another one is refused with
-/// waiting. Make a listener for each hand; several may share an eventfd.
+/// has a listener, or waits by hand::get_async() or hand::get_notified(), each get() of another one
+/// is refused with waiting. Make a listener for each hand; several may share an eventfd.
 ///
 /// A listener is used by one thread at a time, as its hand is, and coroutines are resumed on the
 /// thread that calls resume(). A coroutine that is destroyed while it waits waits no more: if it
@@ -2289,8 +2259,9 @@ public:
 		/// Tries, unless others wait already.
 		bool await_ready() noexcept
 		{
+			stops_ = listener_->count_stops();
 			if (listener_->waiting_.is_alone())
-				set(listener_->try_or_wait());
+				set(listener_->try_or_wait(*this));
 			if (answer_ == TAGS_NO_TAG && limit_.is_over()) {
 				answer_ = TAGS_TIMED_OUT;
 				listener_->end_wait();
@@ -2342,6 +2313,8 @@ public:
 		}
 
 		listener *listener_;
+		/// The pool's count of stops when the wait began.
+		std::uint32_t stops_ = 0;
 		detail::limit limit_;
 		std::coroutine_handle<> coroutine_;
 #ifdef __cpp_lib_jthread
@@ -2388,7 +2361,8 @@ public:
 	};
 
 	/// The coroutines wait with this hand, and the eventfd is notified. If the hand has a
-	/// listener already, or waits by hand::get_async(), each get() is refused with waiting.
+	/// listener already, or waits by hand::get_async() or hand::get_notified(), each get() is
+	/// refused with waiting.
 	listener(hand &with, int eventfd) noexcept
 		: hand_(with.state_), eventfd_(eventfd),
 		  is_second_(hand_ != nullptr && (hand_->has_listener || hand_->is_async))
@@ -2396,14 +2370,13 @@ public:
 		if (hand_ == nullptr || is_second_)
 			return;
 		hand_->has_listener = true;
-		hand_->users++;
 	}
 
 	listener(const listener &) = delete;
 	listener &operator=(const listener &) = delete;
 
-	/// Whether each get() is refused with waiting, because the hand waited for another listener
-	/// or by hand::get_async() when this one was made.
+	/// Whether each get() is refused with waiting, because the hand waited for another listener,
+	/// or by hand::get_async() or hand::get_notified(), when this one was made.
 	bool is_refused() const noexcept { return is_second_; }
 
 	~listener()
@@ -2413,15 +2386,14 @@ public:
 		if (hand_ == nullptr || is_second_)
 			return;
 		hand_->has_listener = false;
-		hand_->users--;
 	}
 
 #ifdef TAGS_THROWS
 	/// Takes a free ordinary tag when it is awaited, and suspends the coroutine while there is
 	/// none or others wait already.
 	///
-	/// Errors: as of hand::get_async(), except waiting: if the hand waits by prepare(), or had
-	/// another listener or waited by get_async() when this one was made.
+	/// Errors: as of hand::get_async(), except waiting: if the hand had another listener, or
+	/// waited by get_async() or get_notified(), when this one was made.
 	///
 	/// With a std::stop_token the tag is empty if a stop was requested, on whichever thread,
 	/// before there was one: the request notifies the eventfd, and the coroutine goes on by the
@@ -2518,10 +2490,10 @@ public:
 		// All of them are taken out first, so that whatever a coroutine does, the hand
 		// waits if and only if one of the others still does.
 		while (!waiting_.is_alone()) {
-			const std::int32_t answer = try_or_wait();
+			waiter &first = static_cast<waiter &>(*waiting_.next);
+			const std::int32_t answer = try_again(first);
 			if (answer == TAGS_NO_TAG)
 				break;
-			waiter &first = static_cast<waiter &>(*waiting_.next);
 			first.set(answer);
 			first.take_out();
 			first.put_before(ready_);
@@ -2535,9 +2507,35 @@ public:
 	}
 
 private:
-	std::int32_t try_or_wait() noexcept
+	std::uint32_t count_stops() const noexcept
 	{
-		return is_second_ ? TAGS_WAITING : tags_get_async(detail::raw(hand_), eventfd_);
+		return hand_ != nullptr ? tags_detail_stops(detail::raw(hand_)) : 0;
+	}
+
+	bool is_stopped(const waiter &it) const noexcept
+	{
+		const std::uint32_t stops = count_stops();
+		return stops % 2 == 1 || stops != it.stops_;
+	}
+
+	/// Tries for the first that waits. If a stop has ended the hand's wait and not its own, as
+	/// that began after a resume, the hand begins another one.
+	std::int32_t try_or_wait(const waiter &first) noexcept
+	{
+		std::int32_t answer;
+		do
+			answer = is_second_ ? TAGS_WAITING : tags_get_async(detail::raw(hand_), eventfd_);
+		while (answer == TAGS_STOPPED && !is_stopped(first));
+		return answer;
+	}
+
+	/// The same, if the hand may have begun another wait since a stop that ends the first one's.
+	std::int32_t try_again(const waiter &first) noexcept
+	{
+		if (!is_stopped(first))
+			return try_or_wait(first);
+		tags_cancel(detail::raw(hand_));
+		return TAGS_STOPPED;
 	}
 
 	/// Takes out those whose limit has passed.

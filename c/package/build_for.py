@@ -4,8 +4,9 @@
 TARGET is x86_64-unknown-linux-gnu or aarch64-unknown-linux-gnu. A proof is the same for each processor, so nothing is proved again
 that `rt lib` or `rt run` has kept; what they have not is proved here, in the crates below too. It says how far it is and what the
 verdict is; all that the kit prints is in FILE.log, which is named if this fails. Beside FILE it writes FILE.verdict, the line in which
-the toolchain says what it proved, and for a static library FILE.s, its assembly. Nothing is done where FILE was made of the same
-sources by the same kit.
+the toolchain says what it proved, and for a static library FILE.s, its assembly; and of the same module FILE.LEVEL.o and
+FILE.LEVEL.s, an object and its assembly for each level above CPU. Nothing is done where FILE was made of the same sources by the same
+kit.
 """
 import os
 import re
@@ -16,23 +17,34 @@ sys.path.insert(0, os.path.dirname(os.path.abspath(__file__)))
 sys.dont_write_bytecode = True
 
 import kit  # noqa: E402
+from packing import PROCESSORS  # noqa: E402
 
 ROOT = os.path.dirname(os.path.dirname(os.path.dirname(os.path.abspath(__file__))))
 
-# In place of the toolchain's clang: it makes an object as that does, and then the assembly of the same module in the same way.
+# In place of the toolchain's clang: it does what that is asked for, and then makes more files of a module that becomes an object, in
+# the same way but for the kind of file, its name and a flag.
 CLANG = """#!/bin/sh
 '{clang}' "$@" || exit
-before=
-for it; do
-  shift
-  case "$before $it" in
-    -o\\ *) set -- "$@" '{assembly}' ;;
-    *\\ -c) set -- "$@" -S ;;
-    *) set -- "$@" "$it" ;;
-  esac
-  before=$it
-done
-exec '{clang}' "$@"
+more() {{
+  kind=$1 file=$2 flag=$3
+  shift 3
+  before=
+  for it; do
+    shift
+    case "$before $it" in
+      -o\\ *) set -- "$@" "$file" ;;
+      *\\ -c) set -- "$@" "$kind" ;;
+      *) set -- "$@" "$it" ;;
+    esac
+    before=$it
+  done
+  '{clang}' "$@" $flag || exit
+}}
+case " $* " in
+  *" -c "*) ;;
+  *) exit ;;
+esac
+{more}
 """
 
 
@@ -73,8 +85,17 @@ def write(file, text):
         opened.write(text)
 
 
-def toolchain_into(folder, toolchain, assembly):
-    """A toolchain of links to the kit's own, whose clang writes the assembly too."""
+def levels_of(target):
+    """Those above every processor of the kind."""
+    return next(it.newer for it in PROCESSORS if it.triple == target)
+
+
+def toolchain_into(folder, toolchain, target, made):
+    """A toolchain of links to the kit's own, whose clang writes the assembly too, and both for newer processors."""
+    wanted = [("-S", f"{made}.s", "")]
+    for level in levels_of(target):
+        wanted += [(kind, f"{made}.{level.name}.{end}", f"-march={level.march}") for kind, end in {"-c": "o", "-S": "s"}.items()]
+    more = "\n".join(f"more {kind} '{file}' '{flag}' \"$@\"" for kind, file, flag in wanted)
     os.mkdir(f"{folder}/bin")
     for name in os.listdir(toolchain):
         if name != "bin":
@@ -82,7 +103,7 @@ def toolchain_into(folder, toolchain, assembly):
     for name in os.listdir(f"{toolchain}/bin"):
         if name != "clang":
             os.symlink(f"{toolchain}/bin/{name}", f"{folder}/bin/{name}")
-    write(f"{folder}/bin/clang", CLANG.format(clang=f"{toolchain}/bin/clang", assembly=assembly))
+    write(f"{folder}/bin/clang", CLANG.format(clang=f"{toolchain}/bin/clang", more=more))
     os.chmod(f"{folder}/bin/clang", 0o755)
     return folder
 
@@ -93,7 +114,7 @@ def build(rtlib, crate, target, cpu, made):
     compiled = f"{made}.o" if crate.is_program else made
     toolchain = f"{rtlib.KIT}/toolchain"
     with tempfile.TemporaryDirectory() as folder:
-        used = toolchain if crate.is_program else toolchain_into(folder, toolchain, f"{made}.s")
+        used = toolchain if crate.is_program else toolchain_into(folder, toolchain, target, made)
         words = [*crate.words([]), "--target", target, "--cpu", cpu, "--toolchain", used]
         status = crate.call(rtlib.RATTLE, "build", *words, *rtlib.KEPT, "-o", compiled)
     if status or not crate.is_program:
@@ -122,7 +143,8 @@ def main():
     name, target, cpu, made = *sys.argv[1:4], os.path.abspath(sys.argv[4])
     rtlib = kit.load()
     crate = next(it for it in rtlib.crates_below(ROOT) if it.name == name)
-    stamp = f"{crate.stamp()} {target} {cpu} {rtlib.sum_of(__file__)} "
+    levels = " ".join(it.march for it in levels_of(target))
+    stamp = f"{crate.stamp()} {target} {cpu} {levels} {rtlib.sum_of(__file__)} "
     if os.path.exists(made) and read(f"{made}.stamp") == stamp + rtlib.sum_of(made):
         return 0
     os.makedirs(os.path.dirname(made), exist_ok=True)

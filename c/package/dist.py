@@ -35,9 +35,15 @@ def build(processor):
     assembly = ran(f"{C}/library.sh", "assembly", processor.gnu).strip()
     known = {**os.environ, "OUT": f"{processor.made}/out", "CROSS_COMPILE": processor.tools}
     subprocess.run([f"{C}/library.sh", "build"], check=True, env=known)
-    subprocess.run([processor.tool("strip"), "--strip-unneeded", f"{processor.made}/out/{SONAME}"], check=True)
+    subprocess.run([processor.tool("strip"), "--strip-unneeded", *shared(processor)], check=True)
     head = dict(re.findall(r"^ \* ([A-Z][a-z ]+): (.*)$", read(assembly).partition("*/")[0], re.M))
     return head["Proved"], head["With"]
+
+
+def shared(processor):
+    """The shared library, for every processor of the kind and for newer ones."""
+    folders = ["", *(f"{it.folder}/" for it in processor.newer if it.folder)]
+    return [f"{processor.made}/out/{it}{SONAME}" for it in folders]
 
 
 def put(processor, folder, prefix, libdir):
@@ -68,17 +74,16 @@ def make_packages(processor, proved, work):
     """The shared library, as libtags0.3, and libtags-dev, as Debian names them."""
     runtime, dev = f"{work}/{RUNTIME}", f"{work}/libtags-dev"
     lib = put(processor, dev, "/usr", f"lib/{processor.gnu}")
-    os.makedirs(f"{runtime}/usr/lib/{processor.gnu}")
-    for name in os.listdir(lib):
-        if name.startswith(SONAME):
-            os.rename(f"{lib}/{name}", f"{runtime}/usr/lib/{processor.gnu}/{name}")
+    for file in shared(processor):
+        name = os.path.relpath(file, f"{processor.made}/out")
+        os.renames(f"{lib}/{name}", f"{runtime}/usr/lib/{processor.gnu}/{name}")
     put_manual(f"{dev}/usr/share/man/man3")
     put_crate(f"{dev}/usr/share/tags/rust")
     for name in EXAMPLES:
         copy(f"{C}/examples/{name}", f"{dev}/usr/share/doc/libtags-dev/examples/{name}")
     put_documents(f"{runtime}/usr/share/doc/{RUNTIME}", RUNTIME, processor, proved)
     put_documents(f"{dev}/usr/share/doc/libtags-dev", "libtags-dev", processor, proved)
-    libc = least_libc(processor, f"{processor.made}/out/{SONAME}")
+    libc = least_libc(processor, *shared(processor))
     scripts = {"shlibs": f"libtags {version()} {RUNTIME} (>= {version()})\n", "triggers": "activate-noawait ldconfig\n"}
     same = {"Multi-Arch": "same"}
     package(

@@ -1,10 +1,12 @@
 #!/usr/bin/env python3
-"""generate.py [FOLDER]: makes c/generated, or FOLDER: the crate tag_c as assembly, for each of the two processors.
+"""generate.py [FOLDER]: makes c/generated, or FOLDER: the crate tag_c as assembly, for each of the two processors and for the newer
+ones of each kind.
 
-It is what the kit's clang makes of the crate once it is proved, in a form that every assembler takes: without comments, and with plain
-names in place of quoted ones. For x86-64 it is marked as fit for shadow stacks. The exports get the names by which tags.h calls them, and so do the three functions by which the crate
-allocates; no other name is visible outside. The first lines of a file say what it is, and have the sums by which c/library.sh knows
-whether it was edited and whether the sources are still those that it was made of. The same sources and kit give the same bytes.
+It is what the kit's clang makes of the crate once it is proved, of one module for all processors of a kind, in a form that every
+assembler takes: without comments, and with plain names in place of quoted ones. For x86-64 it is marked as fit for shadow stacks. The
+exports get the names by which tags.h calls them, and so do the three functions by which the crate allocates; no other name is visible
+outside. The first lines of a file say what it is, and have the sums by which c/library.sh knows whether it was edited and whether the
+sources are still those that it was made of. The same sources and kit give the same bytes.
 """
 import hashlib
 import os
@@ -109,14 +111,17 @@ def body_of(assembly, mark):
     return "\n".join([*lines, ""])
 
 
-def file_of(processor, made):
-    """The whole file, of what build_for.py made."""
+def file_of(processor, level, made):
+    """The whole file for a level, or for every processor of the kind, of what build_for.py made."""
     crates = [*crates_below("tag_c"), "tag_c"]
-    body = body_of(read(f"{made}.s"), COMMENT[processor.name]) + MARKS.get(processor.name, "")
+    body = body_of(read(f"{made}.{level.name}.s" if level else f"{made}.s"), COMMENT[processor.name]) + MARKS.get(processor.name, "")
+    if level and level.directive:
+        body = f"\t{level.directive}\n{body}"
     sources = ran(f"{C}/library.sh", "sum", *crates).strip()
     lines = hashlib.sha256(body.encode()).hexdigest()
     verdict = read(f"{made}.verdict").strip()
-    head = HEAD.format(kind=processor.kind, verdict=verdict, logic=kit.logic(), crates=" ".join(crates), sources=sources, lines=lines)
+    kind = (level or processor).kind
+    head = HEAD.format(kind=kind, verdict=verdict, logic=kit.logic(), crates=" ".join(crates), sources=sources, lines=lines)
     return head + body
 
 
@@ -125,8 +130,9 @@ def main():
     for it in PROCESSORS:
         made = f"{OUT}/kit/{it.name}/libtag_c.a"
         subprocess.run([f"{HERE}/build_for.py", "tag_c", it.triple, it.cpu, made], check=True, stdout=sys.stderr)
-        write(f"{folder}/tag_c-{it.gnu.split('-')[0]}.s", file_of(it, made))
-        print(f"generate.py: made {folder}/tag_c-{it.gnu.split('-')[0]}.s", file=sys.stderr)
+        for level in (None, *it.newer):
+            write(f"{folder}/{it.assembly(level)}", file_of(it, level, made))
+            print(f"generate.py: made {folder}/{it.assembly(level)}", file=sys.stderr)
 
 
 if __name__ == "__main__":

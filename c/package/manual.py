@@ -3,12 +3,14 @@
 
 What tags.h says of a call is the page: its summary, its paragraphs, its parameters, and the parts that begin with a word and a colon
 (Threads, Return, Since), with what the comment above its part of the header says of all calls there. Each status that it may return
-is explained as the header's enum does, and the example is the shortest function of EXAMPLES that makes the call. Types, macros and
-constants are in tags.3. The date is SOURCE_DATE_EPOCH, or today.
+is explained: as the call's own text does, if that says when it comes (TAGS_X if .., TAGS_X for .., TAGS_X (..)), and otherwise as the
+header's enum does. The example is the shortest function of EXAMPLES that makes the call. Types, macros and constants are in tags.3.
+The date is SOURCE_DATE_EPOCH, or today.
 """
 import os
 import re
 import sys
+import textwrap
 import time
 
 C = os.path.dirname(os.path.dirname(os.path.abspath(__file__)))
@@ -28,7 +30,12 @@ CONSTANTS = re.compile(r"^enum \{\n(.*?)^\};", re.M | re.S)
 PRIVATE = re.compile(r"TAGS_H$|TAGS_DETAIL_")
 MEMBER = re.compile(r"/\*\*(.*?)\*/\s*([^;,/]+?)\s*[;,]?\s*$", re.M | re.S)
 PART = re.compile(r"^(Threads|Return|Since): ")
-SECTIONS = ["DESCRIPTION", "RETURN VALUE", "ERRORS", "HISTORY", "EXAMPLES", "SEE ALSO"]
+SECTIONS = ["NAME", "SYNOPSIS", "DESCRIPTION", "RETURN VALUE", "ERRORS", "NOTES", "HISTORY", "EXAMPLES", "SEE ALSO"]
+# Verbs that begin a summary, or go on in it behind "and" or "or".
+VERBS = "fill change end let sleep close take give read write offer report call describe return empty be have".split()
+THIRD = {"empty": "empties", "be": "is", "have": "has"}
+# When a call returns a status, as its own text says.
+WHEN = re.compile(r"(TAGS_\w+) (?:(?:if|for) (.*?)(?=,? (?:or|and) TAGS_|, TAGS_|[;.])|\((?!of )(.*?)\))")
 
 
 def unstarred(comment):
@@ -68,6 +75,17 @@ def prototype(text):
     yield line
 
 
+def third(verb):
+    return THIRD.get(verb, f"{verb}s")
+
+
+def told(summary):
+    """A summary as what a call does: it takes a tag, or tells how many there are."""
+    if not re.match(rf"({'|'.join(VERBS)}) ", summary):
+        return f"{'tells' if summary.startswith('whether') else 'returns'} {summary}"
+    return re.sub(rf"(^|,? (?:and|or) )({'|'.join(VERBS)}) ", lambda it: f"{it[1]}{third(it[2])} ", summary)
+
+
 class Call:
     """A call of the header: what is said of it, and what it stands among."""
 
@@ -86,16 +104,48 @@ class Call:
         """What it returns, and where that is as another call returns, what that is."""
         said = self.parts["Return"]
         other = re.match(r"as (tags_\w+)\(\)\.", said)
-        return f"{said[: other.end() - 1]}: {calls[other[1]].returns(calls)} {said[other.end() :]}".strip() if other else said
+        return f"what {other[1]}() returns: {calls[other[1]].returns(calls)} {said[other.end() :]}".strip() if other else said
+
+    def pointers(self):
+        """The parameters that may not be NULL."""
+        found = [name for name, meaning in self.parameters if "NULL" not in meaning]
+        return [it for it in found if re.search(rf"\*{it}\b", self.prototype)]
 
     def errors(self, calls, meanings):
-        """The statuses below 0 that it may return, in order."""
-        said = self.parts["Return"]
-        for other in re.findall(r"\b(?:as|as from) (tags_\w+)\(\)", said):
-            said += " " + " ".join(calls[other].errors(calls, meanings))
-        found = ["TAGS_NULL"] if "*" in self.prototype and self.name != "tags_strerror" else []
+        """The statuses below 0 that it may return, in order, with what each means."""
+        said = re.sub(r"\s+", " ", self.parts["Return"])
+        *others, last = [f"@{it}" for it in self.pointers()] or [""]
+        found = {"TAGS_NULL": f"{', '.join(others)}{' or ' if others else ''}{last} is NULL"} if last else {}
+        own = {it[1]: it[2] or it[3] for it in WHEN.finditer(said)}
         never = re.findall(r"\bexcept (TAGS_\w+)", said)
-        return [*dict.fromkeys(found + [it for it in re.findall(r"TAGS_\w+", said) if it in meanings and it not in never])]
+        for it in re.findall(r"TAGS_\w+|\b(?:as|as from|what) tags_\w+(?=\(\))", said):
+            if it in meanings:
+                found.setdefault(it, own.get(it) or self.meaning(it, meanings))
+            elif not it.startswith("TAGS_"):
+                for name, meaning in calls[it.split()[-1]].errors(calls, meanings).items():
+                    found.setdefault(name, own.get(name) or meaning)
+        return {name: meaning for name, meaning in found.items() if name not in never}
+
+    def meaning(self, status, meanings):
+        """What a status means, of what the header says of it in all calls."""
+        names = [name for name, _ in self.parameters]
+        if status == "TAGS_BAD_HANDLE":
+            own, other = ("pool", "hand") if "pool" in names else ("hand", "pool")
+            return f"@{own} is empty, or the handle of a {other}"
+        if status == "TAGS_NOT_EMPTY":
+            return f"@{'hand' if 'hand' in names else 'pool'} is not empty"
+        if status == "TAGS_NO_SUCH_TAG":
+            return "@tag is out of range" if "tag" in names else meanings[status].partition(";")[0]
+        return meanings[status]
+
+    def threads(self):
+        """Which calls may run at once, as tags.h says of all of them."""
+        kinds = {kind for kind in ("pool", "hand") if f"struct tags_{kind} *" in self.prototype}
+        if kinds == {"hand"}:
+            return "A hand may be in one call at a time; different hands may be used at once, on any threads. See Threads in tags(3)."
+        if kinds:
+            return "The handle of a pool may be in any number of calls at once. See Threads in tags(3)."
+        return "It may be called on any thread."
 
 
 def statuses(text):
@@ -115,9 +165,8 @@ def example_of(name):
 
 
 def description(call):
-    """The prose first, and then the arguments."""
-    learn = "learn " if re.match(r"(whether|how many|the most)\b", call.summary) else ""
-    yield f"Call \\fB{call.name}\\fR() to {learn}{roff(call.summary, call.name)}."
+    """What it does first, and then the arguments."""
+    yield f"\\fB{call.name}\\fR() {roff(told(call.summary), call.name)}."
     for it in call.prose:
         yield from (".PP", roff(it, call.name))
     yield from (".PP", "Its arguments:" if len(call.parameters) > 1 else "Its argument:")
@@ -127,13 +176,14 @@ def description(call):
 
 def outcome(call, calls, meanings):
     """What a call returns, with each status below 0."""
-    said = call.returns(calls)
-    yield from (".SH RETURN VALUE", roff(said[0].upper() + said[1:], call.name))
+    said = re.sub(r"\bOtherwise\s+(?=TAGS_|the |what )", "Otherwise it returns ", call.returns(calls))
+    yield from (".SH RETURN VALUE", f"\\fB{call.name}\\fR() returns {roff(said, call.name)}")
     found = call.errors(calls, meanings)
     if found:
-        yield from (".PP", "A status is a negative number. A call that is refused has changed nothing.", ".SH ERRORS")
-    for it in found:
-        yield from (".TP", f".B {it}", roff(meanings[it], call.name))
+        changes = "" if "then the hand does not wait" in re.sub(r"\s+", " ", said) else " A call that is refused changes nothing."
+        yield from (".PP", f"Each status but \\fBTAGS_OK\\fR is negative.{changes}", ".SH ERRORS")
+    for it, meaning in found.items():
+        yield from (".TP", f".B {it}", sentence(meaning))
 
 
 def related(call, calls):
@@ -148,7 +198,7 @@ def page_of_call(call, version, calls, meanings):
     lines = [*head(call.name, version, call.summary), ".SH SYNOPSIS", ".nf", ".B #include <tags.h>", ".PP"]
     lines += [re.sub(r"^( *)(.*)$", r"\1\\fB\2\\fR", it) for it in prototype(call.prototype)]
     lines += [".fi", ".SH DESCRIPTION", *description(call), *outcome(call, calls, meanings)]
-    notes = [it for it in (call.parts.get("Threads"), call.note) if it]
+    notes = [it for it in (call.threads(), call.parts.get("Threads"), call.note) if it]
     for at, it in enumerate(notes):
         lines += [".PP" if at else ".SH NOTES", roff(it[0].upper() + it[1:], call.name)]
     lines += [".SH HISTORY", f"In version {call.parts['Since']} and later."]
@@ -227,13 +277,25 @@ def page_of_all(text, version, calls):
     return "\n".join([*lines, ".SH SEE ALSO", ",\n".join(f".BR {it[1]} (3)" for it in calls), ""])
 
 
+def filled(page):
+    """A page whose lines of prose have at most 80 columns. None of them begins as a request does."""
+    is_filled = True
+    for line in page.split("\n"):
+        is_filled = line == ".fi" or (is_filled and line != ".nf")
+        if line.startswith(".") or not is_filled or len(line) <= 80:
+            yield line
+            continue
+        for it in textwrap.wrap(line, 78, break_long_words=False, break_on_hyphens=False):
+            yield re.sub(r"^([.'])", r"\\&\1", it)
+
+
 def pages(text):
     """Each page by its name."""
     version = ".".join(re.findall(r"^#define TAGS_VERSION_M\w+ (\d+)", text, re.M))
     found, meanings = list(DOC.finditer(text)), statuses(text)
     calls = {it[1]: Call(it, text) for it in found}
     made = {f"{name}.3": page_of_call(it, version, calls, meanings) for name, it in calls.items()}
-    return {"tags.3": page_of_all(text, version, found), **made}
+    return {name: "\n".join(filled(page)) for name, page in {"tags.3": page_of_all(text, version, found), **made}.items()}
 
 
 def unnamed(text):
@@ -256,11 +318,19 @@ def unnamed(text):
 
 
 def lacking(text):
-    """Each page of a call without one of its sections; those of calls that refuse nothing have no errors."""
+    """Each page of a call without one of its sections, or with an empty one; those of calls that refuse nothing have no errors."""
     for name, page in pages(text).items():
-        for section in SECTIONS if name != "tags.3" else ["EXAMPLES", "SEE ALSO"]:
-            if f".SH {section}\n" not in page and (name, section) != ("tags_strerror.3", "ERRORS"):
+        for section in SECTIONS if name != "tags.3" else ["NAME", "SYNOPSIS", "DESCRIPTION", "EXAMPLES", "SEE ALSO"]:
+            if not re.search(rf"^\.SH {section}\n(?!\.SH|\Z)", page, re.M) and (name, section) != ("tags_strerror.3", "ERRORS"):
                 yield f"{name}: no {section}"
+
+
+def unmatched(text, exported):
+    """Each call that the shared library exports and no page describes, and each page of a call that it does not export."""
+    found = {it.removesuffix(".3") for it in pages(text)} - {"tags"}
+    names = {it for it in re.findall(r"^\t\t(tags_\w+);$", exported, re.M) if not it.startswith("tags_library_")}
+    yield from (f"no page of {it}" for it in sorted(names - found))
+    yield from (f"a page of {it}, which is not exported" for it in sorted(found - names))
 
 
 def main():

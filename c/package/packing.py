@@ -17,11 +17,19 @@ DIST = os.path.abspath(os.environ.get("DIST") or f"{C}/dist")
 MAINTAINER = "The authors of Yalmosti <unset@example.invalid>"
 
 
-class Processor:
-    """A processor by Debian's name, with what other tools call it, and the toolchain's least model of it."""
+class Level:
+    """Newer processors of a kind: by the name here, by compilers' option -march and in words; what assemblers have to be told, and
+    where a loader looks for a library for them."""
 
-    def __init__(self, name, gnu, cpu, kind):
-        self.name, self.gnu, self.cpu, self.kind = name, gnu, cpu, kind
+    def __init__(self, name, march, kind, directive="", folder=""):
+        self.name, self.march, self.kind, self.directive, self.folder = name, march, kind, directive, folder
+
+
+class Processor:
+    """A processor by Debian's name, with what other tools call it, the toolchain's least model of it, and levels above that."""
+
+    def __init__(self, name, gnu, cpu, kind, *newer):
+        self.name, self.gnu, self.cpu, self.kind, self.newer = name, gnu, cpu, kind, newer
         self.triple = gnu.replace("-linux", "-unknown-linux")
         self.tools = "" if os.uname().machine == gnu.split("-")[0] else f"{gnu}-"
         self.made = f"{OUT}/{name}"
@@ -29,10 +37,20 @@ class Processor:
     def tool(self, name):
         return f"{self.tools}{name}"
 
+    def assembly(self, level=None):
+        """The name of a file of generated/."""
+        return f"tag_c-{self.gnu.split('-')[0]}{f'-{level.name}' if level else ''}.s"
+
 
 PROCESSORS = [
-    Processor("amd64", "x86_64-linux-gnu", "x86-64", "every x86-64 processor"),
-    Processor("arm64", "aarch64-linux-gnu", "generic", "every 64-bit ARM processor"),
+    Processor(
+        "amd64", "x86_64-linux-gnu", "x86-64", "every x86-64 processor",
+        Level("v3", "x86-64-v3", "each x86-64 processor that has all of x86-64-v3", folder="glibc-hwcaps/x86-64-v3"),
+    ),
+    Processor(
+        "arm64", "aarch64-linux-gnu", "generic", "every 64-bit ARM processor",
+        Level("lse", "armv8.1-a", "each 64-bit ARM processor that has the atomic instructions of ARMv8.1 (LSE)", directive=".arch_extension lse"),
+    ),
 ]
 
 
@@ -117,11 +135,14 @@ def proved_text(crate, processor, verdict, logic):
     """What was proved, by which logic, of which commit."""
     parts = sorted(it for it in os.listdir(C) if it.endswith(".c"))
     of_c = f"Written in C, and tested but not proved: {', '.join(parts)}, the checks for NULL in tags.h, and tags.hpp.\n"
+    kind = ": every processor of this kind" if processor in PROCESSORS else ""
+    if crate == "tag_c":
+        kind += "".join(f"; of the same proved module, {it.folder}: {it.march}" for it in processor.newer if it.folder)
     return f"""Proved: the crate {crate}, over these crates, each of which is proved:
     {' '.join(crates_below(crate))}
 With:      {logic}
 Of commit: {commit()}
-For:       {processor.triple}, cpu {processor.cpu}{": every processor of this kind" if processor in PROCESSORS else ""}
+For:       {processor.triple}, cpu {processor.cpu}{kind}
 Verdict:   {verdict.strip()}
 
 {of_c if crate == 'tag_c' else ''}A proof rests on the toolchain, on the C library of the system and on what the ported crates of the kit state.

@@ -1,8 +1,9 @@
 //! Links libtags: the one in the folder that `TAGS_LIB_DIR` names, or else the one that pkg-config finds (`PKG_CONFIG` names another
 //! program for that), of which a static library is preferred unless `TAGS_STATIC=0`, and is the only choice with `TAGS_STATIC=1`; or
-//! else one that it makes of the proved code as assembly and the rest in C. These files are in `native/` of a crate that was packed, and else in the checkout around the crate. That
-//! takes a C compiler and `ar`: `CC` and `AR` name others, for another target `CC_aarch64_unknown_linux_gnu` and the like. If there is
-//! no library, the build ends with the reason of each place.
+//! else one that it makes of the proved code as assembly, for newer processors if the target has their features, and the rest in C.
+//! These files are in `native/` of a crate that was packed, and else in the checkout around the crate. That takes a C compiler and
+//! `ar`: `CC` and `AR` name others, for another target `CC_aarch64_unknown_linux_gnu` and the like. If there is no library, the
+//! build ends with the reason of each place.
 use std::env;
 use std::ffi::OsStr;
 use std::fs;
@@ -12,6 +13,9 @@ use std::process::{exit, Command, Stdio};
 
 /// The versions of the library that this crate takes: each 0.x has another interface.
 const NEEDED: [&str; 2] = ["tags >= 0.3", "tags < 0.4"];
+
+/// What x86-64-v3 has and x86-64-v2 has not, as Rust names it.
+const OF_V3: [&str; 7] = ["avx2", "bmi1", "bmi2", "f16c", "fma", "lzcnt", "movbe"];
 
 const HELP: &str = "\
 Install a C compiler and binutils, or the package libtags-dev, or make the library by `c/library.sh install PREFIX` of the repository.
@@ -128,10 +132,29 @@ fn files() -> Files {
     let own = Path::new(env!("CARGO_MANIFEST_DIR"));
     let (native, around) = (own.join("native"), own.join(".."));
     if native.is_dir() {
-        return Files { in_c: native.clone(), generated: native, script: None };
+        return Files {
+            in_c: native.clone(),
+            generated: native,
+            script: None,
+        };
     }
     let (generated, script) = (around.join("generated"), Some(around.join("library.sh")));
-    Files { in_c: around, generated, script }
+    Files {
+        in_c: around,
+        generated,
+        script,
+    }
+}
+
+/// Those newer processors of which the target has all features, as the names of files have them.
+fn level() -> Option<&'static str> {
+    let features = target("FEATURE");
+    let has = |it: &str| features.split(',').any(|known| known == it);
+    match target("ARCH").as_str() {
+        "x86_64" if OF_V3.into_iter().all(has) => Some("v3"),
+        "aarch64" if has("lse") => Some("lse"),
+        _ => None,
+    }
 }
 
 /// The assembly for the target, which has to be as it was made, and no older than its sources.
@@ -140,7 +163,9 @@ fn assembly(files: &Files) -> Found {
     if !files.generated.is_dir() {
         return Err("the crate lacks native/: `c/library.sh crate FOLDER` of the repository makes one that has it".into());
     }
-    let file = files.generated.join(format!("tag_c-{processor}.s"));
+    let level = level();
+    let ending = level.map(|it| format!("-{it}")).unwrap_or_default();
+    let file = files.generated.join(format!("tag_c-{processor}{ending}.s"));
     if target("OS") != "linux" || target("POINTER_WIDTH") != "64" || !file.exists() {
         let triple = env::var("TARGET").unwrap_or_default();
         return Err(format!("there is no assembly for {triple}: the library is for x86-64 and 64-bit ARM under Linux"));
@@ -156,7 +181,8 @@ fn assembly(files: &Files) -> Found {
     }
     if let Some(script) = &files.script {
         let linux = format!("{processor}-linux");
-        let words = [script.as_os_str(), "assembly".as_ref(), linux.as_ref()];
+        let mut words = vec![script.as_os_str(), "assembly".as_ref(), linux.as_ref()];
+        words.extend(level.map(OsStr::new));
         run("bash", &words)?;
     }
     Ok(file)
@@ -167,7 +193,8 @@ fn made() -> Found {
     let all = files();
     let out = PathBuf::from(env::var_os("OUT_DIR").unwrap_or_default());
     let code = assembly(&all)?;
-    let listed = fs::read_dir(&all.in_c).map_err(|error| format!("{}: {error}", all.in_c.display()))?;
+    let listed =
+        fs::read_dir(&all.in_c).map_err(|error| format!("{}: {error}", all.in_c.display()))?;
     let mut files: Vec<PathBuf> = listed.flatten().map(|it| it.path()).collect();
     files.retain(|it| it.extension().is_some_and(|end| end == "c"));
     for header in ["bell.h", "tags.h"] {

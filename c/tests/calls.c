@@ -3,6 +3,7 @@
  * tags.h in a function that shows what it is for. main() runs them all.
  */
 #include <poll.h>
+#include <pthread.h>
 #include <stdbool.h>
 #include <stdio.h>
 #include <sys/eventfd.h>
@@ -184,52 +185,37 @@ static int32_t get_in_loop(struct tags_hand *hand, int event)
 	return tag;
 }
 
-/* A program that sleeps by means of its own; `nap` has a limit. */
-static int32_t get_with_own_sleep(struct tags_hand *hand, void (*nap)(void))
+/* Where a thread sleeps by means of the program's own. */
+struct bed {
+	pthread_mutex_t lock;
+	pthread_cond_t changed;
+	bool is_told;
+};
+
+/* Called in the call that gives a tag back, on whatever thread makes it. */
+static void wake(void *argument)
+{
+	struct bed *bed = argument;
+
+	pthread_mutex_lock(&bed->lock);
+	bed->is_told = true;
+	pthread_cond_signal(&bed->changed);
+	pthread_mutex_unlock(&bed->lock);
+}
+
+/* Sleeps by means of the program's own until it has a tag: wake() sets is_told, and signals. */
+static int32_t get_with_own_sleep(struct tags_hand *hand, struct bed *bed)
 {
 	int32_t tag;
 
-	for (;;) {
-		int32_t group = tags_prepare(hand);
-
-		if (group < 0)
-			return group;
-		tag = tags_get(hand);
-		if (tag == TAGS_NO_TAG)
-			nap();
-		while (tags_finish(hand) == TAGS_AGAIN)
-			;
-		if (tag != TAGS_NO_TAG)
-			return tag;
+	while ((tag = tags_get_notified(hand, wake, bed)) == TAGS_NO_TAG) {
+		pthread_mutex_lock(&bed->lock);
+		while (!bed->is_told)
+			pthread_cond_wait(&bed->changed, &bed->lock);
+		bed->is_told = false;
+		pthread_mutex_unlock(&bed->lock);
 	}
-}
-
-/* Whoever gives tags back tells such a program whom to wake, group by group. */
-static uint32_t wake_groups(const struct tags_grants *grants)
-{
-	uint32_t woken = 0;
-
-	for (int i = 0; i < TAGS_GROUPS; i++)
-		woken += grants->in_group[i]; /* wake so many of group i */
-	return woken;
-}
-
-/* The calls that give tags back, and tell in which groups they granted wakeups. */
-static uint32_t give_back_and_wake(struct tags_hand *hand, uint32_t tag, const uint32_t pair[2],
-				   uint32_t first, uint64_t mask)
-{
-	struct tags_grants grants = { 0, { 0 } };
-	uint32_t woken = 0;
-
-	if (tags_clear_granted(hand, tag, &grants) >= 0)
-		woken += wake_groups(&grants);
-	if (tags_clear_batch_granted(hand, pair, 2, &grants) >= 0)
-		woken += wake_groups(&grants);
-	if (tags_clear_mask_granted(hand, first, mask, &grants) >= 0)
-		woken += wake_groups(&grants);
-	if (tags_flush_granted(hand, &grants) >= 0)
-		woken += wake_groups(&grants);
-	return woken;
+	return tag;
 }
 
 /* A thread that keeps tags gives them back before it sleeps elsewhere. */
@@ -254,13 +240,11 @@ static uint32_t count_own(struct tags_hand *hand)
 }
 
 /* How full the ordinary tags are, in percent, and how many wait for one. */
-static uint32_t load_of(struct tags_hand *hand, uint32_t *waiting)
+static uint32_t load_of(struct tags_hand *hand, int32_t *waiting)
 {
-	struct tags_counts counts = { 0, 0, 0, 0, 0 };
 	struct tags_sizes sizes = { 0, 0, 0, 0, 0 };
 
-	tags_wakes(hand, &counts);
-	*waiting = counts.waiting;
+	*waiting = tags_waiting(hand);
 	tags_show(hand, TAGS_ORDINARY, &sizes);
 	return sizes.depth > 0 ? 100 * sizes.busy / sizes.depth : 0;
 }
@@ -269,14 +253,12 @@ static uint32_t load_of(struct tags_hand *hand, uint32_t *waiting)
 static void monitor(struct tags_pool *pool)
 {
 	uint64_t busy[TAGS_MAX_TOTAL / 64];
-	struct tags_counts counts = { 0, 0, 0, 0, 0 };
 	struct tags_sizes sizes = { 0, 0, 0, 0, 0 };
 
 	tags_pool_show(pool, TAGS_ORDINARY, &sizes);
-	tags_pool_wakes(pool, &counts);
 	printf("%d tags, %d in a batch at most\n", tags_pool_total(pool), tags_pool_batch(pool));
 	printf("%d busy, ", tags_pool_busy(pool, busy, TAGS_MAX_TOTAL / 64));
-	printf("%u of them ordinary; %u wait\n", sizes.busy, counts.waiting);
+	printf("%u of them ordinary; %d wait\n", sizes.busy, tags_pool_waiting(pool));
 }
 
 /* When the request of each tag began, in ms, or 0: set by holders after a get, reset before a clear. */
@@ -396,7 +378,8 @@ static bool runs_with(struct tags_hand *hand, struct tags_hand *other, int event
 {
 	const struct timespec past = { 0, 0 };
 	uint64_t request = 0;
-	uint32_t waiting = 1;
+	struct bed bed = { PTHREAD_MUTEX_INITIALIZER, PTHREAD_COND_INITIALIZER, false };
+	int32_t waiting = 1;
 	uint64_t won = 0;
 	uint32_t tags[5];
 	int32_t tag;
@@ -413,7 +396,7 @@ static bool runs_with(struct tags_hand *hand, struct tags_hand *other, int event
 		tags[i] = (uint32_t)tags_get(hand);
 	tag = tags_get_batch(hand, 2, &won);
 	if (count_own(hand) != 5 || load_of(hand, &waiting) != 100 * 5 / 60 || waiting != 0 ||
-	    give_back_and_wake(hand, tags[0], tags + 1, (uint32_t)tag, won) != 0)
+	    !complete_all(hand, tags, 3) || tags_clear_mask(hand, (uint32_t)tag, won) < 0)
 		return false;
 	rest(hand, nap);
 	for (int i = 0; i < 4; i++)
@@ -421,7 +404,7 @@ static bool runs_with(struct tags_hand *hand, struct tags_hand *other, int event
 				     : i == 1 ? get_for_readahead(hand)
 				     : i == 2 ? get_soon(hand)
 					      : get_in_loop(hand, event));
-	tags[4] = (uint32_t)get_with_own_sleep(hand, nap);
+	tags[4] = (uint32_t)get_with_own_sleep(hand, &bed);
 	for (int i = 0; i < 5; i++)
 		if (tags_clear(hand, tags[i]) < 0)
 			return false;

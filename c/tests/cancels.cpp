@@ -91,7 +91,7 @@ static void a_cancelled_sleeper(way how)
 	void *result = nullptr;
 	pthread_join(thread, &result);
 	CHECK(result == PTHREAD_CANCELED && self.ended == 2 && self.is_seen);
-	CHECK(hand.show(tags::kind::ordinary).busy == 1 && hand.wakes().waiting == 0);
+	CHECK(hand.show(tags::kind::ordinary).busy == 1 && hand.waiting() == 0);
 	tag.clear();
 	CHECK(other.get_batch(2) && pool.join());
 	hand.leave();

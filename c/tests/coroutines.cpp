@@ -136,7 +136,7 @@ static void coroutines_are_resumed_in_turn()
 	}
 	it.listener.resume();
 	it.got.clear();
-	CHECK(!it.told.take() && it.hand.wakes(failure).waiting == 0);
+	CHECK(!it.told.take() && it.hand.waiting(failure) == 0);
 }
 
 static void several_tags_resume_several()
@@ -173,9 +173,9 @@ static void the_last_that_is_destroyed_cancels()
 		{
 			const task second = get(it.listener, it.got);
 		}
-		CHECK(it.hand.wakes(failure).waiting == 1);
+		CHECK(it.hand.waiting(failure) == 1);
 	}
-	CHECK(it.hand.wakes(failure).waiting == 0);
+	CHECK(it.hand.waiting(failure) == 0);
 	it.tag.clear();
 	CHECK(!it.told.take());
 
@@ -253,6 +253,8 @@ static void a_coroutine_destroys_another()
 	CHECK(hand.show(tags::kind::ordinary, failure).busy == 1);
 }
 
+static void ignore(void *) {}
+
 static void refusals()
 {
 	setting it(3);
@@ -272,13 +274,10 @@ static void refusals()
 	}
 	const task waiting = get(it.listener, it.got);
 	REFUSED(errc::waiting, it.hand.get_blocking(CODE));
-	REFUSED(errc::waiting, it.hand.prepare(CODE));
+	REFUSED(errc::waiting, it.hand.get_notified(ignore, nullptr, CODE));
 	it.tag.clear();
 	it.listener.resume();
 	CHECK(it.got.size() == 1);
-	const tags::wait wait = it.hand.prepare(failure);
-	const task grouped = get(it.listener, it.got, code);
-	CHECK(grouped.is_done() && code == errc::waiting);
 	// A clear code is left clear, and one of before is cleared.
 	it.got.clear();
 	const task found = get(it.listener, it.got, code);
@@ -314,6 +313,9 @@ static void a_second_listener_is_refused()
 		CHECK(!before.is_refused() && !it.listener.is_refused());
 	}
 	CHECK(!third.get_async(other.descriptor, failure) && !failure);
+	// It waits on after a call that is refused for what it was given.
+	REFUSED(errc::bad_event, third.get_async(-1, CODE));
+	REFUSED(errc::bad_handle, third.get_notified(nullptr, nullptr, CODE));
 	tags::listener beside(third, it.told.descriptor);
 	CHECK(beside.is_refused());
 	third.cancel(failure);
@@ -345,7 +347,7 @@ static void a_limit_in_time()
 	CHECK(it.listener.timeout() == -1);
 	const task late = get_for(it.listener, milliseconds(0), ended[0], codes[0]);
 	CHECK(late.is_done() && ended[0] == 2 && !codes[0]);
-	CHECK(it.hand.wakes(failure).waiting == 0);
+	CHECK(it.hand.waiting(failure) == 0);
 	const task soon = get_for(it.listener, milliseconds(5), ended[1], codes[1]);
 	const task first = get_for(it.listener, hours(1), ended[2], codes[2]);
 	const task second = get_for(it.listener, hours::max(), ended[3], codes[3]);
@@ -364,7 +366,7 @@ static void a_limit_in_time()
 	it.told.take();
 	it.listener.resume();
 	CHECK(ended[2] == 1 && ended[3] == 1 && it.listener.timeout() == -1);
-	CHECK(it.hand.wakes(failure).waiting == 0);
+	CHECK(it.hand.waiting(failure) == 0);
 	const tags::tag tag = *it.hand.get(failure);
 	const auto passed = std::chrono::steady_clock::now() - hours(1);
 	const task past = [](tags::listener &listener, std::chrono::steady_clock::time_point end,
@@ -405,7 +407,7 @@ static void a_cancel_by_a_token()
 	it.tag.clear();
 	it.told.wait();
 	it.listener.resume();
-	CHECK(ended[1] == 1 && !codes[1] && it.hand.wakes(failure).waiting == 0);
+	CHECK(ended[1] == 1 && !codes[1] && it.hand.waiting(failure) == 0);
 	other->request_stop();
 	CHECK(!it.told.take());
 }
@@ -427,6 +429,44 @@ static void a_stop_ends_all_waits()
 		CHECK(it_is.is_done());
 	const task late = get(it.listener, it.got, codes[0]);
 	CHECK(late.is_done() && codes[0] == errc::stopped);
+}
+
+static void a_stop_that_is_resumed_ends_all_waits_that_began_before()
+{
+	setting it;
+	std::error_code codes[2], later;
+	const task first = get(it.listener, it.got, codes[0]);
+	const task second = get(it.listener, it.got, codes[1]);
+	it.pool.stop(failure);
+	it.pool.resume(failure);
+	const task after = get(it.listener, it.got, later);
+	CHECK(it.told.take());
+	it.listener.resume();
+	CHECK(first.is_done() && codes[0] == errc::stopped);
+	CHECK(second.is_done() && codes[1] == errc::stopped);
+	CHECK(!after.is_done() && it.hand.waiting(failure) == 1);
+	it.tag.clear();
+	it.told.wait();
+	it.listener.resume();
+	CHECK(after.is_done() && !later);
+}
+
+// The first of those that wait is destroyed, so that the hand's wait is older than that of the next one.
+static void a_stop_ends_no_wait_that_began_later()
+{
+	setting it;
+	std::error_code codes[2];
+	std::deque<task> first;
+	first.push_back(get(it.listener, it.got, codes[0]));
+	it.pool.stop(failure);
+	it.pool.resume(failure);
+	const task second = get(it.listener, it.got, codes[1]);
+	first.clear();
+	it.listener.resume();
+	CHECK(!second.is_done() && it.hand.waiting(failure) == 1);
+	it.tag.clear();
+	it.listener.resume();
+	CHECK(second.is_done() && !codes[1]);
 }
 
 #ifdef __cpp_exceptions
@@ -549,6 +589,8 @@ int main()
 	a_cancel_by_a_token();
 #endif
 	a_stop_ends_all_waits();
+	a_stop_that_is_resumed_ends_all_waits_that_began_before();
+	a_stop_ends_no_wait_that_began_later();
 #ifdef __cpp_exceptions
 	refusals_are_thrown();
 #endif

@@ -170,15 +170,13 @@ static void cancel_a_sleeper(void)
 
 	set_up(1, 2);
 	for (uintptr_t i = 1; i <= 2; i++) {
-		struct tags_counts counts;
-
 		start(&id, i);
 		await_waiting(1);
 		nap(2000);
 		pthread_cancel(id);
 		CHECK(pthread_join(id, &result) == 0 && result == PTHREAD_CANCELED);
-		CHECK(count_waiting() == 0 && tags_wakes(&hands[0], &counts) == TAGS_OK);
-		CHECK(counts.waiting == 0 && tags_finish(&hands[i]) == TAGS_NOT_WAITING);
+		CHECK(count_waiting() == 0 && tags_waiting(&hands[0]) == 0);
+		CHECK(tags_cancel(&hands[i]) == TAGS_NOT_WAITING);
 		CHECK(tags_get_async(&hands[i], events[0]) == TAGS_NO_TAG);
 		CHECK(tags_cancel(&hands[i]) == TAGS_OK);
 	}
@@ -217,8 +215,6 @@ static void cancel_beside_a_clear(void)
 
 static void leave_while_waiting(void)
 {
-	struct tags_counts counts;
-
 	set_up(1, 2);
 	CHECK(tags_get_async(&hands[1], events[0]) == TAGS_NO_TAG);
 	CHECK(tags_get_async(&hands[2], events[1]) == TAGS_NO_TAG && count_waiting() == 2);
@@ -226,7 +222,7 @@ static void leave_while_waiting(void)
 	CHECK(tags_join(&pool, &hands[1], 0) == TAGS_OK);
 	CHECK(tags_cancel(&hands[1]) == TAGS_NOT_WAITING);
 	CHECK(tags_get_timed(&hands[1], CLOCK_MONOTONIC, &(struct timespec){ 0, 0 }) == TAGS_TIMED_OUT);
-	CHECK(tags_wakes(&hands[0], &counts) == TAGS_OK && counts.waiting == 1);
+	CHECK(tags_waiting(&hands[0]) == 1);
 	/* a hand that was told and leaves passes the tag on */
 	CHECK(tags_get_async(&hands[1], events[0]) == TAGS_NO_TAG);
 	CHECK(tags_clear(&hands[0], 0) >= 0 && told(events[1]) == 1 && told(events[0]) == 0);
@@ -489,7 +485,6 @@ static void report(uint32_t others)
 {
 	const uint64_t last = UINT64_C(1) << LAST % 64;
 	uint64_t bits[LAST / 64 + 1];
-	struct tags_counts counts;
 	struct tags_sizes sizes;
 	int32_t busy = tags_pool_busy(&pool, bits, LAST / 64 + 1);
 	int32_t ones = 0;
@@ -501,16 +496,15 @@ static void report(uint32_t others)
 	CHECK((bits[LAST / 64] & ~(last | (last - 1))) == 0);
 	CHECK(tags_pool_show(&pool, TAGS_ORDINARY, &sizes) == TAGS_OK);
 	CHECK(sizes.depth == TAGS && sizes.busy >= 1 && sizes.busy + sizes.cleared <= TAGS);
-	CHECK(tags_pool_wakes(&pool, &counts) == TAGS_OK && counts.charged <= counts.counted);
+	CHECK(tags_pool_waiting(&pool) >= 0);
 	if (others == 0)
-		CHECK(busy == 1 && sizes.busy == 1 && counts.waiting == 0);
+		CHECK(busy == 1 && sizes.busy == 1 && tags_pool_waiting(&pool) == 0);
 }
 
 /* Without a hand: while all are out, and while threads join, work and leave. */
 static void report_at_any_time(void)
 {
 	struct tags_hand extra = TAGS_EMPTY;
-	struct tags_counts counts;
 	uint64_t bits[2];
 	pthread_t ids[MOST + 1];
 
@@ -518,7 +512,7 @@ static void report_at_any_time(void)
 	CHECK(tags_join(&pool, &extra, 0) == TAGS_NO_HAND);
 	CHECK(tags_pool_busy(&pool, bits, 2) == TAGS && bits[0] == UINT64_MAX && bits[1] == 63);
 	CHECK(tags_get_async(&hands[1], events[0]) == TAGS_NO_TAG);
-	CHECK(tags_pool_wakes(&pool, &counts) == TAGS_OK && counts.waiting == 1);
+	CHECK(tags_pool_waiting(&pool) == 1);
 	for (uint32_t i = 1; i <= MOST; i++)
 		CHECK(tags_leave(&hands[i]) == TAGS_OK);
 	for (uint32_t tag = 0; tag < LAST; tag++)

@@ -72,16 +72,6 @@ static void a_hand_before_its_tag()
 	}));
 }
 
-static void a_hand_before_its_wait()
-{
-	CHECK(terminates("a hand was destroyed before its wait or listener", [] {
-		tags::pool pool(sized(4, 1), ec);
-		tags::wait wait;
-		tags::hand hand = pool.join(ec);
-		wait = hand.prepare(ec);
-	}));
-}
-
 static void a_tag_given_back_behind_its_object()
 {
 	CHECK(terminates("a tag was given back by other means than its object", [] {
@@ -111,7 +101,7 @@ static task wait_for_tag(tags::listener &listener)
 
 static void listeners()
 {
-	CHECK(terminates("a hand was destroyed before its wait or listener", [] {
+	CHECK(terminates("a hand was destroyed before its listener", [] {
 		tags::pool pool(sized(4, 1), ec);
 		std::optional<tags::listener> listener;
 		tags::hand hand = pool.join(ec);
@@ -146,7 +136,6 @@ static void orderly_ends()
 int main()
 {
 	a_hand_before_its_tag();
-	a_hand_before_its_wait();
 	a_tag_given_back_behind_its_object();
 #ifdef TAGS_HAS_COROUTINES
 	listeners();

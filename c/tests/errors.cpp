@@ -59,6 +59,8 @@ static void pools_that_do_not_open()
 	CHECK(opened(tags::options()) == errc::bad_hand_count);
 }
 
+static void ignore(void *) {}
+
 // Of each call on an object that is empty.
 static void empty_objects()
 {
@@ -77,7 +79,7 @@ static void empty_objects()
 	REFUSED(errc::bad_handle, pool.busy(&bits, 1, CODE));
 	REFUSED(errc::bad_handle, pool.each_busy([](std::uint32_t) { CHECK(false); }, CODE));
 	REFUSED(errc::bad_handle, pool.show(tags::kind::ordinary, CODE));
-	REFUSED(errc::bad_handle, pool.wakes(CODE));
+	REFUSED(errc::bad_handle, pool.waiting(CODE));
 	REFUSED(errc::bad_handle, pool.close(CODE));
 	REFUSED(errc::bad_handle, hand.leave(CODE));
 	REFUSED(errc::bad_handle, hand.get(CODE));
@@ -90,7 +92,7 @@ static void empty_objects()
 	REFUSED(errc::bad_handle, hand.try_get_until(soon, CODE));
 	REFUSED(errc::bad_handle, hand.get_async(0, CODE));
 	REFUSED(errc::bad_handle, hand.cancel(CODE));
-	REFUSED(errc::bad_handle, hand.prepare(CODE));
+	REFUSED(errc::bad_handle, hand.get_notified(ignore, nullptr, CODE));
 	REFUSED(errc::bad_handle, hand.take(0, CODE));
 	REFUSED(errc::bad_handle, hand.take_batch({0, 1}, CODE));
 	REFUSED(errc::bad_handle, batch.read(0, CODE));
@@ -102,12 +104,12 @@ static void empty_objects()
 	REFUSED(errc::bad_handle, hand.flush(CODE));
 	REFUSED(errc::bad_handle, hand.busy(&bits, 1, CODE));
 	REFUSED(errc::bad_handle, hand.show(tags::kind::ordinary, CODE));
-	REFUSED(errc::bad_handle, hand.wakes(CODE));
+	REFUSED(errc::bad_handle, hand.waiting(CODE));
 	REFUSED(errc::bad_handle, tag.read(CODE));
 	REFUSED(errc::bad_handle, tag.write(1, CODE));
 	REFUSED(errc::bad_handle, tag.read_clear(CODE));
 	REFUSED(errc::bad_handle, tag.post(CODE));
-	CHECK(!tags::batch().pop() && tags::batch().size() == 0 && !tags::wait().finish());
+	CHECK(!tags::batch().pop() && tags::batch().size() == 0);
 }
 
 static void hands_and_pools()
@@ -135,8 +137,6 @@ static void hands_and_pools()
 	batch = *hand.get_batch(1, ec);
 	REFUSED(errc::in_use, hand.leave(CODE));
 	batch.clear();
-	tags::wait wait = hand.prepare(ec);
-	REFUSED(errc::waiting, hand.leave(CODE));
 }
 
 static void gets()
@@ -255,17 +255,13 @@ static void waits()
 	const tags::tag tag = *one.get(ec);
 	REFUSED(errc::bad_event, other.get_async(-1, CODE));
 	REFUSED(errc::not_waiting, other.cancel(CODE));
-	{
-		const tags::wait wait = other.prepare(ec);
-		REFUSED(errc::waiting, other.prepare(CODE));
-		REFUSED(errc::waiting, other.get_blocking(CODE));
-		REFUSED(errc::waiting, other.try_get_for(1h, CODE));
-		REFUSED(errc::waiting, other.get_async(0, CODE));
-		REFUSED(errc::waiting, other.cancel(CODE));
-	}
+	REFUSED(errc::bad_handle, other.get_notified(nullptr, nullptr, CODE));
+	CHECK(!other.get_notified(ignore, nullptr, ec) && !ec);
+	REFUSED(errc::waiting, other.get_blocking(CODE));
+	REFUSED(errc::waiting, other.try_get_for(1h, CODE));
+	other.cancel(ec);
 	CHECK(!other.get_async(0, ec) && !ec);
 	REFUSED(errc::waiting, other.get_blocking(CODE));
-	REFUSED(errc::waiting, other.prepare(CODE));
 	other.cancel(ec);
 	CHECK(!ec);
 	REFUSED(errc::not_waiting, other.cancel(CODE));

@@ -29,8 +29,9 @@ union handle {
 
 static union handle handles[HANDLES];
 static struct model models[HANDLES];
-/* the eventfds of each pool, by the handle of the pool */
+/* the eventfds of each pool, by the handle of the pool; and how often its function was called with each argument */
 static int events[HANDLES][EVENTS];
+static uint64_t told[HANDLES][ARGUMENTS];
 
 static uint64_t state = 1;
 static uint64_t calls;
@@ -192,8 +193,13 @@ static struct tags_options any_options(void)
 }
 
 /*
- * Eventfds
+ * Eventfds, and a function
  */
+
+static void note_call(void *argument)
+{
+	++*(uint64_t *)argument;
+}
 
 /* The handle of the pool that a hand belongs to; that of the hand if it has none. */
 static uint32_t pool_of(uint32_t at)
@@ -204,7 +210,7 @@ static uint32_t pool_of(uint32_t at)
 	return at;
 }
 
-/* What was added to the eventfds of a pool since they were read last is what the model says. */
+/* What was added to the eventfds of a pool since they were read last is what the model says, and so are the calls. */
 static void compare_events(uint32_t pool)
 {
 	for (uint32_t i = 0; i < EVENTS; i++) {
@@ -216,6 +222,9 @@ static void compare_events(uint32_t pool)
 		compare_filled("the eventfd", &found, wanted, sizeof(found));
 		*wanted = 0;
 	}
+	compare_filled("the function", told[pool], &models[pool].pool->told[EVENTS], sizeof(told[pool]));
+	memset(told[pool], 0, sizeof(told[pool]));
+	memset(&models[pool].pool->told[EVENTS], 0, sizeof(told[pool]));
 }
 
 /* How many tags a mask has. */
@@ -337,34 +346,13 @@ static void try_clear(void)
 		model_gave(&models[at], model_clear(&models[at], tag), 1));
 }
 
-static void try_clear_granted(void)
-{
-	uint32_t at = hand_handle();
-	uint32_t tag = any_tag(at);
-	struct tags_grants found = { 5, { 5 } };
-	struct tags_grants wanted = { 5, { 5 } };
-
-	compare("clear_granted", tags_clear_granted(&handles[at].hand, tag, &found),
-		model_gave(&models[at], model_clear_granted(&models[at], tag, &wanted), 1));
-	compare_filled("clear_granted", &found, &wanted, sizeof(found));
-}
-
 static void try_flush(void)
 {
 	uint32_t at = hand_handle();
-	struct tags_grants found = { 5, { 5 } };
-	struct tags_grants wanted = { 5, { 5 } };
 
-	if (seldom(3)) {
+	if (seldom(3))
 		compare("flush", tags_flush(&handles[at].hand),
 			model_gave(&models[at], model_flush(&models[at]), 0));
-		return;
-	}
-	if (!seldom(4))
-		return;
-	compare("flush_granted", tags_flush_granted(&handles[at].hand, &found),
-		model_gave(&models[at], model_flush_granted(&models[at], &wanted), 0));
-	compare_filled("flush_granted", &found, &wanted, sizeof(found));
 }
 
 static void try_read_clear(void)
@@ -402,8 +390,6 @@ static size_t list_held(uint32_t at, uint32_t *tags, size_t most)
 
 static void try_clear_batch(void)
 {
-	struct tags_grants found = { 5, { 5 } };
-	struct tags_grants wanted = { 5, { 5 } };
 	uint32_t tags[TAGS_MAX_BATCH] = { 0 };
 	uint32_t at = hand_handle();
 	size_t n = list_held(at, tags, below(TAGS_MAX_BATCH + 1));
@@ -415,16 +401,8 @@ static void try_clear_batch(void)
 	/* a longer list is refused before it is read */
 	if (seldom(20))
 		n = seldom(2) ? TAGS_MAX_BATCH + 1 : SIZE_MAX / 8;
-	if (seldom(3)) {
-		compare("clear_batch", tags_clear_batch(&handles[at].hand, tags, n),
-			model_gave(&models[at], model_clear_batch(&models[at], tags, n), (uint32_t)n));
-		return;
-	}
-	compare("clear_batch_granted",
-		tags_clear_batch_granted(&handles[at].hand, tags, n, &found),
-		model_gave(&models[at], model_clear_batch_granted(&models[at], tags, n, &wanted),
-			   (uint32_t)n));
-	compare_filled("clear_batch_granted", &found, &wanted, sizeof(found));
+	compare("clear_batch", tags_clear_batch(&handles[at].hand, tags, n),
+		model_gave(&models[at], model_clear_batch(&models[at], tags, n), (uint32_t)n));
 }
 
 /* A mask of some of the tags that the hand holds, and now and then of one that it may not hold. */
@@ -442,24 +420,12 @@ static uint64_t mask_held(uint32_t at, uint32_t first)
 
 static void try_clear_mask(void)
 {
-	struct tags_grants found = { 5, { 5 } };
-	struct tags_grants wanted = { 5, { 5 } };
 	uint32_t at = hand_handle();
 	uint32_t first = any_tag(at);
 	uint64_t mask = mask_held(at, first);
 
-	if (seldom(2)) {
-		compare("clear_mask", tags_clear_mask(&handles[at].hand, first, mask),
-			model_gave(&models[at], model_clear_mask(&models[at], first, mask),
-				   count_in(mask)));
-		return;
-	}
-	compare("clear_mask_granted",
-		tags_clear_mask_granted(&handles[at].hand, first, mask, &found),
-		model_gave(&models[at],
-			   model_clear_mask_granted(&models[at], first, mask, &wanted),
-			   count_in(mask)));
-	compare_filled("clear_mask_granted", &found, &wanted, sizeof(found));
+	compare("clear_mask", tags_clear_mask(&handles[at].hand, first, mask),
+		model_gave(&models[at], model_clear_mask(&models[at], first, mask), count_in(mask)));
 }
 
 /*
@@ -556,21 +522,6 @@ static void try_holds(void)
  * Waits and reports
  */
 
-static void try_prepare(void)
-{
-	uint32_t at = hand_handle();
-
-	compare("prepare", tags_prepare(&handles[at].hand),
-		model_gave(&models[at], model_prepare(&models[at]), 0));
-}
-
-static void try_finish(void)
-{
-	uint32_t at = hand_handle();
-
-	compare("finish", tags_finish(&handles[at].hand), model_finish(&models[at]));
-}
-
 static void try_get_timed(void)
 {
 	static const int clocks[] = { CLOCK_MONOTONIC, CLOCK_REALTIME };
@@ -595,7 +546,7 @@ static bool might_sleep(uint32_t at)
 {
 	const struct set *set;
 
-	if (!is_hand(&models[at]) || member_of(&models[at])->standing != NOWHERE ||
+	if (!is_hand(&models[at]) || member_of(&models[at])->bell != IDLE ||
 	    models[at].pool->is_stopped)
 		return false;
 	set = &models[at].pool->set[TAGS_ORDINARY];
@@ -622,6 +573,16 @@ static void try_get_async(void)
 	compare("get_async",
 		tags_get_async(&handles[at].hand, event < 0 ? event : events[pool_of(at)][event]),
 		model_get_async(&models[at], event));
+}
+
+static void try_get_notified(void)
+{
+	uint32_t at = hand_handle();
+	uint32_t i = below(ARGUMENTS);
+
+	compare("get_notified",
+		tags_get_notified(&handles[at].hand, note_call, &told[pool_of(at)][i]),
+		model_get_async(&models[at], EVENTS + (int32_t)i));
 }
 
 static void try_cancel(void)
@@ -673,27 +634,11 @@ static void try_show(void)
 	compare_filled("show", &found, &wanted, sizeof(found));
 }
 
-static void compare_counts(const char *call, const struct tags_counts *found,
-			   const struct tags_counts *wanted)
-{
-	if (found->counted != wanted->counted || found->charged != wanted->charged)
-		fail(call, "counted", (int64_t)found->counted, (int64_t)wanted->counted);
-	if (found->active != wanted->active || found->index != wanted->index)
-		fail(call, "active", (int64_t)found->active, (int64_t)wanted->active);
-	if (found->waiting != wanted->waiting)
-		fail(call, "waiting", (int64_t)found->waiting, (int64_t)wanted->waiting);
-}
-
-static void try_wakes(void)
+static void try_waiting(void)
 {
 	uint32_t at = hand_handle();
-	struct tags_counts found;
-	struct tags_counts wanted;
 
-	memset(&found, 0, sizeof(found));
-	memset(&wanted, 0, sizeof(wanted));
-	compare("wakes", tags_wakes(&handles[at].hand, &found), model_wakes(&models[at], &wanted));
-	compare_counts("wakes", &found, &wanted);
+	compare("waiting", tags_waiting(&handles[at].hand), model_waiting(&models[at]));
 }
 
 /* What the function of a call is passed, and after how many tags it stops. */
@@ -758,17 +703,12 @@ static void try_pool_show(void)
 	compare_filled("pool_show", &found, &wanted, sizeof(found));
 }
 
-static void try_pool_wakes(void)
+static void try_pool_waiting(void)
 {
 	uint32_t at = seldom(10) ? any_handle() : pool_handle();
-	struct tags_counts found;
-	struct tags_counts wanted;
 
-	memset(&found, 0, sizeof(found));
-	memset(&wanted, 0, sizeof(wanted));
-	compare("pool_wakes", tags_pool_wakes(&handles[at].pool, &found),
-		model_pool_wakes(&models[at], &wanted));
-	compare_counts("pool_wakes", &found, &wanted);
+	compare("pool_waiting", tags_pool_waiting(&handles[at].pool),
+		model_pool_waiting(&models[at]));
 }
 
 /*
@@ -780,7 +720,6 @@ static void empty_hand(uint32_t at)
 {
 	uint32_t total = total_behind(at);
 
-	compare("finish", tags_finish(&handles[at].hand), model_finish(&models[at]));
 	compare("cancel", tags_cancel(&handles[at].hand), model_cancel(&models[at]));
 	for (uint32_t tag = 0; tag < total; tag++) {
 		if (is_posted(&models[at], tag))
@@ -825,19 +764,18 @@ static const struct {
 	void (*make)(void);
 	uint32_t turns;
 } tries[] = {
-	{ try_open, 2 },	  { try_join, 2 },	   { try_leave, 1 },
-	{ try_close, 1 },	  { try_get, 4 },	   { try_get_reserved, 1 },
-	{ try_get_shallow, 1 },	  { try_get_batch, 1 },	   { try_clear, 4 },
-	{ try_clear_batch, 1 },	  { try_read, 1 },	   { try_write, 1 },
-	{ try_post, 1 },	  { try_take, 3 },	   { try_holds, 1 },
-	{ try_prepare, 1 },	  { try_finish, 1 },	   { try_busy, 1 },
-	{ try_show, 1 },	  { try_wakes, 1 },	   { try_resize, 1 },
-	{ try_clear_granted, 1 }, { try_read_clear, 1 },   { try_get_write, 1 },
-	{ try_stop, 1 },	  { try_get_timed, 1 },	   { try_get_blocking, 1 },
-	{ try_get_async, 4 },	  { try_cancel, 1 },	   { try_events, 1 },
-	{ try_clear_mask, 1 },	  { try_flush, 1 },	   { try_pool_busy, 1 },
-	{ try_pool_show, 1 },	  { try_pool_wakes, 1 },   { try_post_mask, 1 },
-	{ try_take_mask, 1 },
+	{ try_open, 2 }, { try_join, 2 }, { try_leave, 1 },
+	{ try_close, 1 }, { try_get, 4 }, { try_get_reserved, 1 },
+	{ try_get_shallow, 1 }, { try_get_batch, 1 }, { try_clear, 5 },
+	{ try_clear_batch, 1 }, { try_read, 1 }, { try_write, 1 },
+	{ try_post, 1 }, { try_take, 3 }, { try_holds, 1 },
+	{ try_get_notified, 2 }, { try_busy, 1 }, { try_show, 1 },
+	{ try_waiting, 1 }, { try_resize, 1 }, { try_read_clear, 1 },
+	{ try_get_write, 1 }, { try_stop, 1 }, { try_get_timed, 1 },
+	{ try_get_blocking, 1 }, { try_get_async, 4 }, { try_cancel, 1 },
+	{ try_events, 1 }, { try_clear_mask, 1 }, { try_flush, 1 },
+	{ try_pool_busy, 1 }, { try_pool_show, 1 }, { try_pool_waiting, 1 },
+	{ try_post_mask, 1 }, { try_take_mask, 1 },
 };
 
 static void try_any(void)

@@ -192,7 +192,7 @@ static int32_t get_by_event(struct thread *self, uint32_t at)
 	uint64_t told;
 
 	for (int tries = 0; tag == TAGS_NO_TAG && tries < 3; tries++) {
-		CHECK(tags_prepare(hand) == TAGS_WAITING);
+		CHECK(tags_waiting(hand) > 0);
 		if (poll(&event, 1, 1) == 1)
 			CHECK(read(event.fd, &told, sizeof(told)) == sizeof(told) || errno == EAGAIN);
 		tag = tags_get_async(hand, event.fd);

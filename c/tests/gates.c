@@ -178,6 +178,76 @@ static void stops_and_cancels_of_joins(void)
 	CHECK(tags_resume(&pool) == TAGS_BAD_HANDLE && tags_resume(NULL) == TAGS_NULL);
 }
 
+static void *get_once(void *answer)
+{
+	struct tags_hand hand = TAGS_EMPTY;
+
+	CHECK(tags_join(&pool, &hand, 0) == TAGS_OK);
+	*(int32_t *)answer = tags_get_blocking(&hand);
+	leave(&hand);
+	return NULL;
+}
+
+static void *get_in_time(void *answer)
+{
+	const struct timespec late = from_now(CLOCK_MONOTONIC, 60000);
+	struct tags_hand hand = TAGS_EMPTY;
+
+	CHECK(tags_join(&pool, &hand, 0) == TAGS_OK);
+	*(int32_t *)answer = tags_get_timed(&hand, CLOCK_MONOTONIC, &late);
+	leave(&hand);
+	return NULL;
+}
+
+static void do_nothing(void *unused)
+{
+	(void)unused;
+}
+
+static void await_waits(int32_t n)
+{
+	while (tags_pool_waiting(&pool) < n)
+		nap(100);
+}
+
+/* The pool is resumed before any of those that wait has looked. */
+static void stops_that_are_resumed(void)
+{
+	void *(*const waits[])(void *answer) = { get_once, get_in_time, join_once };
+	struct tags_hand hand = TAGS_EMPTY, listener = TAGS_EMPTY;
+	int32_t answers[3] = { 1, 1, 1 };
+	uint64_t all;
+	pthread_t ids[3];
+
+	open_pool(4, 0);
+	CHECK(tags_join(&pool, &hand, 0) == TAGS_OK && tags_join(&pool, &listener, 0) == TAGS_OK);
+	for (int32_t i = 1; i < TOTAL; i++)
+		CHECK(tags_get(&hand) >= 0);
+	CHECK(tags_get_notified(&listener, do_nothing, NULL) == TAGS_NO_TAG);
+	for (int i = 0; i < 2; i++)
+		CHECK(pthread_create(&ids[i], NULL, waits[i], &answers[i]) == 0);
+	await_waits(3);
+	CHECK(pthread_create(&ids[2], NULL, waits[2], &answers[2]) == 0);
+	nap(20000);
+	CHECK(tags_stop(&pool) == TAGS_OK && tags_resume(&pool) == TAGS_OK);
+	for (int i = 0; i < 3; i++)
+		pthread_join(ids[i], NULL);
+	CHECK(answers[0] == TAGS_STOPPED && answers[1] == TAGS_STOPPED);
+	/* unless a hand was vacant when it looked */
+	CHECK(answers[2] == TAGS_STOPPED || answers[2] == TAGS_OK);
+	CHECK(tags_get_notified(&listener, do_nothing, NULL) == TAGS_STOPPED);
+	/* a wait that begins now goes on */
+	CHECK(tags_get_notified(&listener, do_nothing, NULL) == TAGS_NO_TAG);
+	CHECK(tags_clear_mask(&hand, 1, (1 << (TOTAL - 1)) - 1) == TAGS_OK);
+	CHECK(tags_get_notified(&listener, do_nothing, NULL) >= 0);
+	all = 0;
+	CHECK(tags_pool_busy(&pool, &all, 1) == 1);
+	CHECK(tags_clear(&listener, (uint32_t)__builtin_ctzll(all)) == TAGS_OK);
+	leave(&hand);
+	leave(&listener);
+	close_pool();
+}
+
 /*
  * All tags
  */
@@ -303,6 +373,7 @@ int main(int argc, char **argv)
 	more_threads_than_hands();
 	limits_of_joins();
 	stops_and_cancels_of_joins();
+	stops_that_are_resumed();
 	limits_of_drains();
 	drain_beside_clears(0);
 	drain_beside_clears(4);

@@ -104,7 +104,8 @@ static bool is_ended(int (*run)(long rounds), long rounds, const char *sentence)
 	said[length > 0 ? length : 0] = '\0';
 	close(ends[0]);
 	waitpid(child, &status, 0);
-	if (WIFSIGNALED(status) && WTERMSIG(status) == SIGABRT && strcmp(said, sentence) == 0)
+	/* behind the sentence an emulator may tell of the signal */
+	if (WIFSIGNALED(status) && WTERMSIG(status) == SIGABRT && strncmp(said, sentence, strlen(sentence)) == 0)
 		return true;
 	printf("status %d, said: %s\n", status, said);
 	return false;

@@ -16,13 +16,13 @@ enum place {
 	POSTED
 };
 
-/* whether a hand waits for an eventfd, or has been told of a tag */
+/* whether a hand waits to be notified, or has been told of a tag */
 enum bell { IDLE, LISTED, TOLD };
 
 enum {
-	GROUPS = 8,
-	/* eventfds of a pool */
+	/* eventfds of a pool, and arguments of its function */
 	EVENTS = 3,
+	ARGUMENTS = 3,
 	NOBODY = -1,
 	NOWHERE = -1
 };
@@ -48,15 +48,12 @@ struct set {
 struct member {
 	/* where its next get begins, by enum tags_kind */
 	uint32_t hint[2];
-	/* the wait group that it is in, or NOWHERE */
-	int standing;
-	uint32_t next_group;
 	/* the first tag of its cache's window, and which tags there are kept, or known to be held */
 	uint32_t window;
 	uint64_t kept;
 	uint64_t lent;
 	enum bell bell;
-	/* 0, or when its wait began, and the eventfd that it named last; whether that was told since */
+	/* 0, or when its wait began, and the eventfd or argument that it named last; whether that was told since */
 	uint64_t turn;
 	uint32_t event;
 	bool is_notified;
@@ -65,10 +62,8 @@ struct member {
 struct pool {
 	/* by enum tags_kind */
 	struct set set[2];
-	/* the least depth of a shallow get as it was asked for, and as it is */
-	uint32_t min_shallow;
+	/* the least depth of a shallow get */
 	uint32_t least;
-	uint32_t batch;
 	uint32_t hands;
 	/* how many tags a hand may keep, and whether only while it holds another one */
 	uint32_t cache;
@@ -76,14 +71,11 @@ struct pool {
 	struct member member[TAGS_MAX_HANDS];
 	/* hands that no thread has, or NOBODY; the last one goes out first */
 	int berth[TAGS_MAX_HANDS];
-	uint32_t waiting[GROUPS];
-	uint32_t granted[GROUPS];
-	struct tags_counts counts;
 	struct tags_sums sums;
 	bool is_stopped;
-	/* the waits for eventfds that have begun, and what was added to each eventfd */
+	/* the waits that have begun, and how often each eventfd and each argument was notified */
 	uint64_t turns;
-	uint64_t told[EVENTS];
+	uint64_t told[EVENTS + ARGUMENTS];
 };
 
 /* What is behind a handle: nothing, a pool, or a hand of a pool. */
@@ -160,7 +152,6 @@ int32_t model_clear_batch(struct model *hand, const uint32_t *tags, size_t count
 int32_t model_clear_mask(struct model *hand, uint32_t first, uint64_t mask);
 
 int32_t model_flush(struct model *hand);
-int32_t model_flush_granted(struct model *hand, struct tags_grants *grants);
 /* Takes the least tag that the hand keeps, or returns NOWHERE. */
 int32_t model_reuse(struct model *hand);
 /* Notes that the hand won a tag, if it is in the window: nothing else is kept, so the window moves there. */
@@ -168,16 +159,11 @@ void model_lend(struct model *hand, uint32_t tag);
 /* Keeps a tag that is cleared, if it may be kept. */
 bool model_keep(struct model *hand, uint32_t tag);
 /*
- * Notes that the hand holds the tags of a list no more. All kept tags go back first if
- * @waits, or if none may be kept any more. Returns how many waiters that granted.
+ * Notes that the hand holds the tags of a list no more. All kept tags go back first if none may
+ * be kept any more.
  */
-int32_t model_release(struct model *hand, const uint32_t *tags, size_t n, bool waits);
+void model_release(struct model *hand, const uint32_t *tags, size_t n);
 void model_release_posted(struct model *hand, uint32_t tag);
-int32_t model_clear_granted(struct model *hand, uint32_t tag, struct tags_grants *grants);
-int32_t model_clear_batch_granted(struct model *hand, const uint32_t *tags, size_t count,
-				  struct tags_grants *grants);
-int32_t model_clear_mask_granted(struct model *hand, uint32_t first, uint64_t mask,
-				struct tags_grants *grants);
 int32_t model_get_write(struct model *hand, uint64_t value);
 int32_t model_read_clear(struct model *hand, uint32_t tag, uint64_t *value);
 
@@ -189,20 +175,18 @@ int32_t model_post_mask(struct model *hand, uint32_t first, uint64_t mask);
 int32_t model_take_mask(struct model *hand, uint32_t first, uint64_t mask);
 int32_t model_holds(struct model *hand, uint32_t tag);
 
-int32_t model_prepare(struct model *hand);
-int32_t model_finish(struct model *hand);
-
 int32_t model_busy(struct model *hand, uint64_t *into, size_t words);
 int32_t model_show(struct model *hand, uint32_t kind, struct tags_sizes *sizes);
-int32_t model_wakes(struct model *hand, struct tags_counts *counts);
+int32_t model_waiting(struct model *hand);
 int32_t model_pool_busy(struct model *pool, uint64_t *into, size_t words);
 int32_t model_pool_show(struct model *pool, uint32_t kind, struct tags_sizes *sizes);
-int32_t model_pool_wakes(struct model *pool, struct tags_counts *counts);
+int32_t model_pool_waiting(struct model *pool);
 
 /* After a get: those that it made free are told of, without those of the latest sweep that it won. Returns @answer. */
 int32_t model_swept(struct model *hand, int32_t answer);
 /* After a call that gave this many tags back, unless it was refused. Returns @answer. */
 int32_t model_gave(struct model *hand, int32_t answer, uint32_t freed);
+/* An @event from EVENTS on is an argument of the function. */
 int32_t model_get_async(struct model *hand, int32_t event);
 int32_t model_cancel(struct model *hand);
 int32_t model_stop(struct model *handle);

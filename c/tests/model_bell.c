@@ -1,4 +1,4 @@
-/* The model of the bell: which hands wait for an eventfd, and which are told of tags that became free. */
+/* The model of the bell: which hands wait to be notified, and which are told of tags that became free. */
 #include "model.h"
 
 /* Returns the hand that is listed and has waited longest, or NULL. */
@@ -145,8 +145,6 @@ static int32_t get_or_listen(struct model *hand, uint32_t event)
 
 	if (hand->pool->set[TAGS_ORDINARY].depth == 0)
 		return TAGS_NO_SUCH_TAG;
-	if (member->standing != NOWHERE)
-		return TAGS_WAITING;
 	if (member->turn == 0)
 		member->turn = ++hand->pool->turns;
 	member->event = event;

@@ -62,12 +62,11 @@ bool model_keep(struct model *hand, uint32_t tag)
 
 	if (!hand->pool->is_careful && !(member->lent & bit_of(member, tag)))
 		aim(member, tag);
-	if (hand->pool->counts.active || are_last(hand, &tag, 1))
+	if (are_last(hand, &tag, 1))
 		return false;
 	if (!has_place(hand, tag)) {
 		if (hand->pool->cache == 0 || (hand->pool->is_careful && !bit_of(member, tag)))
 			return false;
-		/* nobody waits, so nobody is woken */
 		model_flush(hand);
 		if (!hand->pool->is_careful)
 			aim(member, tag);
@@ -77,19 +76,17 @@ bool model_keep(struct model *hand, uint32_t tag)
 	return true;
 }
 
-int32_t model_release(struct model *hand, const uint32_t *tags, size_t n, bool waits)
+void model_release(struct model *hand, const uint32_t *tags, size_t n)
 {
 	struct member *member = member_of(hand);
-	int32_t woken = 0;
 
-	if (waits || are_last(hand, tags, n))
-		woken = model_flush(hand);
+	if (are_last(hand, tags, n))
+		model_flush(hand);
 	member->lent = lent_without(member, tags, n);
-	return woken;
 }
 
 void model_release_posted(struct model *hand, uint32_t tag)
 {
 	if (member_of(hand)->lent & bit_of(member_of(hand), tag))
-		model_release(hand, &tag, 1, false);
+		model_release(hand, &tag, 1);
 }

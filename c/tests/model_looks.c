@@ -1,44 +1,7 @@
-/* The model of waits and reports. */
+/* The model of reports. */
 #include "model.h"
 
 #include <string.h>
-
-int32_t model_prepare(struct model *hand)
-{
-	struct member *member;
-
-	if (!is_hand(hand))
-		return TAGS_BAD_HANDLE;
-	member = member_of(hand);
-	if (member->standing != NOWHERE || member->bell != IDLE)
-		return TAGS_WAITING;
-	model_flush(hand);
-	member->standing = (int)member->next_group;
-	member->next_group = (member->next_group + 1) % GROUPS;
-	hand->pool->counts.active++;
-	hand->pool->waiting[member->standing]++;
-	return member->standing;
-}
-
-int32_t model_finish(struct model *hand)
-{
-	int group;
-
-	if (!is_hand(hand))
-		return TAGS_BAD_HANDLE;
-	group = member_of(hand)->standing;
-	if (group == NOWHERE)
-		return TAGS_NOT_WAITING;
-	member_of(hand)->standing = NOWHERE;
-	hand->pool->counts.active--;
-	if (hand->pool->granted[group] > 0) {
-		hand->pool->granted[group]--;
-		hand->pool->sums.used++;
-		return 1;
-	}
-	hand->pool->waiting[group]--;
-	return 0;
-}
 
 static bool is_busy(const struct set *set, uint32_t at)
 {
@@ -104,25 +67,21 @@ int32_t model_pool_show(struct model *pool, uint32_t kind, struct tags_sizes *si
 	return is_pool(pool) ? show_set(pool, kind, sizes) : TAGS_BAD_HANDLE;
 }
 
-static void count(const struct pool *pool, struct tags_counts *counts)
+static int32_t count_waiting(const struct pool *pool)
 {
-	*counts = pool->counts;
+	int32_t waiting = 0;
+
 	for (uint32_t i = 0; i < pool->hands; i++)
-		counts->waiting += pool->member[i].bell != IDLE;
+		waiting += pool->member[i].bell != IDLE;
+	return waiting;
 }
 
-int32_t model_wakes(struct model *hand, struct tags_counts *counts)
+int32_t model_waiting(struct model *hand)
 {
-	if (!is_hand(hand))
-		return TAGS_BAD_HANDLE;
-	count(hand->pool, counts);
-	return TAGS_OK;
+	return is_hand(hand) ? count_waiting(hand->pool) : TAGS_BAD_HANDLE;
 }
 
-int32_t model_pool_wakes(struct model *pool, struct tags_counts *counts)
+int32_t model_pool_waiting(struct model *pool)
 {
-	if (!is_pool(pool))
-		return TAGS_BAD_HANDLE;
-	count(pool->pool, counts);
-	return TAGS_OK;
+	return is_pool(pool) ? count_waiting(pool->pool) : TAGS_BAD_HANDLE;
 }

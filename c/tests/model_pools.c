@@ -33,13 +33,6 @@ static void open_set(struct set *set, uint32_t first, uint32_t depth,
 	set->round_robin = options->flags & TAGS_ROUND_ROBIN;
 }
 
-static uint32_t batch_of(uint32_t depth, uint32_t min_shallow)
-{
-	uint32_t eighth = (min_shallow ? least_of(min_shallow, depth) : depth) / 8;
-
-	return eighth < 1 ? 1 : least_of(eighth, 8);
-}
-
 static int32_t find_fault(const struct tags_options *options)
 {
 	if (options->flags > (TAGS_ROUND_ROBIN | TAGS_ONE_PER_WORD | TAGS_KEEP_WHILE_HOLDING))
@@ -72,16 +65,12 @@ int32_t model_open(struct model *handle, const struct tags_options *options)
 		abort();
 	open_set(&pool->set[TAGS_ORDINARY], options->reserved, ordinary, options);
 	open_set(&pool->set[TAGS_RESERVED], 0, options->reserved, options);
-	pool->min_shallow = options->min_shallow;
 	pool->least = options->min_shallow ? options->min_shallow : 1;
-	pool->batch = batch_of(ordinary, options->min_shallow);
 	pool->hands = options->hands;
 	pool->cache = options->cache;
 	pool->is_careful = options->flags & TAGS_KEEP_WHILE_HOLDING;
-	for (uint32_t i = 0; i < pool->hands; i++) {
+	for (uint32_t i = 0; i < pool->hands; i++)
 		pool->berth[i] = (int)(pool->hands - 1 - i);
-		pool->member[i].standing = NOWHERE;
-	}
 	handle->pool = pool;
 	handle->number = THE_POOL;
 	return TAGS_OK;
@@ -154,7 +143,6 @@ static void renew(struct pool *pool, uint32_t depth)
 		set->place[at] = FREE;
 		set->slot[at] = 0;
 	}
-	pool->batch = batch_of(depth, pool->min_shallow);
 }
 
 int32_t model_resize(struct model *handle, uint32_t total)
@@ -171,8 +159,6 @@ int32_t model_resize(struct model *handle, uint32_t total)
 		return TAGS_HANDS_OUT;
 	if (pool->sums.held || pool->sums.posted)
 		return TAGS_IN_USE;
-	if (pool->counts.active)
-		return TAGS_HANDS_WAIT;
 	renew(pool, total - pool->set[TAGS_RESERVED].depth);
 	return TAGS_OK;
 }

@@ -13,8 +13,6 @@ static_assert(std::is_nothrow_move_constructible_v<tags::tag> &&
 	      std::is_nothrow_move_assignable_v<tags::tag>);
 static_assert(std::is_nothrow_move_constructible_v<tags::batch> &&
 	      std::is_nothrow_move_assignable_v<tags::batch>);
-static_assert(std::is_nothrow_move_constructible_v<tags::wait> &&
-	      std::is_nothrow_move_assignable_v<tags::wait>);
 static_assert(std::is_nothrow_move_constructible_v<tags::hand> &&
 	      std::is_nothrow_move_assignable_v<tags::hand>);
 static_assert(std::is_nothrow_move_constructible_v<tags::pool> &&
@@ -22,7 +20,6 @@ static_assert(std::is_nothrow_move_constructible_v<tags::pool> &&
 static_assert(!std::is_copy_constructible_v<tags::tag> && !std::is_copy_assignable_v<tags::tag>);
 static_assert(!std::is_copy_constructible_v<tags::batch> &&
 	      !std::is_copy_assignable_v<tags::batch>);
-static_assert(!std::is_copy_constructible_v<tags::wait> && !std::is_copy_assignable_v<tags::wait>);
 static_assert(!std::is_copy_constructible_v<tags::hand> && !std::is_copy_assignable_v<tags::hand>);
 static_assert(!std::is_copy_constructible_v<tags::pool> && !std::is_copy_assignable_v<tags::pool>);
 static_assert(!std::is_convertible_v<tags::tag, bool> &&
@@ -70,7 +67,7 @@ static void each_end_gives_tags_back()
 	CHECK(busy(hand) == 0);
 	CHECK(hand.show(tags::kind::ordinary, ec).depth == 14 &&
 	      hand.show(tags::kind::reserved, ec).depth == 2);
-	CHECK(hand.wakes(ec).active == 0 && !ec);
+	CHECK(hand.waiting(ec) == 0 && !ec);
 	hand.leave(ec);
 	const tags::totals sums = pool.close(ec);
 	CHECK(!ec && !pool && !hand && sums.got == 5 && sums.back == 5 && sums.held == 0 &&
@@ -364,25 +361,30 @@ static void caches()
 	get(second).clear();
 }
 
+static void count_call(void *calls)
+{
+	++*static_cast<int *>(calls);
+}
+
 static void waits_by_other_means()
 {
 	tags::pool pool(sized(1, 2), ec);
 	tags::hand one = pool.join(ec);
 	tags::hand other = pool.join(ec);
 	tags::tag tag = get(one);
-	tags::wait wait = other.prepare(ec);
-	CHECK(wait && !ec && !other.prepare(ec) && ec == errc::waiting);
-	other.leave(ec);
-	CHECK(ec == errc::waiting && other);
+	int calls = 0;
+	CHECK(!other.get_notified(count_call, &calls, ec) && !ec);
+	CHECK(one.waiting(ec) == 1 && !ec && pool.waiting(ec) == 1 && !ec);
 	tag.clear();
-	tags::wait moved(std::move(wait));
-	CHECK(!wait && moved && moved.finish() && !moved && !moved.finish());
-	moved = other.prepare(ec);
-	CHECK(moved);
-	tags::wait &itself = moved;
-	moved = std::move(itself);
-	moved = tags::wait();
-	CHECK(other.wakes(ec).active == 0);
+	CHECK(calls == 1);
+	tag = *other.get_notified(count_call, &calls, ec);
+	CHECK(!ec && tag && pool.waiting(ec) == 0);
+	// A wait ends with the hand.
+	CHECK(!one.get_notified(count_call, &calls, ec) && !ec);
+	one.leave(ec);
+	CHECK(!ec && pool.waiting(ec) == 0);
+	tag.clear();
+	CHECK(calls == 1);
 }
 
 static void resizes()
@@ -421,9 +423,7 @@ static void a_pool_reports_without_a_hand()
 	const tags::sizes sizes = pool.show(tags::kind::ordinary, ec);
 	CHECK(!ec && sizes.depth == 68 && sizes.busy == 1 && sizes.bits_per_word == 16);
 	CHECK(pool.show(tags::kind::reserved, ec).busy == 1 && pool.batch_limit() == 16);
-	CHECK(pool.wakes(ec).active == 0 && !ec);
-	const tags::wait wait = hand.prepare(ec);
-	CHECK(pool.wakes(ec).active == 1 && !ec);
+	CHECK(pool.waiting(ec) == 0 && !ec && hand.waiting(ec) == 0 && !ec);
 }
 
 // A look at each busy tag, beside which the pool may be used.

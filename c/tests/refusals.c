@@ -1,8 +1,7 @@
 /*
  * Provokes each refusal, checks its number, and that a refused call changes
- * nothing. TAGS_NO_MEMORY is in memory.c, and TAGS_AGAIN in threads.c. The README
- * says why no caller sees the other three: TAGS_SPENT, TAGS_NO_ROOM and
- * TAGS_HAND_LOST.
+ * nothing. TAGS_NO_MEMORY is in memory.c. The README says why no caller sees the
+ * other three: TAGS_SPENT, TAGS_NO_ROOM and TAGS_HAND_LOST.
  */
 #include <stdio.h>
 #include <string.h>
@@ -50,10 +49,16 @@ static int never(uint32_t tag, void *unused)
 	return 0;
 }
 
+/* Is not called: nobody is told here. */
+static void never_call(void *unused)
+{
+	(void)unused;
+	want("a call", 1, 0);
+}
+
 /* Passes NULL for each pointer in turn. */
 static void refuse_null(struct tags_pool *pool, struct tags_hand *hand)
 {
-	struct tags_grants grants;
 	const uint32_t tag = 2;
 	uint64_t value = 5;
 
@@ -80,34 +85,25 @@ static void refuse_null(struct tags_pool *pool, struct tags_hand *hand)
 	WANT(tags_holds(NULL, 2), -28);
 	WANT(tags_busy(hand, NULL, 1), -28);
 	WANT(tags_show(hand, TAGS_ORDINARY, NULL), -28);
-	WANT(tags_wakes(hand, NULL), -28);
-	WANT(tags_prepare(NULL), -28);
-	WANT(tags_finish(NULL), -28);
+	WANT(tags_waiting(NULL), -28);
 	WANT(tags_pool_busy(NULL, &value, 1), -28);
 	WANT(tags_pool_busy(pool, NULL, 1), -28);
 	WANT(tags_pool_each_busy(NULL, never, NULL), -28);
 	WANT(tags_pool_each_busy(pool, NULL, &value), -28);
 	WANT(tags_pool_show(pool, TAGS_ORDINARY, NULL), -28);
-	WANT(tags_pool_wakes(pool, NULL), -28);
+	WANT(tags_pool_waiting(NULL), -28);
 	WANT(tags_pool_total(NULL), -28);
 	WANT(tags_pool_batch(NULL), -28);
 	WANT(tags_get_blocking(NULL), -28);
 	WANT(tags_clear_batch(NULL, &tag, 1), -28);
 	WANT(tags_clear_mask(NULL, 2, 1), -28);
-	WANT(tags_clear_mask_granted(NULL, 2, 1, &grants), -28);
-	WANT(tags_clear_mask_granted(hand, 2, 1, NULL), -28);
-	WANT(tags_clear_granted(NULL, 2, &grants), -28);
-	WANT(tags_clear_granted(hand, 2, NULL), -28);
-	WANT(tags_clear_batch_granted(NULL, &tag, 1, &grants), -28);
-	WANT(tags_clear_batch_granted(hand, NULL, 1, &grants), -28);
-	WANT(tags_clear_batch_granted(hand, &tag, 1, NULL), -28);
 	WANT(tags_flush(NULL), -28);
-	WANT(tags_flush_granted(NULL, &grants), -28);
-	WANT(tags_flush_granted(hand, NULL), -28);
 	WANT(tags_get_write(NULL, 1), -28);
 	WANT(tags_read_clear(NULL, 2, &value), -28);
 	WANT(tags_read_clear(hand, 2, NULL), -28);
 	WANT(tags_get_async(NULL, 0), -28);
+	WANT(tags_get_notified(NULL, never_call, NULL), -28);
+	WANT(tags_get_notified(hand, NULL, &value), -28);
 	WANT(tags_cancel(NULL), -28);
 	WANT(tags_stop(NULL), -28);
 }
@@ -164,8 +160,6 @@ static void refuse_options(void)
 static void refuse_handle(struct tags_hand *hand)
 {
 	struct tags_sizes sizes;
-	struct tags_counts counts;
-	struct tags_grants grants = { .woken = 5 };
 	const uint32_t tag = 2;
 	uint64_t value = 5;
 
@@ -174,15 +168,11 @@ static void refuse_handle(struct tags_hand *hand)
 	WANT(tags_get_shallow(hand, 3), -12);
 	WANT(tags_get_batch(hand, 1, &value), -12);
 	WANT(tags_clear(hand, tag), -12);
-	WANT(tags_clear_granted(hand, tag, &grants), -12);
-	WANT(tags_clear_batch_granted(hand, &tag, 1, &grants), -12);
 	WANT(tags_get_write(hand, 1), -12);
 	WANT(tags_read_clear(hand, tag, &value), -12);
 	WANT(tags_clear_batch(hand, &tag, 1), -12);
 	WANT(tags_clear_mask(hand, tag, 1), -12);
-	WANT(tags_clear_mask_granted(hand, tag, 1, &grants), -12);
 	WANT(tags_flush(hand), -12);
-	WANT(tags_flush_granted(hand, &grants), -12);
 	WANT(tags_read(hand, tag, &value), -12);
 	WANT(tags_write(hand, tag, 1, &value), -12);
 	WANT(tags_post(hand, tag), -12);
@@ -192,27 +182,24 @@ static void refuse_handle(struct tags_hand *hand)
 	WANT(tags_holds(hand, tag), -12);
 	WANT(tags_busy(hand, &value, 1), -12);
 	WANT(tags_show(hand, TAGS_ORDINARY, &sizes), -12);
-	WANT(tags_wakes(hand, &counts), -12);
-	WANT(tags_prepare(hand), -12);
-	WANT(tags_finish(hand), -12);
+	WANT(tags_waiting(hand), -12);
 	WANT(tags_leave(hand), -12);
-	WANT(value == 5 && grants.woken == 5, 1);
+	WANT(value == 5, 1);
 }
 
 /* An empty handle, or that of a hand, is no pool to report of. */
 static void refuse_reports(struct tags_pool *pool)
 {
-	struct tags_counts counts = { .counted = 5 };
 	struct tags_sizes sizes = { .depth = 5 };
 	uint64_t bits = 5;
 
 	WANT(tags_pool_busy(pool, &bits, 1), -12);
 	WANT(tags_pool_each_busy(pool, never, NULL), -12);
 	WANT(tags_pool_show(pool, TAGS_ORDINARY, &sizes), -12);
-	WANT(tags_pool_wakes(pool, &counts), -12);
+	WANT(tags_pool_waiting(pool), -12);
 	WANT(tags_pool_total(pool), -12);
 	WANT(tags_pool_batch(pool), -12);
-	WANT(bits == 5 && sizes.depth == 5 && counts.counted == 5, 1);
+	WANT(bits == 5 && sizes.depth == 5, 1);
 }
 
 static void refuse_handles(struct tags_pool *pool, struct tags_hand *hand)
@@ -228,6 +215,8 @@ static void refuse_handles(struct tags_pool *pool, struct tags_hand *hand)
 	WANT(tags_get_async(&idle, -1), -12);
 	WANT(tags_get_async(as_hand(pool), 0), -12);
 	WANT(tags_get_async(hand, -1), -33);
+	WANT(tags_get_notified(&idle, never_call, NULL), -12);
+	WANT(tags_get_notified(as_hand(pool), never_call, NULL), -12);
 	WANT(tags_cancel(&idle), -12);
 	WANT(tags_cancel(as_hand(pool)), -12);
 	WANT(tags_cancel(hand), -9);
@@ -335,15 +324,6 @@ static void refuse_sizes(struct tags_hand *hand)
 	WANT(sizes.depth == 5, 1);
 }
 
-static void refuse_waits(struct tags_hand *hand)
-{
-	WANT(tags_finish(hand), -9);
-	WANT(tags_prepare(hand), 0);
-	WANT(tags_prepare(hand), -8);
-	WANT(tags_finish(hand), 0);
-	WANT(tags_finish(hand), -9);
-}
-
 static void use_up(struct tags_hand *hand)
 {
 	int32_t tag;
@@ -354,9 +334,10 @@ static void use_up(struct tags_hand *hand)
 	while ((tag = tags_get(hand)) >= 0)
 		;
 	WANT(tag, -10);
-	WANT(tags_prepare(hand), 1);
+	WANT(tags_get_notified(hand, never_call, NULL), -10);
 	WANT(tags_get_blocking(hand), -8);
-	WANT(tags_finish(hand), 0);
+	WANT(tags_cancel(hand), 0);
+	WANT(tags_cancel(hand), -9);
 }
 
 /* Uses a pool without reserved tags, and one without ordinary ones. */
@@ -377,6 +358,7 @@ static void refuse_kinds(void)
 	WANT(tags_join(&pool, &hand, 0), 0);
 	WANT(tags_get(&hand), -10);
 	WANT(tags_get_blocking(&hand), -1);
+	WANT(tags_get_notified(&hand, never_call, NULL), -1);
 	WANT(tags_leave(&hand), 0);
 	WANT(tags_close(&pool, &sums), 0);
 }
@@ -493,7 +475,7 @@ static void stay_or_begin_again(void)
 	WANT(sums.got == 7 && sums.back == 5 && sums.held == 2, 1);
 }
 
-/* What a resize needs: no hand out, no tag in use, and no hand in a wait group. */
+/* What a resize needs: no hand out, and no tag in use. A wait ends with a leave. */
 static void refuse_resizes(void)
 {
 	struct tags_pool pool = TAGS_EMPTY;
@@ -504,7 +486,6 @@ static void refuse_resizes(void)
 	WANT(tags_open(&pool, &twelve), 0);
 	WANT(tags_join(&pool, &hand, TAGS_STAY), 0);
 	WANT(tags_get_reserved(&hand), 0);
-	WANT(tags_prepare(&hand), 0);
 	WANT(tags_resize(&pool, 20), -15);
 	WANT(tags_leave(&hand), 0);
 	WANT(tags_resize(&pool, TAGS_MAX_TOTAL + 1), -22);
@@ -516,12 +497,6 @@ static void refuse_resizes(void)
 	WANT(tags_join(&pool, &hand, TAGS_STAY), 0);
 	WANT(tags_take(&hand, 0), 0);
 	WANT(tags_clear(&hand, 0), 0);
-	WANT(tags_leave(&hand), 0);
-	WANT(tags_resize(&pool, 20), -30);
-	WANT(tags_join(&pool, &hand, TAGS_STAY), 0);
-	WANT(tags_show(&hand, TAGS_ORDINARY, &sizes), 0);
-	WANT(sizes.depth == 10, 1);
-	WANT(tags_finish(&hand), 0);
 	WANT(tags_leave(&hand), 0);
 	WANT(tags_resize(&pool, 2), 0);
 	WANT(tags_resize(&pool, 20), 0);
@@ -542,7 +517,6 @@ static void refuse_kept(void)
 	struct tags_pool pool = TAGS_EMPTY;
 	struct tags_hand hand = TAGS_EMPTY;
 	struct tags_hand other = TAGS_EMPTY;
-	struct tags_grants grants;
 	struct tags_sums sums;
 	const uint32_t two = 2;
 	uint64_t value = 5;
@@ -555,7 +529,6 @@ static void refuse_kept(void)
 	WANT(tags_write(&hand, 2, 7, NULL), 0);
 	WANT(tags_clear(&hand, 2), 0);
 	WANT(tags_clear(&hand, 2), -3);
-	WANT(tags_clear_granted(&hand, 2, &grants), -3);
 	WANT(tags_clear_batch(&hand, &two, 1), -3);
 	WANT(tags_clear_mask(&hand, 2, 1), -3);
 	WANT(tags_read(&hand, 2, &value), -3);
@@ -572,8 +545,7 @@ static void refuse_kept(void)
 	WANT(tags_read(&hand, 2, &value), 0);
 	WANT(value == 7, 1);
 	WANT(tags_clear(&hand, 2), 0);
-	WANT(tags_flush_granted(&hand, &grants), 0);
-	WANT(grants.woken == 0, 1);
+	WANT(tags_flush(&hand), 0);
 	WANT(tags_flush(&hand), 0);
 	WANT(tags_clear(&other, 3), 0);
 	WANT(tags_busy(&hand, &value, 1), 1);
@@ -584,16 +556,20 @@ static void refuse_kept(void)
 	WANT(sums.got == 2 && sums.back == 2 && sums.held == 0, 1);
 }
 
+static int is_left_out(int32_t status)
+{
+	return status == -11 || status == -26 || status == -27 || status == -30;
+}
+
 static void name_statuses(void)
 {
-	/* two numbers are left out */
-	const char *none = tags_strerror(-26);
+	const char *none = tags_strerror(TAGS_STOPPED - 1);
 
 	for (int32_t status = TAGS_STOPPED; status < 0; status++)
 		for (int32_t other = status + 1; other <= 0; other++)
 			WANT(strcmp(tags_strerror(status), tags_strerror(other)) == 0,
-			     status == -27 && other == -26);
-	WANT(strcmp(none, tags_strerror(TAGS_STOPPED - 1)), 0);
+			     is_left_out(status) && is_left_out(other));
+	WANT(strcmp(none, tags_strerror(-26)), 0);
 	WANT(strcmp(tags_strerror(7), tags_strerror(TAGS_OK)), 0);
 	WANT(strcmp(tags_strerror(INT32_MIN), tags_strerror(TAGS_STOPPED - 1)), 0);
 }
@@ -615,7 +591,6 @@ int main(void)
 	refuse_counts(&hand);
 	refuse_sizes(&hand);
 	refuse_pool_sizes(&pool);
-	refuse_waits(&hand);
 	use_up(&hand);
 	WANT(tags_leave(&hand), 0);
 	WANT(tags_leave(&other), 0);

@@ -57,7 +57,6 @@ static void look(bool may_be_closed)
 {
 	static const uint32_t hands = 1;
 	uint64_t bits[WORDS];
-	struct tags_counts counts;
 	struct tags_sizes sizes = { 0, 0, 0, 0, 0 };
 	int32_t busy = tags_pool_busy(&pool, bits, WORDS);
 	int32_t status = tags_pool_show(&pool, TAGS_ORDINARY, &sizes);
@@ -67,8 +66,8 @@ static void look(bool may_be_closed)
 		CHECK((sizes.depth == SMALL || sizes.depth == LARGE) && sizes.busy <= hands);
 	else
 		CHECK(may_be_closed && is_closed(status));
-	status = tags_pool_wakes(&pool, &counts);
-	CHECK(status == TAGS_OK || (may_be_closed && is_closed(status)));
+	status = tags_pool_waiting(&pool);
+	CHECK(status >= 0 || (may_be_closed && is_closed(status)));
 	look_at_each(may_be_closed);
 }
 

@@ -128,11 +128,7 @@ static void crowd(uint32_t tags, uint32_t reserved, uint32_t cache, uint32_t fla
 	check(tags_close(&pool, &sums) == TAGS_OK);
 	check(sums.back == sums.got && sums.held == 0 && inside == 0);
 	check(cache > 0 || sums.got == (uint64_t)(THREADS * rounds * (in_pairs ? 3 : 1)));
-	check(sums.issued <= sums.charged && sums.charged <= sums.counted &&
-	      sums.counted <= sums.back);
-	check(sums.used <= sums.issued);
-	fprintf(stderr, "%" PRIu32 " tags: %" PRIu64 " wakeups of %" PRIu64 " gets\n", tags,
-		sums.issued, sums.got);
+	fprintf(stderr, "%" PRIu32 " tags: %" PRIu64 " gets\n", tags, sums.got);
 }
 
 /*
@@ -193,7 +189,7 @@ static void duel(void)
 	pthread_join(id, NULL);
 	check(tags_leave(&hand) == TAGS_OK && tags_leave(&waiter) == TAGS_OK);
 	check(tags_close(&pool, &sums) == TAGS_OK && sums.back == sums.got);
-	fprintf(stderr, "duel: %" PRIu64 " wakeups of %" PRIu64 " gets\n", sums.issued, sums.got);
+	fprintf(stderr, "duel: %" PRIu64 " gets\n", sums.got);
 }
 
 int main(int argc, char **argv)
@@ -203,7 +199,6 @@ int main(int argc, char **argv)
 	crowd(1, 0, 0, 0, false);
 	crowd(2, 3, 0, 0, false);
 	crowd(7, 0, 0, 0, false);
-	/* 16 tags make the wakeup batch 2 */
 	crowd(16, 1, 0, 0, false);
 	crowd(1, 0, 1, 0, false);
 	crowd(7, 1, 2, 0, false);

@@ -1,22 +1,18 @@
 /*
  * Runs threads that get, post, take and clear at random, and checks that no tag
- * has two holders, a slot has what its holder wrote, and the sums are exact. Then
- * they enter and leave wait groups until one gets TAGS_AGAIN; not so if ROUNDS are
- * given, as under valgrind, where one thread runs at a time. threads [ROUNDS]
+ * has two holders, a slot has what its holder wrote, and the sums are exact.
+ * threads [ROUNDS]
  */
 #include <inttypes.h>
 #include <pthread.h>
 #include <stdbool.h>
 #include <stdio.h>
 #include <stdlib.h>
-#include <time.h>
 
 #include "../tags.h"
 
 enum {
 	THREADS = 8,
-	/* by then another thread has come between */
-	SECONDS = 60,
 	TAGS = 70,
 	RESERVED = 6,
 	/* the most tags that a thread holds at once */
@@ -40,9 +36,6 @@ static long rounds = 200000;
 /* The thread that holds each tag, or 0. Only a second holder would find another number here. */
 static uint32_t holder[TAGS];
 static uint64_t wrong;
-
-/* Whether a thread was told TAGS_AGAIN. */
-static bool again;
 
 static uint32_t draw(struct thread *self)
 {
@@ -164,28 +157,10 @@ static void *run(void *argument)
 	return NULL;
 }
 
-/* Nobody clears meanwhile, so no wakeup is granted. */
-static void *stand(void *argument)
-{
-	struct thread *self = argument;
-	time_t end = time(NULL) + SECONDS;
-
-	while (!__atomic_load_n(&again, __ATOMIC_RELAXED) && time(NULL) < end) {
-		int32_t group = tags_prepare(&self->hand);
-		int32_t status;
-
-		check(group >= 0);
-		while ((status = tags_finish(&self->hand)) == TAGS_AGAIN)
-			__atomic_store_n(&again, true, __ATOMIC_RELAXED);
-		check(status == 0);
-	}
-	return NULL;
-}
-
-static void run_all(struct thread *threads, void *(*role)(void *))
+static void run_all(struct thread *threads)
 {
 	for (int i = 0; i < THREADS; i++)
-		check(pthread_create(&threads[i].id, NULL, role, &threads[i]) == 0);
+		check(pthread_create(&threads[i].id, NULL, run, &threads[i]) == 0);
 	for (int i = 0; i < THREADS; i++)
 		check(pthread_join(threads[i].id, NULL) == 0);
 }
@@ -227,11 +202,7 @@ int main(int argc, char **argv)
 		return 1;
 	for (uint32_t i = 0; i < THREADS; i++)
 		start(&threads[i], i + 1, &pool);
-	run_all(threads, run);
-	if (argc == 1) {
-		run_all(threads, stand);
-		check(again);
-	}
+	run_all(threads);
 	for (int i = 0; i < THREADS; i++) {
 		got += threads[i].got;
 		posted += threads[i].posted - threads[i].taken;

@@ -1,6 +1,6 @@
 /*
  * Waits for a tag: no thread sleeps beside free tags, a wait ends at its
- * deadline, and what a thread that gave up was granted is not lost for the
+ * deadline, and a tag of which a thread was told that gave up is not lost for the
  * others. A lost wakeup would be a thread that sleeps for ever. waits [ROUNDS]
  */
 #define _GNU_SOURCE
@@ -107,13 +107,13 @@ static void close_pool(struct tags_pool *pool)
  * Free tags
  */
 
-enum way { CLEAR, CLEAR_BATCH, CLEAR_RUN, CLEAR_GRANTED };
+enum way { CLEAR, CLEAR_BATCH, CLEAR_RUN, READ_CLEAR };
 
 static enum way the_way;
 
 static int32_t give(struct tags_hand *hand, enum way way, uint32_t tag)
 {
-	struct tags_grants grants;
+	uint64_t value;
 
 	if (way == CLEAR)
 		return tags_clear(hand, tag);
@@ -121,7 +121,7 @@ static int32_t give(struct tags_hand *hand, enum way way, uint32_t tag)
 		return tags_clear_batch(hand, &tag, 1);
 	if (way == CLEAR_RUN)
 		return tags_clear_mask(hand, tag, 1);
-	return tags_clear_granted(hand, tag, &grants);
+	return tags_read_clear(hand, tag, &value);
 }
 
 /* Gives its tag back once as many threads have one as tags became free. */
@@ -194,7 +194,7 @@ static void time_out(struct tags_hand *hand, int32_t clock)
 
 	CHECK(tags_get_timed(hand, clock, &end) == TAGS_TIMED_OUT);
 	CHECK(us_since(begin) >= 29000);
-	CHECK(tags_finish(hand) == TAGS_NOT_WAITING);
+	CHECK(tags_cancel(hand) == TAGS_NOT_WAITING && tags_waiting(hand) == 0);
 	begin = now(CLOCK_MONOTONIC);
 	CHECK(tags_get_timed(hand, clock, &end) == TAGS_TIMED_OUT);
 	end = (struct timespec){ -5, 0 };
@@ -217,6 +217,11 @@ static void refuse_times(struct tags_hand *hand)
 	CHECK(tags_get_timed(&none, CLOCK_REALTIME, &end) == TAGS_BAD_HANDLE);
 }
 
+static void ignore(void *unused)
+{
+	(void)unused;
+}
+
 static void keep_to_a_deadline(void)
 {
 	struct tags_pool pool = TAGS_EMPTY;
@@ -230,11 +235,11 @@ static void keep_to_a_deadline(void)
 	CHECK(tags_get_timed(&hand, CLOCK_MONOTONIC, &past) == 0);
 	time_out(&other, CLOCK_MONOTONIC);
 	time_out(&other, CLOCK_REALTIME);
-	CHECK(tags_prepare(&other) >= 0);
 	CHECK(tags_get_timed(&other, CLOCK_MONOTONIC, &past) == TAGS_TIMED_OUT);
+	CHECK(tags_get_notified(&other, ignore, NULL) == TAGS_NO_TAG);
 	past = after(CLOCK_MONOTONIC, 10000000);
 	CHECK(tags_get_timed(&other, CLOCK_MONOTONIC, &past) == TAGS_WAITING);
-	CHECK(tags_finish(&other) == 0);
+	CHECK(tags_cancel(&other) == TAGS_OK);
 	CHECK(tags_clear(&hand, 0) == 0);
 	CHECK(tags_get_timed(&other, CLOCK_REALTIME, &past) == 0);
 	CHECK(tags_clear(&other, 0) == 0);
@@ -290,7 +295,7 @@ int main(int argc, char **argv)
 {
 	if (argc > 1)
 		rounds = strtol(argv[1], NULL, 10);
-	for (enum way way = CLEAR; way <= CLEAR_GRANTED; way++) {
+	for (enum way way = CLEAR; way <= READ_CLEAR; way++) {
 		wake_beside_free_tags(64, 1, 7, way);
 		wake_beside_free_tags(64, 7, 7, way);
 		wake_beside_free_tags(64, 20, 20, way);

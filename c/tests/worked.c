@@ -40,13 +40,18 @@ static int note(uint32_t tag, void *bits)
 	return 0;
 }
 
+static void count_call(void *calls)
+{
+	++*(uint64_t *)calls;
+}
+
 static int stop_at(uint32_t tag, void *found)
 {
 	*(uint64_t *)found = tag;
 	return -1;
 }
 
-/* Tags pass from hand to hand, one hand waits, and all counts are told. */
+/* Tags pass from hand to hand, one hand waits, and all sums are told. */
 static void run_through_all_calls(void)
 {
 	const uint32_t pair[] = { 3, 4 };
@@ -54,8 +59,6 @@ static void run_through_all_calls(void)
 	struct tags_hand hand = TAGS_EMPTY;
 	struct tags_hand other = TAGS_EMPTY;
 	struct tags_sizes sizes;
-	struct tags_counts counts;
-	struct tags_grants grants;
 	struct tags_sums sums;
 	uint64_t value = 5;
 	uint64_t won = 0;
@@ -77,17 +80,12 @@ static void run_through_all_calls(void)
 	WANT(tags_get_batch(&hand, 3, &won), 3);
 	WANT(won, 7);
 	WANT(tags_get_shallow(&other, 2), TAGS_TOO_SHALLOW);
-	WANT(tags_prepare(&other), 0);
-	WANT(tags_clear_batch_granted(&hand, pair, 2, &grants), 1);
-	WANT(grants.woken, 1);
-	WANT(grants.in_group[0], 1);
-	WANT(grants.in_group[1], 0);
-	WANT(tags_finish(&other), 1);
+	WANT(tags_waiting(&other), 0);
+	WANT(tags_clear_batch(&hand, pair, 2), 0);
 	WANT(tags_get_batch(&hand, 3, &won), 3);
 	WANT(won, 3);
 	WANT(tags_clear_mask(&hand, 3, 1), 0);
-	WANT(tags_clear_mask_granted(&hand, 3, 2, &grants), 0);
-	WANT(grants.woken, 0);
+	WANT(tags_clear_mask(&hand, 3, 2), 0);
 	WANT(tags_read_clear(&other, 2, &value), 0);
 	WANT(value, 70);
 	WANT(tags_busy(&hand, &bits, 1), 2);
@@ -95,9 +93,6 @@ static void run_through_all_calls(void)
 	WANT(tags_show(&hand, TAGS_RESERVED, &sizes), TAGS_OK);
 	WANT(sizes.depth, 2);
 	WANT(sizes.busy, 1);
-	WANT(tags_wakes(&hand, &counts), TAGS_OK);
-	WANT(counts.counted, 2);
-	WANT(counts.active, 0);
 	WANT(tags_pool_busy(&pool, &bits, 1), 2);
 	WANT(bits, 33);
 	bits = 0;
@@ -112,16 +107,24 @@ static void run_through_all_calls(void)
 	WANT(sizes.busy, 1);
 	WANT(sizes.cleared, 1);
 	WANT(sizes.words, 3);
-	WANT(tags_pool_wakes(&pool, &counts), TAGS_OK);
-	WANT(counts.counted, 2);
-	WANT(counts.index, 1);
+	for (int32_t tag = 1; tag <= 9; tag++)
+		WANT(tags_get(&other) >= 2, 1);
+	WANT(tags_get_notified(&other, count_call, &value), TAGS_NO_TAG);
+	WANT(tags_waiting(&hand), 1);
+	value = 0;
+	WANT(tags_clear(&hand, 5), 0);
+	WANT(value, 1);
+	WANT(tags_pool_waiting(&pool), 1);
+	WANT(tags_get_notified(&other, count_call, &value), 5);
+	WANT(tags_pool_waiting(&pool), 0);
+	WANT(tags_cancel(&other), TAGS_NOT_WAITING);
 	WANT(tags_leave(&hand), TAGS_OK);
 	WANT(tags_close(&pool, &sums), TAGS_HANDS_OUT);
 	WANT(tags_leave(&other), TAGS_OK);
 	WANT(tags_close(&pool, &sums), TAGS_OK);
-	WANT(sums.got, 7);
-	WANT(sums.back, 5);
-	WANT(sums.held, 2);
+	WANT(sums.got, 17);
+	WANT(sums.back, 6);
+	WANT(sums.held, 11);
 	WANT(sums.posted, 0);
 	WANT(tags_close(&pool, &sums), TAGS_BAD_HANDLE);
 }

@@ -56,16 +56,16 @@ static uint32_t open_count(struct server *server)
 /* This needs no hand, and stops nobody. */
 void report_busy(struct server *server)
 {
-	struct tags_counts counts;
+	const int32_t waiting = tags_pool_waiting(&server->pool);
 	struct tags_sizes ordinary;
 	struct tags_sizes reserved;
 
 	must("tags_pool_show", tags_pool_show(&server->pool, TAGS_ORDINARY, &ordinary));
 	must("tags_pool_show", tags_pool_show(&server->pool, TAGS_RESERVED, &reserved));
-	must("tags_pool_wakes", tags_pool_wakes(&server->pool, &counts));
+	must("tags_pool_waiting", waiting);
 	printf("busy: ordinary %" PRIu32 "/%" PRIu32 ", reserved %" PRIu32 "/%" PRIu32 "; connections %" PRIu32
-	       ", of which %" PRIu32 " wait for a tag\n", ordinary.busy, ordinary.depth, reserved.busy,
-	       reserved.depth, open_count(server), counts.waiting);
+	       ", of which %" PRId32 " wait for a tag\n", ordinary.busy, ordinary.depth, reserved.busy,
+	       reserved.depth, open_count(server), waiting);
 	must("tags_pool_each_busy", tags_pool_each_busy(&server->pool, report_tag, server->requests));
 	fflush(stdout);
 }

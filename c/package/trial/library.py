@@ -9,13 +9,16 @@ import subprocess
 
 from telling import EXAMPLES, HERE, expected, lacks, makes, out, run, tell, untested
 
-# The first processor of the kind that qemu knows.
-OLDEST = ["qemu-x86_64", "-cpu", "Opteron_G1"]
+# The first processor of the kind that qemu knows, and one that has all that it knows.
+OLDEST, NEWEST = ["qemu-x86_64", "-cpu", "Opteron_G1"], ["qemu-x86_64", "-cpu", "max"]
 NEWER = 'int main(void) { unsigned long it = 7; __asm__("popcnt %0, %0" : "+r"(it)); return it != 3; }'
+OF_NEWER = r"\b(andn|bls[ir]|bzhi|s[ah][lr]x|rorx|lzcnt|popcnt)\b"
 NO_NEWER = r"\b(popcnt|crc32\w?|pinsr[bdq]|pextr[bdq]|ptest|pshufb|v?pcmp[ei]str\w|v[mp][a-z]+|lzcnt)\b"
 with open(f"{os.path.dirname(EXAMPLES)}/tags.h", encoding="utf-8") as header:
     VERSION = ".".join(re.findall(r"^#define TAGS_VERSION_M\w+ (\d+)", header.read(), re.M))
 SONAME, RUNTIME = f"libtags.so.{VERSION}", f"libtags{VERSION}"
+# The shared library for newer x86-64 processors, and where the loader is that looks for it.
+FOR_NEWER, LOADER = f"glibc-hwcaps/x86-64-v3/{SONAME}", "/lib64/ld-linux-x86-64.so.2"
 FLAGS = "-std=c99 -D_DEFAULT_SOURCE -O2 -Wall -Werror".split()
 
 
@@ -75,20 +78,49 @@ def pages(target):
 def check_shared(target):
     """A soname, the names of the library alone, and nothing needed but libc."""
     library = os.path.realpath(f"{target.lib}/libtags.so")
-    dynamic = out([f"{target.tools}readelf", "-d", library])
-    tell(f"{target.name}: soname", f"[{SONAME}]" in dynamic, dynamic)
-    tell(f"{target.name}: no text relocations", "TEXTREL" not in dynamic, dynamic)
-    tell(f"{target.name}: nothing is needed but libc", needed(target, library) == {"libc.so.6"}, dynamic)
-    names = {it.split()[-1].split("@")[0] for it in out([f"{target.tools}nm", "-D", "--defined-only", library]).splitlines()}
-    others = {it for it in names if not it.startswith("tags_")} - {f"TAGS_{VERSION}"}
-    tell(f"{target.name}: only names of the library are exported", not others, " ".join(others))
-    missing = pages(target).keys() - {"tags"} - names
-    tell(f"{target.name}: each call with a page is exported", not missing, " ".join(missing))
+    check_links(target, target.name, library)
+    newer = f"{target.lib}/{FOR_NEWER}"
+    tell(f"{target.name}: for which processors it has shared libraries", os.path.exists(newer) == (target.name == "amd64"))
     if target.is_native:
         run(f"{target.name}: the loader finds what the library needs", ["ldd", library])
         # An older processor reads tzcnt as bsf, which counts the same of all but 0.
-        newer = re.findall(NO_NEWER, out(["objdump", "-d", "--no-show-raw-insn", library]))
-        tell(f"{target.name}: no instruction of a newer processor", not newer, " ".join(newer))
+        found = re.findall(NO_NEWER, out(["objdump", "-d", "--no-show-raw-insn", library]))
+        tell(f"{target.name}: no instruction of a newer processor", not found, " ".join(found))
+    if target.name == "amd64":
+        check_links(target, "for newer processors", newer)
+        found = re.findall(OF_NEWER, out([f"{target.tools}objdump", "-d", "--no-show-raw-insn", newer]))
+        tell("for newer processors: there are their instructions", found)
+        names = [out([f"{target.tools}nm", "-D", "--defined-only", "--format=posix", it]) for it in (library, newer)]
+        exports = [[line.split()[0] for line in it.splitlines()] for it in names]
+        tell("for newer processors: the same exports", exports[0] == exports[1])
+
+
+def check_links(target, what, library):
+    """What other programs see of a shared library, and what it asks for."""
+    dynamic = out([f"{target.tools}readelf", "-d", library])
+    tell(f"{what}: soname", f"[{SONAME}]" in dynamic, dynamic)
+    tell(f"{what}: no text relocations", "TEXTREL" not in dynamic, dynamic)
+    tell(f"{what}: nothing is needed but libc", needed(target, library) == {"libc.so.6"}, dynamic)
+    names = {it.split()[-1].split("@")[0] for it in out([f"{target.tools}nm", "-D", "--defined-only", library]).splitlines()}
+    others = {it for it in names if not it.startswith("tags_")} - {f"TAGS_{VERSION}"}
+    tell(f"{what}: only names of the library are exported", not others, " ".join(others))
+    missing = pages(target).keys() - {"tags"} - names
+    tell(f"{what}: each call with a page is exported", not missing, " ".join(missing))
+
+
+def check_loader(what, program, folder, known):
+    """The loader takes the library for newer processors where the processor is one, by what the loader itself tells of it."""
+    for where, runner in {"here": [], "on an old processor": OLDEST, "on a new processor": NEWEST}.items():
+        if lacks(f"the loader {where} is", *runner[:1]):
+            continue
+        told = out([*runner, LOADER, "--help"])
+        if "x86-64-v3" not in told:
+            untested(f"the loader {where} is", "glibc before 2.33 looks for no library for newer processors")
+            continue
+        wanted = FOR_NEWER if "x86-64-v3 (supported, searched)" in told else SONAME
+        found = re.findall(rf"{re.escape(SONAME)} => (\S+)", out([*runner, LOADER, "--list", program], env=known))
+        tell(f"{what}: the loader takes {wanted} {where}", found == [f"{folder}/{wanted}"], " ".join(found))
+        run(f"{what}: quick_start {where}", [*runner, program], wanted=expected("quick_start"), env=known)
 
 
 def check_c(target):
@@ -110,6 +142,8 @@ def check_c(target):
             tell(f"{what}: what it needs", needed(target, program) == links, " ".join(needed(target, program)))
             if is_old:
                 run(f"{what}, on an old processor", [*OLDEST, program], wanted=expected(name), env=known)
+    if target.name == "amd64" and target.is_native:
+        check_loader("packages", f"{target.work}/quick_start_shared", target.lib, known)
 
 
 def has_plus(target):
@@ -188,11 +222,14 @@ def check_rust(target):
 
 
 def check_page(page, name, *wanted):
-    """Whether a page has these words, and how `man` shows it, where there is one."""
+    """Whether a page has these words, how `man` shows it, and whether `mandoc` finds fault with it, where they are."""
     with gzip.open(page, "rt", encoding="utf-8") as file:
         text = file.read()
     missing = [it for it in wanted if it not in text]
     tell(f"man {name}: what the page has", not missing, " ".join(missing))
+    if shutil.which("mandoc"):
+        linted = subprocess.run(["mandoc", "-Tlint", "-Wwarning"], input=text, capture_output=True, text=True, check=False)
+        tell(f"mandoc {name}", linted.returncode == 0, linted.stdout)
     if not shutil.which("man"):
         return
     known = {**os.environ, "LC_ALL": "C.UTF-8", "MANWIDTH": "80"}
@@ -224,6 +261,8 @@ def check_archive(target, dist):
     if run(f"{target.name}: build over the archive", [f"{target.tools}gcc", *FLAGS, source, "-o", program, *flags]):
         runner = [it.replace(target.lib, f"{tags}/lib") for it in target.runner]
         run(f"{target.name}: quick_start over the archive", [*runner, program], wanted=expected("quick_start"), env=known)
+        if target.name == "amd64" and target.is_native:
+            check_loader("archive", program, f"{tags}/lib", known)
     return tags
 
 

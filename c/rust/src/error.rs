@@ -25,7 +25,7 @@ pub enum Error {
     TooShallow,
     /// The call could take the hand past its limit, 2^48 tags in its life.
     Spent,
-    /// The hand is already in a wait group.
+    /// A future of the hand waits.
     Waiting,
     /// All hands of the pool are out: joined, and not dropped.
     NoHand,

@@ -1,8 +1,9 @@
 //! The hand through which a thread takes tags.
 use crate::batch::{Batch, Numbers};
 use crate::error::{number, Result};
-use crate::options::{Counts, Kind, Sizes};
+use crate::options::{Kind, Sizes};
 use crate::pool::Shared;
+use crate::queue::{self, Queue};
 use crate::raw::{self, Due, Handle};
 use crate::shared::SharedHand;
 use crate::tag::Tag;
@@ -33,19 +34,21 @@ pub struct Hand<T = ()> {
     pub(crate) shared: Arc<Shared<T>>,
     /// A bit for each tag that the hand holds without a guard.
     pub(crate) loose: RefCell<Vec<u64>>,
-    /// How many futures wait. The hand is in a wait group while there are any.
-    pub(crate) waiting: Cell<usize>,
+    /// Below the number of the pool's hands.
+    pub(crate) number: usize,
     /// Whom it has told of tags and not woken yet.
     pub(crate) owed: Cell<Due>,
 }
 
 impl<T> Hand<T> {
-    pub(crate) fn new(handle: Handle, shared: Arc<Shared<T>>) -> Hand<T> {
+    pub(crate) fn new(mut handle: Handle, shared: Arc<Shared<T>>) -> Hand<T> {
+        // SAFETY: it is a hand.
+        let number = unsafe { raw::tags_library_number(&mut handle) };
         let hand = Hand {
             handle: UnsafeCell::new(handle),
             shared,
             loose: RefCell::default(),
-            waiting: Cell::new(0),
+            number: number as usize,
             owed: Cell::default(),
         };
         *hand.loose.borrow_mut() = hand.held();
@@ -99,6 +102,29 @@ impl<T> Hand<T> {
         let mut due = self.owed.get();
         // SAFETY: as of `raw`.
         unsafe { raw::tags_library_see(self.raw(), freed, &mut due) };
+        self.owed.set(due);
+    }
+
+    /// The futures that wait behind this hand.
+    pub(crate) fn queue(&self) -> &Queue {
+        &self.shared.queues[self.number]
+    }
+
+    /// Tries for a future, and lists the hand if there is no tag.
+    pub(crate) fn find_or_listen(&self) -> i32 {
+        let mut due = self.owed.get();
+        let argument = self.queue().argument();
+        // SAFETY: as of `raw`, and the queue lives as long as the pool.
+        let answer = unsafe { raw::tags_library_poll(self.raw(), queue::tell, argument, &mut due) };
+        self.owed.set(due);
+        answer
+    }
+
+    /// Ends the hand's stay in the list: none of its futures waits.
+    pub(crate) fn end_listening(&self) {
+        let mut due = self.owed.get();
+        // SAFETY: as of `raw`.
+        unsafe { raw::tags_library_end_poll(self.raw(), &mut due) };
         self.owed.set(due);
     }
 
@@ -234,25 +260,11 @@ impl<T> Hand<T> {
         sizes
     }
 
-    /// Returns the counts of completions and of waiters.
+    /// Returns how many wait in the pool: threads that sleep for a tag and futures, also those that were told and have not
+    /// tried again yet, and threads that sleep until all tags are back.
     #[must_use]
-    pub fn wakes(&self) -> Counts {
-        let mut counts = Counts::default();
-        // SAFETY: as of `raw`.
-        Self::expect(unsafe { raw::tags_library_wakes(self.raw(), &mut counts) });
-        counts.waiting = self.shared.bell.count_waiting();
-        counts
-    }
-
-    /// Leaves the wait group, if the hand is in one. Returns whether the group had a granted wakeup.
-    pub(crate) fn leave_group(&self) -> bool {
-        loop {
-            // SAFETY: as of `raw`.
-            match unsafe { raw::tags_library_finish(self.raw()) } {
-                raw::AGAIN => {}
-                answer => return answer == 1,
-            }
-        }
+    pub fn waiting(&self) -> u32 {
+        self.shared.bell.count_waiting()
     }
 
     // A tag is held as long as its guard lives, so no such call is refused.
@@ -265,8 +277,10 @@ impl<T> Hand<T> {
 
 impl<T> Drop for Hand<T> {
     fn drop(&mut self) {
-        // It is in a group only if the guard of a wait was leaked.
-        self.leave_group();
+        for tag in self.queue().close() {
+            self.give(tag);
+        }
+        self.settle();
         // SAFETY: as of `raw`.
         unsafe { raw::tags_leave(self.raw()) };
     }

@@ -19,8 +19,6 @@ pub struct Options {
     /// words, and 6 for fewer than 4 tags.
     pub shift: Option<u32>,
     /// The least depth that [`get_shallow`](crate::Hand::get_shallow) accepts. `None` accepts any from 1.
-    /// Completions are charged in batches of an eighth of the ordinary tags, or an eighth of this depth if it is lower;
-    /// at least 1, at most 8.
     pub min_shallow: Option<u32>,
     /// Number of hands, 1 to 64.
     pub hands: u32,
@@ -112,22 +110,6 @@ pub struct Sizes {
     pub words: u32,
 }
 
-/// Counts of completions and of waiters.
-#[repr(C)]
-#[derive(Clone, Copy, Debug, Default, PartialEq, Eq)]
-pub struct Counts {
-    /// Ordinary tags given back while some hand was in a wait group.
-    pub counted: u64,
-    /// Those charged so far, a batch at a time.
-    pub charged: u64,
-    /// Hands in a wait group.
-    pub active: u64,
-    /// The wait group that the next wakeup visits first, below 8.
-    pub index: u32,
-    /// Who waits for a tag: threads asleep and futures, and threads that wait for all tags.
-    pub waiting: u32,
-}
-
 /// Sums over all hands of a pool: `got == back + held + posted`. A kept tag that its hand gets again is not counted.
 #[repr(C)]
 #[derive(Clone, Copy, Debug, Default, PartialEq, Eq)]
@@ -140,12 +122,4 @@ pub struct Totals {
     pub held: u64,
     /// Tags that are still posted.
     pub posted: u64,
-    /// Completions counted: `issued <= charged <= counted <= back`.
-    pub counted: u64,
-    /// Completions charged, a batch at a time.
-    pub charged: u64,
-    /// Wakeups granted.
-    pub issued: u64,
-    /// Wakeups that waiters used up.
-    pub used: u64,
 }

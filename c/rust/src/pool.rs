@@ -2,11 +2,12 @@
 use crate::bell::Bell;
 use crate::error::{number, CloseError, Error, Result};
 use crate::hand::Hand;
-use crate::options::{Counts, Kind, Options, Sizes, Totals};
+use crate::options::{Kind, Options, Sizes, Totals};
+use crate::queue::Queue;
 use crate::raw::{
     deadline, tags_close, tags_drain, tags_drain_timed, tags_join, tags_join_blocking,
-    tags_join_timed, tags_open, tags_pool_busy, tags_pool_show, tags_pool_wakes, tags_resize,
-    tags_resume, Handle, CLOCK_MONOTONIC, MAX_TOTAL, STAY, TIMED_OUT,
+    tags_join_timed, tags_open, tags_pool_busy, tags_pool_show, tags_resize, tags_resume, Handle,
+    CLOCK_MONOTONIC, MAX_TOTAL, STAY, TIMED_OUT,
 };
 use crate::values::Values;
 use std::cell::UnsafeCell;
@@ -36,6 +37,8 @@ pub(crate) struct Shared<T> {
     values: Values<T>,
     /// Who waits for a tag. It lives until the pool is closed.
     pub bell: Bell,
+    /// The futures that wait behind each hand, by the hand's number.
+    pub queues: Box<[Queue]>,
 }
 
 /// A pool's handle. It may be in any number of calls, which take turns in the library.
@@ -137,6 +140,7 @@ impl<T> Pool<T> {
         let Some(waits) = NonNull::new(handle.waits) else {
             unreachable!("an open pool has a bell");
         };
+        let bell = Bell::of(waits);
         let shared = Shared {
             opened: Opened {
                 handle: UnsafeCell::new(handle),
@@ -144,7 +148,8 @@ impl<T> Pool<T> {
             },
             reserved: options.reserved,
             values: Values::new((0..options.total).map(make)),
-            bell: Bell::of(waits),
+            bell,
+            queues: (0..options.hands).map(|_| Queue::new(bell)).collect(),
         };
         Ok(Pool {
             shared: Arc::new(shared),
@@ -196,7 +201,7 @@ impl<T> Pool<T> {
         self.join_with(|pool, hand| unsafe { tags_join_blocking(pool, hand, 0) })
     }
 
-    /// The same, for at most this long. `None` means that the time is up. With a time of 0 it tries once or twice.
+    /// The same, for at most this long. `None` means that the time is up. With a time of 0 it tries, and does not sleep.
     ///
     /// ```
     /// # use std::time::Duration;
@@ -302,10 +307,11 @@ impl<T> Pool<T> {
         Ok(())
     }
 
-    /// Ends every wait for a tag, now and from now on, as for a shutdown. Threads that sleep for a tag and futures that wait
-    /// for one are woken. From now on [`Hand::get_blocking`], [`Hand::get_timeout`] and [`Hand::get_async`] return
-    /// [`Stopped`](crate::Error::Stopped), even while a tag is free. A call that was waiting may still return a tag. Tags
-    /// still go back, and [`Hand::get`] still takes them.
+    /// Ends every wait for a tag or a hand, now and from now on, as for a shutdown. Threads that sleep for either and futures
+    /// that wait for a tag are woken. From now on [`Hand::get_blocking`], [`Hand::get_timeout`] and [`Hand::get_async`]
+    /// return [`Stopped`](crate::Error::Stopped), even while a tag is free, and so does [`join_blocking`](Pool::join_blocking)
+    /// where it would have to sleep. A call that was waiting may still return a tag or a hand. Tags still go back, and
+    /// [`Hand::get`] still takes them.
     ///
     /// ```
     /// # use tags::{Error, Options, Pool};
@@ -324,10 +330,11 @@ impl<T> Pool<T> {
     /// ```
     pub fn stop(&self) {
         self.shared.bell.stop();
+        self.shared.queues.iter().for_each(Queue::stop);
     }
 
-    /// Lets waits for a tag begin again after [`stop`](Pool::stop). Waits that it has ended stay ended. One that it has
-    /// woken, but that has not yet looked, may find the pool resumed and wait on.
+    /// Lets waits begin again after [`stop`](Pool::stop). A wait that began before the stop ends, also if this call follows at
+    /// once.
     ///
     /// ```
     /// # use tags::{Error, Options, Pool};
@@ -427,26 +434,29 @@ impl<T> Pool<T> {
         sizes
     }
 
-    /// Returns the counts of completions and of waiters, as [`Hand::wakes`] does, but without a hand.
+    /// Returns how many wait, as [`Hand::waiting`] does, but without a hand.
     ///
     /// ```
     /// # use tags::{Options, Pool};
+    /// # use std::{thread, time::Duration};
     /// # fn main() -> tags::Result<()> {
-    /// let pool = Pool::open(&Options::new(1, 1))?;
-    /// let hand = pool.join()?;
-    /// let wait = hand.prepare()?;
-    /// assert_eq!(pool.wakes().active, 1);
-    /// # drop(wait);
+    /// let pool = Pool::open(&Options::new(1, 2))?;
+    /// let (first, second) = (pool.join()?, pool.join()?);
+    /// let tag = first.get_blocking()?;
+    /// thread::scope(|scope| {
+    ///     scope.spawn(move || second.get_blocking().is_ok());
+    ///     while pool.waiting() == 0 {
+    ///         thread::sleep(Duration::from_millis(1));
+    ///     }
+    ///     drop(tag);
+    /// });
+    /// assert_eq!(pool.waiting(), 0);
     /// # Ok(())
     /// # }
     /// ```
     #[must_use]
-    pub fn wakes(&self) -> Counts {
-        let mut counts = Counts::default();
-        let handle = self.shared.opened.raw();
-        // SAFETY: the handle lives as long as the pool.
-        Hand::<T>::expect(unsafe { tags_pool_wakes(handle, &mut counts) });
-        counts
+    pub fn waiting(&self) -> u32 {
+        self.shared.bell.count_waiting()
     }
 
     /// Closes a pool whose hands are all dropped, and returns its totals. On failure the error hands the pool back.

@@ -1,5 +1,5 @@
 //! The exports of the library, and the types of tags.h that they take.
-use crate::options::{Counts, Sizes, Totals};
+use crate::options::{Sizes, Totals};
 use std::ffi::{c_char, c_void};
 use std::mem::{offset_of, size_of};
 use std::ptr::null_mut;
@@ -10,7 +10,8 @@ use std::time::Duration;
 #[repr(C)]
 pub struct Waits {
     pub waiting: AtomicU32,
-    pub stopped: AtomicU32,
+    /// Odd while waits are stopped.
+    pub stops: AtomicU32,
     /// Set when the pool is opened.
     pub batch: u32,
 }
@@ -52,21 +53,12 @@ pub struct RawOptions {
     pub cache: u32,
 }
 
-/// A `struct tags_due`: whom a hand has still to wake.
+/// A `struct tags_told`: hands that a hand told and has still to wake, a bit for each.
 #[repr(C)]
 #[derive(Clone, Copy, Default, PartialEq)]
 pub struct Due {
-    /// Hands that the hand told, a bit for each.
     sleepers: u64,
     listeners: u64,
-    /// For how many tags futures are to be told.
-    freed: u64,
-}
-
-/// A `struct tags_waiter`, whose size the library tells. While it is listed, the library alone uses it.
-#[repr(C)]
-pub struct Waiter {
-    private: [u8; 0],
 }
 
 /// A `struct timespec` of a system with 64 bits.
@@ -82,8 +74,7 @@ const _: () = {
     assert!(size_of::<Handle>() == 40 && offset_of!(Handle, waits) == 16);
     assert!(size_of::<RawOptions>() == 28 && offset_of!(RawOptions, cache) == 24);
     assert!(size_of::<Sizes>() == 20 && offset_of!(Sizes, words) == 16);
-    assert!(size_of::<Counts>() == 32 && offset_of!(Counts, index) == 24);
-    assert!(size_of::<Totals>() == 64 && offset_of!(Totals, used) == 56);
+    assert!(size_of::<Totals>() == 32 && offset_of!(Totals, posted) == 24);
     assert!(size_of::<Timespec>() == 16);
 };
 
@@ -91,8 +82,8 @@ pub const CLOCK_MONOTONIC: i32 = 1;
 
 // Statuses that are no errors of this crate.
 pub const NO_TAG: i32 = -10;
-pub const AGAIN: i32 = -11;
 pub const TIMED_OUT: i32 = -31;
+pub const STOPPED: i32 = -36;
 
 pub const MAX_TOTAL: u32 = 10_240;
 pub const ROUND_ROBIN: u32 = 1;
@@ -117,28 +108,19 @@ unsafe extern "C" {
     pub fn tags_library_take_mask(hand: *mut Handle, first: u32, mask: u64) -> i32;
     pub fn tags_library_busy(hand: *mut Handle, into: *mut u64, words: usize) -> i32;
     pub fn tags_library_show(hand: *mut Handle, kind: u32, sizes: *mut Sizes) -> i32;
-    pub fn tags_library_wakes(hand: *mut Handle, counts: *mut Counts) -> i32;
     pub fn tags_library_holds(hand: *mut Handle, tag: u32) -> i32;
-    pub fn tags_library_prepare(hand: *mut Handle) -> i32;
-    pub fn tags_library_finish(hand: *mut Handle) -> i32;
     pub fn tags_library_wait(hand: *mut Handle) -> i32;
     pub fn tags_library_see(hand: *mut Handle, freed: u64, due: *mut Due);
     pub fn tags_library_wake(waits: *mut Waits, due: *const Due) -> bool;
-    pub fn tags_library_tell(waits: *mut Waits, freed: u64);
     pub fn tags_library_stop(waits: *mut Waits);
-    pub fn tags_library_waiter_size() -> usize;
-    pub fn tags_library_listen(
-        waits: *mut Waits,
-        waiter: *mut Waiter,
-        tell: extern "C" fn(*mut c_void),
-        whom: *mut c_void,
+    pub fn tags_library_number(hand: *mut Handle) -> i32;
+    pub fn tags_library_poll(
+        hand: *mut Handle,
+        function: extern "C" fn(*mut c_void),
+        argument: *mut c_void,
+        due: *mut Due,
     ) -> i32;
-    pub fn tags_library_renew(
-        waits: *mut Waits,
-        waiter: *mut Waiter,
-        whom: *mut c_void,
-    ) -> *mut c_void;
-    pub fn tags_library_unlist(waits: *mut Waits, waiter: *mut Waiter) -> *mut c_void;
+    pub fn tags_library_end_poll(hand: *mut Handle, due: *mut Due);
     pub fn tags_open(pool: *mut Handle, options: *const RawOptions) -> i32;
     pub fn tags_join(pool: *mut Handle, hand: *mut Handle, flags: u32) -> i32;
     pub fn tags_join_blocking(pool: *mut Handle, hand: *mut Handle, flags: u32) -> i32;
@@ -157,7 +139,6 @@ unsafe extern "C" {
     pub fn tags_close(pool: *mut Handle, sums: *mut Totals) -> i32;
     pub fn tags_pool_busy(pool: *mut Handle, into: *mut u64, words: usize) -> i32;
     pub fn tags_pool_show(pool: *mut Handle, kind: u32, sizes: *mut Sizes) -> i32;
-    pub fn tags_pool_wakes(pool: *mut Handle, counts: *mut Counts) -> i32;
     pub fn tags_get_timed(hand: *mut Handle, clock: i32, end: *const Timespec) -> i32;
     pub fn tags_strerror(status: i32) -> *const c_char;
     fn clock_gettime(clock: i32, now: *mut Timespec) -> i32;

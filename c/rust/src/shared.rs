@@ -3,9 +3,10 @@ use crate::bell::Bell;
 use crate::error::{Error, Result};
 use crate::future::{GetAsyncOwned, Lends};
 use crate::hand::Hand;
-use crate::options::{Counts, Kind, Sizes};
+use crate::options::{Kind, Sizes};
 use crate::owned::OwnedTag;
 use crate::pool::Shared;
+use crate::queue::Queue;
 use crate::raw::Due;
 use crate::sleeper::wait_for;
 use std::fmt;
@@ -42,15 +43,18 @@ struct Inner<T> {
     hand: Mutex<Hand<T>>,
     /// What the hand shares with its pool, which needs no lock.
     shared: Arc<Shared<T>>,
+    /// The hand's number.
+    number: usize,
 }
 
 impl<T> SharedHand<T> {
     pub(crate) fn new(hand: Hand<T>) -> SharedHand<T> {
-        let shared = Arc::clone(&hand.shared);
+        let (shared, number) = (Arc::clone(&hand.shared), hand.number);
         SharedHand {
             inner: Arc::new(Inner {
                 hand: Mutex::new(hand),
                 shared,
+                number,
             }),
         }
     }
@@ -193,10 +197,10 @@ impl<T> SharedHand<T> {
         self.lend(|hand| hand.show(kind))
     }
 
-    /// Returns the counts of completions and of waiters.
+    /// Returns how many wait in the pool, as [`Hand::waiting`] does.
     #[must_use]
-    pub fn wakes(&self) -> Counts {
-        self.lend(Hand::wakes)
+    pub fn waiting(&self) -> u32 {
+        self.bell().count_waiting()
     }
 }
 
@@ -218,6 +222,10 @@ impl<T> Lends for SharedHand<T> {
 
     fn bell(&self) -> Bell {
         self.shared().bell
+    }
+
+    fn queue(&self) -> &Queue {
+        &self.shared().queues[self.inner.number]
     }
 }
 

@@ -1,16 +1,15 @@
-//! Waiting for a tag: asleep, as a future, or by other means.
+//! Waiting for a tag: asleep, or as a future.
 use crate::error::{number, Error, Result};
 use crate::future::GetAsync;
 use crate::hand::Hand;
 use crate::raw;
 use crate::tag::Tag;
-use std::fmt;
 use std::time::Duration;
 
 impl<T> Hand<T> {
     /// Takes a free ordinary tag, and sleeps while there is none. Don't sleep while this thread holds the tags that the
-    /// others wait for. While a [`Wait`] or a future of this hand waits, a get that would have to sleep is refused with
-    /// [`Waiting`](Error::Waiting).
+    /// others wait for. While a future of this hand waits, a get that would have to sleep is refused with
+    /// [`Waiting`](Error::Waiting): the thread that sleeps could not poll it.
     #[inline]
     pub fn get_blocking(&self) -> Result<Tag<'_, T>> {
         if self.shared.bell.is_stopped() {
@@ -44,6 +43,9 @@ impl<T> Hand<T> {
     /// # }
     /// ```
     pub fn get_timeout(&self, time: Duration) -> Result<Option<Tag<'_, T>>> {
+        if time.is_zero() && !self.shared.bell.is_stopped() {
+            return self.get();
+        }
         let Some(end) = raw::deadline(time) else {
             return self.get_blocking().map(Some);
         };
@@ -55,11 +57,13 @@ impl<T> Hand<T> {
     }
 
     /// Takes a free ordinary tag, and while there is none, waits without blocking a thread: the future is woken when a tag
-    /// becomes free. Each tag wakes the future that has waited longest, which keeps its turn if it finds the tag gone; no other
-    /// is woken for that tag until this one is polled or dropped, so poll a future soon after it is woken, or drop it. Dropping
-    /// it ends the wait, so a timeout of the runtime is one of the wait, too. It works with any runtime, and any number of futures of
-    /// one hand may wait at once. While this hand has a [`Wait`], a future that would have to wait is refused with
-    /// [`Waiting`](Error::Waiting).
+    /// becomes free. It works with any runtime, and any number of futures of one hand may wait at once. A program that sleeps by
+    /// means of its own, such as a scheduler, polls the future with a waker of its own.
+    ///
+    /// A tag that becomes free wakes a future of the hand that has waited longest, the first one that is not awake. When that is
+    /// polled, the hand tries for all its futures that wait, in the order in which their waits began: those that get a tag are
+    /// woken, and the others keep their places. Until then it is told of no other tag. So poll a future soon after it is woken,
+    /// or drop it. Dropping it ends the wait, so a timeout of the runtime is one of the wait, too.
     ///
     /// ```
     /// # use std::future::Future;
@@ -84,78 +88,5 @@ impl<T> Hand<T> {
     /// ```
     pub fn get_async(&self) -> GetAsync<'_, T> {
         GetAsync::new(self)
-    }
-
-    /// Enters a wait group, for callers that sleep by means of their own. Try a get once more before you sleep.
-    ///
-    /// ```
-    /// # use tags::{Error, Options, Pool};
-    /// # fn main() -> tags::Result<()> {
-    /// let pool = Pool::open(&Options::new(1, 2))?;
-    /// let (first, second) = (pool.join()?, pool.join()?);
-    /// let tag = first.get_blocking()?;
-    /// let wait = second.prepare()?;
-    /// assert_eq!(second.prepare().unwrap_err(), Error::Waiting);
-    /// drop(tag);
-    /// assert!(wait.finish());
-    /// # Ok(())
-    /// # }
-    /// ```
-    pub fn prepare(&self) -> Result<Wait<'_, T>> {
-        let entered = self.enter_group();
-        self.settle();
-        entered?;
-        Ok(Wait { hand: self })
-    }
-
-    /// Enters a wait group. What the hand keeps goes back first.
-    fn enter_group(&self) -> Result<()> {
-        // SAFETY: as of `raw`.
-        number(unsafe { raw::tags_library_prepare(self.raw()) })?;
-        self.owe_if_awaited(0);
-        Ok(())
-    }
-
-    /// Counts a future that begins to wait.
-    pub(crate) fn begin_wait(&self) -> Result<()> {
-        if self.waiting.get() == 0 {
-            self.enter_group()?;
-        }
-        self.waiting.set(self.waiting.get() + 1);
-        Ok(())
-    }
-
-    pub(crate) fn end_wait(&self) {
-        self.waiting.set(self.waiting.get() - 1);
-        if self.waiting.get() == 0 {
-            self.leave_group();
-        }
-    }
-}
-
-/// A hand's stay in a wait group. Dropping it leaves the group.
-#[must_use = "the hand leaves the group at once"]
-pub struct Wait<'a, T = ()> {
-    hand: &'a Hand<T>,
-}
-
-impl<T> Wait<'_, T> {
-    /// Leaves the group. Returns whether the group had a granted wakeup, which this call uses up.
-    pub fn finish(self) -> bool {
-        let hand = self.hand;
-        std::mem::forget(self);
-        hand.leave_group()
-    }
-}
-
-impl<T> Drop for Wait<'_, T> {
-    fn drop(&mut self) {
-        self.hand.leave_group();
-    }
-}
-
-impl<T> fmt::Debug for Wait<'_, T> {
-    fn fmt(&self, f: &mut fmt::Formatter<'_>) -> fmt::Result {
-        f.debug_struct("Wait").finish_non_exhaustive()
     }
 }

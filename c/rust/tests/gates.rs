@@ -51,7 +51,11 @@ fn a_resize_beside_joins() {
 }
 
 fn drain_beside_threads(cache: u32) {
-    let options = Options { cache, reserved: 1, ..Options::new(8, 3) };
+    let options = Options {
+        cache,
+        reserved: 1,
+        ..Options::new(8, 3)
+    };
     let pool = Pool::open(&options).unwrap();
     for _ in 0..100 {
         let hands: Vec<_> = (0..3).map(|_| pool.join().unwrap()).collect();

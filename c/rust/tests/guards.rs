@@ -2,7 +2,7 @@
 use std::sync::atomic::{AtomicU64, Ordering::Relaxed};
 use std::thread;
 use std::time::Duration;
-use tags::{Counts, Error, Kind, Options, Pool};
+use tags::{Error, Kind, Options, Pool};
 
 fn open(total: u32, reserved: u32, hands: u32) -> Pool {
     let options = Options {
@@ -25,7 +25,7 @@ fn each_guard_gives_its_tags_back() {
     drop((tag, reserved, batch));
     assert_eq!(hand.busy(&mut bits), Ok(0));
     assert_eq!(hand.show(Kind::Ordinary).depth, 14);
-    assert_eq!(hand.wakes(), Counts::default());
+    assert_eq!(hand.waiting(), 0);
     drop(hand);
     let totals = pool.close().unwrap();
     assert_eq!((totals.got, totals.back, totals.held), (4, 4, 0));
@@ -87,12 +87,11 @@ fn what_was_leaked_is_found_again() {
     let batch = hand.get_batch(3).unwrap().unwrap();
     std::mem::forget(batch);
     let mut tags: Vec<_> = (0..127).map(|_| hand.get().unwrap().unwrap()).collect();
-    std::mem::forget((tags.pop(), hand.prepare().unwrap()));
+    std::mem::forget(tags.pop());
     drop(tags);
     drop(hand);
     assert_eq!(pool.resize(16), Err(Error::InUse));
     let hand = pool.join().unwrap();
-    assert!(hand.prepare().is_ok());
     for number in [0, 1, 2, 129] {
         drop(hand.claim(number).unwrap());
         assert_eq!(hand.claim(number).unwrap_err(), Error::NotHeld);
@@ -164,17 +163,22 @@ fn a_sleeper_gets_one_of_seven_tags() {
 }
 
 #[test]
-fn a_hand_that_stands_in_a_group_does_not_sleep() {
-    let pool = open(1, 0, 1);
+fn those_who_sleep_are_counted() {
+    let pool = open(1, 0, 3);
     let hand = pool.join().unwrap();
     let tag = hand.get().unwrap();
-    let wait = hand.prepare().unwrap();
-    assert_eq!(hand.get_blocking().unwrap_err(), Error::Waiting);
-    assert_eq!(hand.get_timeout(Duration::MAX).unwrap_err(), Error::Waiting);
-    drop(tag);
-    assert!(hand.get_blocking().is_ok());
-    wait.finish();
-    assert!(hand.prepare().is_ok());
+    thread::scope(|scope| {
+        for _ in 0..2 {
+            let waiter = pool.join().unwrap();
+            scope.spawn(move || waiter.get_blocking().unwrap().number());
+        }
+        while pool.waiting() < 2 {
+            thread::yield_now();
+        }
+        assert_eq!(hand.waiting(), 2);
+        drop(tag);
+    });
+    assert_eq!((hand.waiting(), pool.waiting()), (0, 0));
 }
 
 #[test]
@@ -186,7 +190,7 @@ fn a_wait_ends_in_time() {
         .get_timeout(Duration::from_millis(2))
         .unwrap()
         .is_none());
-    assert!(waiter.prepare().is_ok());
+    assert_eq!(pool.waiting(), 0);
     drop(tag);
     assert!(waiter.get_timeout(Duration::ZERO).unwrap().is_some());
 }
@@ -202,13 +206,9 @@ fn a_pool_reports_while_all_hands_are_out() {
     assert_eq!(busy, [1 << tag.number(), 0]);
     assert_eq!(pool.busy(&mut busy[..1]), Err(Error::TooSmall));
     assert_eq!(pool.show(Kind::Reserved), hand.show(Kind::Reserved));
-    let wait = hand.prepare().unwrap();
-    assert_eq!(pool.wakes(), hand.wakes());
-    drop(wait);
     thread::scope(|threads| {
-        let workers = others.map(|hand| {
-            threads.spawn(move || (0..20_000).for_each(|_| drop(hand.get().unwrap())))
-        });
+        let workers = others
+            .map(|hand| threads.spawn(move || (0..20_000).for_each(|_| drop(hand.get().unwrap()))));
         while !workers.iter().all(|it| it.is_finished()) {
             let sizes = pool.show(Kind::Ordinary);
             assert!(sizes.depth == 68 && sizes.busy + sizes.cleared <= 68);

@@ -91,7 +91,7 @@ fn run(tags: u32) {
             scope.spawn(move || take_turns!(hand, number));
         }
     });
-    assert_eq!(shared.wakes().active, 0);
+    assert_eq!(shared.waiting(), 0);
     drop(shared);
     let totals = pool.close().unwrap();
     assert_eq!(

@@ -71,7 +71,7 @@ fn threads_wait_with_one_hand() {
             drop(own.get_blocking().unwrap());
         }
     });
-    assert_eq!(hand.wakes().active, 0);
+    assert_eq!(hand.waiting(), 0);
     drop((hand, own));
     assert_eq!(pool.close().unwrap().back, 2_500);
 }
@@ -84,7 +84,7 @@ fn a_wait_ends_in_time() {
     let (begin, time) = (Instant::now(), Duration::from_millis(5));
     assert!(hand.get_timeout(time).unwrap().is_none() && begin.elapsed() >= time);
     assert!(hand.get_timeout(Duration::ZERO).unwrap().is_none());
-    assert_eq!(hand.wakes().active, 0);
+    assert_eq!(hand.waiting(), 0);
     drop(tag);
     assert!(hand.get_timeout(Duration::ZERO).unwrap().is_some());
 }

@@ -66,6 +66,64 @@ fn each_kind_of_wait_ends() {
     assert_eq!(pool.close().unwrap().back, 2);
 }
 
+#[test]
+fn a_wait_that_began_before_a_stop_ends_though_the_pool_is_resumed() {
+    let pool = Pool::open(&Options::new(1, 4)).unwrap();
+    let holder = pool.join().unwrap();
+    let tag = holder.get().unwrap().unwrap();
+    thread::scope(|scope| {
+        let [first, second, third] = [(); 3].map(|()| pool.join().unwrap());
+        let shared = second.into_shared();
+        let clone = shared.clone();
+        let waits = [
+            scope.spawn(move || first.get_blocking().map(drop)),
+            scope.spawn(move || shared.get_blocking().map(drop)),
+            scope.spawn(move || block_on(clone.get_async()).map(drop)),
+            scope.spawn(move || block_on(third.get_async()).map(drop)),
+            scope.spawn(|| pool.join_blocking().map(drop)),
+        ];
+        while pool.waiting() < 4 {
+            thread::yield_now();
+        }
+        thread::sleep(Duration::from_millis(30));
+        pool.stop();
+        pool.resume();
+        for wait in waits.into_iter().take(4) {
+            assert_eq!(wait.join().unwrap(), Err(Error::Stopped));
+        }
+    });
+    drop(tag);
+    assert!(holder.get_blocking().is_ok());
+}
+
+fn poll_once<F: Future + Unpin>(future: &mut F) -> Poll<F::Output> {
+    Pin::new(future).poll(&mut Context::from_waker(&Waker::from(Arc::new(Unpark(
+        thread::current(),
+    )))))
+}
+
+#[test]
+fn a_stop_ends_no_wait_that_began_after_the_resume() {
+    let pool = Pool::open(&Options::new(1, 2)).unwrap();
+    let (hand, holder) = (pool.join().unwrap().into_shared(), pool.join().unwrap());
+    let tag = holder.get().unwrap();
+    let [mut before, mut also_before, mut after] = [(); 3].map(|()| hand.get_async());
+    assert!(poll_once(&mut before).is_pending() && poll_once(&mut also_before).is_pending());
+    pool.stop();
+    pool.resume();
+    assert!(poll_once(&mut after).is_pending());
+    for future in [&mut before, &mut also_before] {
+        let Poll::Ready(Err(error)) = poll_once(future) else {
+            panic!("a stop has ended this wait");
+        };
+        assert_eq!(error, Error::Stopped);
+    }
+    assert_eq!(pool.waiting(), 1);
+    drop(tag);
+    assert!(matches!(poll_once(&mut after), Poll::Ready(Ok(_))));
+    assert_eq!(pool.waiting(), 0);
+}
+
 /// A waker that uses the pool, and the hand that its task shares with others.
 struct Meddler(Pool, SharedHand);
 

@@ -238,7 +238,7 @@ impl Server {
             ordinary.depth,
             reserved.busy,
             reserved.depth,
-            self.pool.wakes().waiting
+            self.pool.waiting()
         );
         for tag in self.pool.busy_tags() {
             let word = self.shown[tag as usize].load(Relaxed);
