@@ -19,7 +19,7 @@ trap 'rm -f "$calls"' EXIT
 for column in "${columns[@]}"; do
   case $column in
     map | queue | sets | cache) [ -x "$bench" ] || { echo "instructions.sh: $bench is not built" >&2 && exit 1; } ;;
-    c | c-cache) gcc -std=c99 -O2 -Wall -Wextra bench/calls.c -o "$calls" "${OUT:-c/out}/libtags.a" -pthread ;;
+    c | c-cache) gcc -std=c99 -O2 -Wall -Wextra bench/calls.c bench/kernel/c_tags.c -o "$calls" "${OUT:-c/out}/libtags.a" -pthread ;;
     *) echo "instructions.sh: there is no column $column: map, queue, sets, cache, c or c-cache" >&2 && exit 2 ;;
   esac
 done

@@ -1,11 +1,11 @@
 #!/usr/bin/env bash
-# build.sh OUT: builds what kernel.sh measures as OUT/contenders. The kernel's files and crossbeam's come from Debian's
+# build.sh OUT: builds what kernel.sh measures as OUT/contenders. The kernel's files, and those of the queues, come from Debian's
 # packages, and are compiled as they are. The C library is in c/out already.
 set -euo pipefail
 here=$(cd "$(dirname "$0")" && pwd)
 out=$(mkdir -p "$1" && cd "$1" && pwd)
 linux=linux-source-6.12
-debian=(librust-cfg-if-dev librust-crossbeam-utils-dev librust-crossbeam-queue-dev)
+debian=(librust-cfg-if-dev librust-crossbeam-utils-dev librust-crossbeam-queue-dev libboost1.74-dev libconcurrentqueue-dev)
 kernel=$out/$linux
 crates=$out/usr/share/cargo/registry
 
@@ -23,12 +23,12 @@ if [ ! -e "$kernel/include/linux/find.h" ]; then
   dpkg-deb --fsys-tarfile "$out/$linux"_*.deb | tar -xO ./usr/src/$linux.tar.xz \
     | tar -xJ -C "$out" "${files[@]/#/$linux/}"
 fi
-if [ ! -d "$crates" ]; then
-  for package in "${debian[@]}"; do
+for package in "${debian[@]}"; do
+  if [ ! -e "$out/usr/share/doc/$package" ]; then
     fetch "$package"
     dpkg-deb -x "$out/$package"_*.deb "$out"
-  done
-fi
+  fi
+done
 
 # Each header that the kernel's files name is the shim, but for their own two.
 headers=$out/headers
@@ -49,9 +49,11 @@ compile "$kernel/lib/sbitmap.c" sbitmap -w
 compile "$kernel/lib/find_bit.c" find_bit -w
 gcc -std=c99 -O2 -march=x86-64-v2 -Wall -Wextra -c "$here/c_tags.c" -o "$out/c_tags.o"
 compile "$here/sbitmap_tags.c" sbitmap_tags -Wall -Wextra -Wno-sign-compare -Wno-unused-parameter
-rm -f "$out"/lib{sbitmap,c_tags}.a
+g++ -std=c++17 -O2 -march=x86-64-v2 -Wall -Wextra -isystem "$out/usr/include" -c "$here/queues.cpp" -o "$out/queues.o"
+rm -f "$out"/lib{sbitmap,c_tags,queues}.a
 ar rcs "$out/libsbitmap.a" "$out"/{sbitmap,find_bit,sbitmap_tags}.o
 ar rcs "$out/libc_tags.a" "$out/c_tags.o"
+ar rcs "$out/libqueues.a" "$out/queues.o"
 
 # DPDK's pool is measured where Debian's libdpdk-dev is installed.
 mempool=()
@@ -78,5 +80,5 @@ library crossbeam_utils "$(basename "$crates"/crossbeam-utils-*)" --cfg 'feature
 library crossbeam_queue "$(basename "$crates"/crossbeam-queue-*)" --cfg 'feature="std"' --cfg 'feature="alloc"' \
   --extern "cfg_if=$out/libcfg_if.rlib" --extern "crossbeam_utils=$out/libcrossbeam_utils.rlib"
 rust --edition 2021 --cap-lints warn --crate-name contenders --extern "crossbeam_queue=$out/libcrossbeam_queue.rlib" \
-  -L "native=$here/../../c/out" -l static=sbitmap -l static=c_tags -l static=tags --check-cfg 'cfg(mempool)' "${mempool[@]}" "$here/main.rs"
+  -L "native=$here/../../c/out" -l static=sbitmap -l static=c_tags -l static=queues -l static=tags -l stdc++ --check-cfg 'cfg(mempool)' "${mempool[@]}" "$here/main.rs"
 echo "$linux $(dpkg-deb -f "$out/$linux"_*.deb Version)" > "$out/version"

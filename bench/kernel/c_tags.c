@@ -1,6 +1,52 @@
-// The C library as tag_c.rs calls it: the calls of tags.h that a program makes, which are inline there. They test the handle, and
-// look for those who wait.
+// The C library as a program has it: the calls of tags.h, which test the handle and look for those who wait in line. tag_c.rs calls
+// these loops; what two threads do together, and what it needs apart, it calls one by one.
+#include <stdlib.h>
+
 #include "../../c/tags.h"
+
+// A program looks at what a clear answers.
+static inline void must(int32_t status)
+{
+	if (status < 0)
+		abort();
+}
+
+// Up to so many tags side by side: the first, and a mask of them.
+static uint64_t get_batch(struct tags_hand *hand, uint32_t count, uint32_t *first)
+{
+	uint64_t won = 0;
+	int32_t tag = tags_get_batch(hand, count, &won);
+
+	*first = (uint32_t)tag;
+	return tag < 0 ? 0 : won;
+}
+
+// What belongs to a tag is in an array of the program's own.
+#define LOOPS c_tags_beside
+#define USER struct tags_hand
+#define GET tags_get
+#define CLEAR(user, tag) must(tags_clear(user, tag))
+#define TOUCH(user, slots, tag, value) touch_beside(slots, tag, value)
+#define GET_BATCH get_batch
+#define CLEAR_BATCH(user, first, mask) must(tags_clear_mask(user, first, mask))
+#include "loops.h"
+
+// It is in the pool's slots.
+static void write_slot(struct tags_hand *hand, uint32_t tag, uint64_t value)
+{
+	uint64_t former;
+
+	must(tags_write(hand, tag, value, &former));
+}
+
+#define LOOPS c_tags_in_pool
+#define USER struct tags_hand
+#define GET tags_get
+#define CLEAR(user, tag) must(tags_clear(user, tag))
+#define TOUCH(user, slots, tag, value) ((void)(slots), write_slot(user, tag, value))
+#define GET_BATCH get_batch
+#define CLEAR_BATCH(user, first, mask) must(tags_clear_mask(user, first, mask))
+#include "loops.h"
 
 // A free tag, or a negative status.
 int32_t c_tags_get(struct tags_hand *hand)
@@ -8,22 +54,10 @@ int32_t c_tags_get(struct tags_hand *hand)
 	return tags_get(hand);
 }
 
-// Up to so many tags side by side: the first, and a mask of them.
-int32_t c_tags_get_batch(struct tags_hand *hand, uint32_t count, uint64_t *won)
-{
-	return tags_get_batch(hand, count, won);
-}
-
 // Clears a tag that the hand got or took.
 int32_t c_tags_clear(struct tags_hand *hand, uint32_t tag)
 {
 	return tags_clear(hand, tag);
-}
-
-// Clears the tags of a mask.
-int32_t c_tags_clear_mask(struct tags_hand *hand, uint32_t first, uint64_t mask)
-{
-	return tags_clear_mask(hand, first, mask);
 }
 
 // Exchanges the value of a tag's slot.

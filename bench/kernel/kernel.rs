@@ -1,6 +1,7 @@
 //! The kernel's sbitmap_queue, as sbitmap_tags.c offers it. A thread stands for a processor.
-use crate::loops::{Tags, BATCH};
-use std::ffi::{c_int, c_uint, c_ulong};
+use crate::loops::{Slots, Tags, BATCH};
+use std::ffi::{c_int, c_uint};
+use std::sync::atomic::AtomicU64;
 
 /// The kernel's own.
 #[repr(C)]
@@ -12,14 +13,30 @@ unsafe extern "C" {
     fn sbitmap_tags_open(depth: c_uint) -> *mut SbitmapQueue;
     fn sbitmap_tags_enter(queue: *mut SbitmapQueue, processor: c_uint, hint: c_uint);
     fn sbitmap_tags_close(queue: *mut SbitmapQueue) -> bool;
-    fn sbitmap_tags_get(queue: *mut SbitmapQueue) -> c_int;
-    fn sbitmap_tags_clear(queue: *mut SbitmapQueue, tag: c_uint, processor: c_uint);
-    fn sbitmap_tags_get_batch(
-        queue: *mut SbitmapQueue,
-        count: c_int,
-        first: *mut c_uint,
-    ) -> c_ulong;
-    fn sbitmap_tags_clear_batch(queue: *mut SbitmapQueue, tags: *const c_int, count: c_int);
+    fn sbitmap_tags_get(user: *mut User) -> c_int;
+    fn sbitmap_tags_clear(user: *mut User, tag: c_uint);
+    fn sbitmap_tags_pairs(user: *mut User, slots: *const AtomicU64, rounds: u64) -> u64;
+    fn sbitmap_tags_ring(
+        user: *mut User,
+        slots: *const AtomicU64,
+        held: *mut u32,
+        hold: u64,
+        rounds: u64,
+    ) -> u64;
+    fn sbitmap_tags_batches(
+        user: *mut User,
+        slots: *const AtomicU64,
+        batch: u32,
+        rounds: u64,
+    ) -> u64;
+}
+
+/// A struct sbitmap_user.
+#[repr(C)]
+pub struct User {
+    queue: *mut SbitmapQueue,
+    /// The processor of the thread.
+    processor: c_uint,
 }
 
 /// A queue from its open to its close.
@@ -35,8 +52,7 @@ unsafe impl Sync for Kernel {}
 impl Tags for Kernel {
     const NAME: &'static str = "kernel";
 
-    /// The processor of the thread.
-    type User = u32;
+    type User = User;
 
     fn open(depth: u32, _threads: u32, stride: u32) -> Kernel {
         // SAFETY: a map may be opened at any time.
@@ -45,42 +61,49 @@ impl Tags for Kernel {
         Kernel { queue, stride }
     }
 
-    fn enter(&self, index: u32) -> u32 {
+    fn enter(&self, index: u32) -> User {
         // SAFETY: the queue is open, and there are no more threads than processors.
         unsafe { sbitmap_tags_enter(self.queue, index, index * self.stride) };
-        index
-    }
-
-    #[inline]
-    fn get(&self, _processor: &mut u32) -> Option<u32> {
-        // SAFETY: the queue is open.
-        u32::try_from(unsafe { sbitmap_tags_get(self.queue) }).ok()
-    }
-
-    #[inline]
-    fn clear(&self, processor: &mut u32, tag: u32) {
-        // SAFETY: the queue is open, and the tag was got and is cleared once.
-        unsafe { sbitmap_tags_clear(self.queue, tag, *processor) };
-    }
-
-    #[inline]
-    fn get_batch(&self, _processor: &mut u32, tags: &mut [u32; BATCH]) -> usize {
-        let mut first = 0;
-        // SAFETY: the queue is open, and no word of the map is smaller than a batch.
-        let mut mask = unsafe { sbitmap_tags_get_batch(self.queue, BATCH as c_int, &mut first) };
-        let mut count = 0;
-        while mask != 0 && count < BATCH {
-            tags[count] = first + mask.trailing_zeros();
-            mask &= mask - 1;
-            count += 1;
+        User {
+            queue: self.queue,
+            processor: index,
         }
-        count
     }
 
     #[inline]
-    fn clear_batch(&self, _processor: &mut u32, tags: &[u32]) {
-        // SAFETY: the queue is open, and the tags were got and are cleared once.
-        unsafe { sbitmap_tags_clear_batch(self.queue, tags.as_ptr().cast(), tags.len() as c_int) };
+    fn get(&self, user: &mut User) -> Option<u32> {
+        // SAFETY: the queue is open.
+        u32::try_from(unsafe { sbitmap_tags_get(user) }).ok()
+    }
+
+    #[inline]
+    fn clear(&self, user: &mut User, tag: u32) {
+        // SAFETY: the queue is open, and the tag was got and is cleared once.
+        unsafe { sbitmap_tags_clear(user, tag) };
+    }
+
+    fn get_batch(&self, _user: &mut User, _tags: &mut [u32; BATCH]) -> usize {
+        unreachable!("the loop is C")
+    }
+
+    fn clear_batch(&self, _user: &mut User, _tags: &[u32]) {
+        unreachable!("the loop is C")
+    }
+
+    fn pairs(&self, user: &mut User, slots: &Slots, rounds: u64) -> u64 {
+        // SAFETY: the queue is open, and there is a slot for each tag, as there is in the next two.
+        unsafe { sbitmap_tags_pairs(user, slots.start(), rounds) }
+    }
+
+    fn ring(&self, user: &mut User, slots: &Slots, hold: usize, rounds: u64) -> u64 {
+        let mut held = vec![0; hold];
+        // SAFETY: as of `pairs`, and there is room for what is held.
+        unsafe { sbitmap_tags_ring(user, slots.start(), held.as_mut_ptr(), hold as u64, rounds) }
+    }
+
+    fn batches(&self, user: &mut User, slots: &Slots, rounds: u64) -> u64 {
+        // SAFETY: as of `pairs`, and no word of the map is smaller than a batch.
+        unsafe { sbitmap_tags_batches(user, slots.start(), BATCH as u32, rounds) }
     }
 
     fn close(self) {

@@ -54,6 +54,28 @@ pub trait Tags: Sync {
 
     /// No tag is taken any more.
     fn close(self);
+
+    /// The loops of one thread alone. Who is C has them in C (loops.h), as a program in C would.
+    fn pairs(&self, user: &mut Self::User, slots: &Slots, rounds: u64) -> u64
+    where
+        Self: Sized,
+    {
+        pairs(self, user, slots, rounds)
+    }
+
+    fn ring(&self, user: &mut Self::User, slots: &Slots, hold: usize, rounds: u64) -> u64
+    where
+        Self: Sized,
+    {
+        ring(self, user, slots, hold, rounds)
+    }
+
+    fn batches(&self, user: &mut Self::User, slots: &Slots, rounds: u64) -> u64
+    where
+        Self: Sized,
+    {
+        batches(self, user, slots, rounds)
+    }
 }
 
 /// How tags are used.
@@ -120,6 +142,11 @@ impl Slots {
         Slots((0..depth).map(|_| AtomicU64::new(0)).collect())
     }
 
+    /// The first number, for loops in C.
+    pub fn start(&self) -> *const AtomicU64 {
+        self.0.as_ptr()
+    }
+
     /// A load and a store, as of plain memory.
     #[inline]
     pub fn touch(&self, tag: u32, value: u64) {
@@ -168,7 +195,7 @@ fn win<T: Tags>(tags: &T, user: &mut T::User, slots: &Slots, value: u64) -> u32 
 
 /// Gets a tag, touches its slot and clears it, so many times. Answers how many tags were won, as the next two do.
 #[inline(never)]
-pub fn pairs<T: Tags>(tags: &T, user: &mut T::User, slots: &Slots, rounds: u64) -> u64 {
+fn pairs<T: Tags>(tags: &T, user: &mut T::User, slots: &Slots, rounds: u64) -> u64 {
     for round in 0..rounds {
         let tag = win(tags, user, slots, round);
         tags.clear(user, tag);
@@ -178,7 +205,7 @@ pub fn pairs<T: Tags>(tags: &T, user: &mut T::User, slots: &Slots, rounds: u64) 
 
 /// Holds so many tags, and so many times clears the oldest and gets another. In the end it clears all.
 #[inline(never)]
-pub fn ring<T: Tags>(tags: &T, user: &mut T::User, slots: &Slots, hold: usize, rounds: u64) -> u64 {
+fn ring<T: Tags>(tags: &T, user: &mut T::User, slots: &Slots, hold: usize, rounds: u64) -> u64 {
     let mut held: Vec<u32> = (0..hold).map(|_| win(tags, user, slots, 0)).collect();
     let mut oldest = 0;
     for round in 0..rounds {
@@ -194,7 +221,7 @@ pub fn ring<T: Tags>(tags: &T, user: &mut T::User, slots: &Slots, hold: usize, r
 
 /// Gets up to a batch of tags, touches the slot of each and clears them together.
 #[inline(never)]
-pub fn batches<T: Tags>(tags: &T, user: &mut T::User, slots: &Slots, rounds: u64) -> u64 {
+fn batches<T: Tags>(tags: &T, user: &mut T::User, slots: &Slots, rounds: u64) -> u64 {
     let mut batch = [0; BATCH];
     let mut won = 0;
     for round in 0..rounds / BATCH as u64 {

@@ -1,7 +1,8 @@
 //! What the workloads `pair`, `ring`, `full`, `handoff` and `batch` of `tag_bench` are set beside: the kernel's sbitmap_queue,
-//! the C interface of this repository, DPDK's rte_mempool where it is installed, a bitmap alone, a queue of the free tags, a
-//! list of them behind a lock, two locked steps on lines of the thread's own, and arithmetic alone.
-//! `main WORKLOAD [--threads N] [--depth N] [--rounds N]` prints a line of JSON a case.
+//! the C interface of this repository, DPDK's rte_mempool where it is installed, a bitmap alone, three queues of the free
+//! tags, a list of them behind a lock, two locked steps on lines of the thread's own, and arithmetic alone.
+//! `main WORKLOAD [--only NAME;..] [--threads N] [--depth N] [--rounds N]` prints a line of JSON a case, of all contenders or of those
+//! named.
 #[path = "../baseline/clock.rs"]
 mod clock;
 #[path = "../baseline/frame.rs"]
@@ -13,6 +14,7 @@ mod lists;
 mod loops;
 #[cfg(mempool)]
 mod mempool;
+mod queues;
 mod registers;
 mod tag_c;
 
@@ -24,6 +26,7 @@ use crate::lists::{List, Queue};
 use crate::loops::{Slots, Tags, Way, Workload};
 #[cfg(mempool)]
 use crate::mempool::Mempool;
+use crate::queues::{Boost, FreeQueue, Moodycamel};
 use crate::registers::Registers;
 use crate::tag_c::{Beside, BesideCached, InPool, TagC};
 use std::process::ExitCode;
@@ -37,22 +40,28 @@ fn main() -> ExitCode {
         eprintln!("the workloads are pair, ring, full, handoff and batch");
         return ExitCode::from(2);
     };
+    let mut words = words.peekable();
+    let mut only = Vec::new();
+    if words.next_if(|word| word == "--only").is_some() {
+        let names = words.next().unwrap_or_default();
+        only.extend(names.split(';').map(str::to_string));
+    }
     let Some(options) = Options::read(words) else {
         eprintln!("an option is not known, or has no number above 0");
         return ExitCode::from(2);
     };
     for depth in DEPTHS {
         if options.depth.is_none() {
-            run(workload, &options, depth);
+            run(workload, &options, &only, depth);
         }
     }
     if let Some(depth) = options.depth {
-        run(workload, &options, depth);
+        run(workload, &options, &only, depth);
     }
     ExitCode::SUCCESS
 }
 
-fn run(workload: Workload, options: &Options, depth: u32) {
+fn run(workload: Workload, options: &Options, only: &[String], depth: u32) {
     for &threads in &options.threads {
         if workload.can_run(depth, threads) {
             let case = |hints| Setting {
@@ -61,6 +70,7 @@ fn run(workload: Workload, options: &Options, depth: u32) {
                 threads,
                 hints,
                 rounds: options.rounds,
+                only,
             };
             case(Hints::Apart).measure::<Kernel>();
             case(Hints::FromZero).measure::<Kernel>();
@@ -74,6 +84,8 @@ fn run(workload: Workload, options: &Options, depth: u32) {
             }
             case(Hints::Apart).measure::<Bitmap>();
             case(Hints::None).measure::<Queue>();
+            case(Hints::None).measure::<FreeQueue<Boost>>();
+            case(Hints::None).measure::<FreeQueue<Moodycamel>>();
             case(Hints::None).measure::<List>();
             case(Hints::None).measure::<Limit>();
             if workload == Workload::Pair {
@@ -96,16 +108,21 @@ enum Hints {
 
 /// One case of one contender.
 #[derive(Clone, Copy)]
-struct Setting {
+struct Setting<'a> {
     workload: Workload,
     depth: u32,
     threads: u32,
     hints: Hints,
     rounds: u64,
+    /// Who is measured. All are, where nobody is named.
+    only: &'a [String],
 }
 
-impl Setting {
+impl Setting<'_> {
     fn measure<T: Tags>(self) {
+        if !self.only.is_empty() && !self.only.iter().any(|name| name == T::NAME) {
+            return;
+        }
         let stride = match self.hints {
             Hints::Apart => self.depth / self.threads,
             Hints::FromZero | Hints::None => 0,
@@ -123,11 +140,9 @@ impl Setting {
         case.measure(|index| {
             let mut user = tags.enter(index);
             match self.workload {
-                Workload::Pair => loops::pairs(&tags, &mut user, &slots, self.rounds),
-                Workload::Ring | Workload::Full => {
-                    loops::ring(&tags, &mut user, &slots, held, self.rounds)
-                }
-                Workload::Batch => loops::batches(&tags, &mut user, &slots, self.rounds),
+                Workload::Pair => tags.pairs(&mut user, &slots, self.rounds),
+                Workload::Ring | Workload::Full => tags.ring(&mut user, &slots, held, self.rounds),
+                Workload::Batch => tags.batches(&mut user, &slots, self.rounds),
                 Workload::Handoff if index % 2 == 0 => {
                     loops::send(&tags, &mut user, &slots, &ways[index as usize], self.rounds)
                 }

@@ -37,6 +37,8 @@ FIRST = [
 ]
 SECOND = [
     ("limit", LIMIT),
+    ("boost queue", ("boost queue", None)),
+    ("moodycamel queue", ("moodycamel queue", None)),
     ("tag sets", SETS),
     ("C, pool's slots", THROUGH_C),
     ("kernel, from 0", ("kernel", "from 0")),

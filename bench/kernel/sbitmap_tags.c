@@ -30,26 +30,46 @@ bool sbitmap_tags_close(struct sbitmap_queue *queue)
 	return none;
 }
 
+// What a thread has: the map, and the processor that it stands for.
+struct sbitmap_user {
+	struct sbitmap_queue *queue;
+	unsigned int processor;
+};
+
 // A free tag, or -1.
-int sbitmap_tags_get(struct sbitmap_queue *queue)
+int sbitmap_tags_get(struct sbitmap_user *user)
 {
-	return __sbitmap_queue_get(queue);
+	return __sbitmap_queue_get(user->queue);
 }
 
 // Clears a tag that this processor got.
-void sbitmap_tags_clear(struct sbitmap_queue *queue, unsigned int tag, unsigned int processor)
+void sbitmap_tags_clear(struct sbitmap_user *user, unsigned int tag)
 {
-	sbitmap_queue_clear(queue, tag, processor);
+	sbitmap_queue_clear(user->queue, tag, user->processor);
 }
 
-// Up to so many tags side by side: the first, and a mask of them.
-unsigned long sbitmap_tags_get_batch(struct sbitmap_queue *queue, int count, unsigned int *first)
+static uint64_t get_batch(struct sbitmap_user *user, unsigned int count, unsigned int *first)
 {
-	return __sbitmap_queue_get_batch(queue, count, first);
+	return __sbitmap_queue_get_batch(user->queue, (int)count, first);
 }
 
-// Clears these tags, of one word.
-void sbitmap_tags_clear_batch(struct sbitmap_queue *queue, int *tags, int count)
+// The kernel clears the tags of a list.
+static void clear_batch(struct sbitmap_user *user, unsigned int first, uint64_t mask)
 {
-	sbitmap_queue_clear_batch(queue, 0, tags, count);
+	int tags[BITS_PER_LONG];
+	int count = 0;
+
+	for (; mask; mask &= mask - 1)
+		tags[count++] = (int)first + __builtin_ctzll(mask);
+	sbitmap_queue_clear_batch(user->queue, 0, tags, count);
 }
+
+// As in c_tags.c, the loops are C, with what <linux/sbitmap.h> has in line.
+#define LOOPS sbitmap_tags
+#define USER struct sbitmap_user
+#define GET(user) __sbitmap_queue_get((user)->queue)
+#define CLEAR(user, tag) sbitmap_queue_clear((user)->queue, tag, (user)->processor)
+#define TOUCH(user, slots, tag, value) touch_beside(slots, tag, value)
+#define GET_BATCH get_batch
+#define CLEAR_BATCH clear_batch
+#include "loops.h"

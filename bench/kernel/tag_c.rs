@@ -4,6 +4,7 @@ use crate::loops::{Slots, Tags, BATCH};
 use std::ffi::c_void;
 use std::marker::PhantomData;
 use std::ptr::null_mut;
+use std::sync::atomic::AtomicU64;
 use std::sync::{Mutex, MutexGuard, PoisonError};
 
 /// A struct tags_pool or a struct tags_hand.
@@ -46,20 +47,63 @@ unsafe extern "C" {
     fn tags_leave(hand: *mut Handle) -> i32;
     fn tags_close(pool: *mut Handle, sums: *mut [u64; 8]) -> i32;
     fn c_tags_get(hand: *mut Handle) -> i32;
-    fn c_tags_get_batch(hand: *mut Handle, count: u32, won: *mut u64) -> i32;
     fn c_tags_clear(hand: *mut Handle, tag: u32) -> i32;
-    fn c_tags_clear_mask(hand: *mut Handle, first: u32, mask: u64) -> i32;
     fn c_tags_write(hand: *mut Handle, tag: u32, value: u64, former: *mut u64) -> i32;
     fn c_tags_post(hand: *mut Handle, tag: u32) -> i32;
     fn c_tags_take(hand: *mut Handle, tag: u32) -> i32;
+    fn c_tags_beside_pairs(hand: *mut Handle, slots: *const AtomicU64, rounds: u64) -> u64;
+    fn c_tags_beside_ring(
+        hand: *mut Handle,
+        slots: *const AtomicU64,
+        held: *mut u32,
+        hold: u64,
+        rounds: u64,
+    ) -> u64;
+    fn c_tags_beside_batches(
+        hand: *mut Handle,
+        slots: *const AtomicU64,
+        batch: u32,
+        rounds: u64,
+    ) -> u64;
+    fn c_tags_in_pool_pairs(hand: *mut Handle, slots: *const AtomicU64, rounds: u64) -> u64;
+    fn c_tags_in_pool_ring(
+        hand: *mut Handle,
+        slots: *const AtomicU64,
+        held: *mut u32,
+        hold: u64,
+        rounds: u64,
+    ) -> u64;
+    fn c_tags_in_pool_batches(
+        hand: *mut Handle,
+        slots: *const AtomicU64,
+        batch: u32,
+        rounds: u64,
+    ) -> u64;
 }
+
+/// The loops of loops.h, as c_tags.c has them.
+pub struct Loops {
+    pairs: unsafe extern "C" fn(*mut Handle, *const AtomicU64, u64) -> u64,
+    ring: unsafe extern "C" fn(*mut Handle, *const AtomicU64, *mut u32, u64, u64) -> u64,
+    batches: unsafe extern "C" fn(*mut Handle, *const AtomicU64, u32, u64) -> u64,
+}
+
+const BESIDE: Loops = Loops {
+    pairs: c_tags_beside_pairs,
+    ring: c_tags_beside_ring,
+    batches: c_tags_beside_batches,
+};
 
 /// Where a program keeps what belongs to a tag, and how many tags each of its hands keeps.
 pub trait Keeping: Sync {
     const NAME: &'static str;
     const CACHE: u32 = 0;
+    const LOOPS: Loops = BESIDE;
 
-    fn touch(hand: &mut Hand, slots: &Slots, tag: u32, value: u64);
+    #[inline]
+    fn touch(_hand: &mut Hand, slots: &Slots, tag: u32, value: u64) {
+        slots.touch(tag, value);
+    }
 }
 
 /// In the pool's slots, each of which only the holder of its tag reads and writes.
@@ -67,6 +111,11 @@ pub struct InPool;
 
 impl Keeping for InPool {
     const NAME: &'static str = "tag_c";
+    const LOOPS: Loops = Loops {
+        pairs: c_tags_in_pool_pairs,
+        ring: c_tags_in_pool_ring,
+        batches: c_tags_in_pool_batches,
+    };
 
     #[inline]
     fn touch(hand: &mut Hand, _slots: &Slots, tag: u32, value: u64) {
@@ -81,11 +130,6 @@ pub struct Beside;
 
 impl Keeping for Beside {
     const NAME: &'static str = "tag_c, own slots";
-
-    #[inline]
-    fn touch(_hand: &mut Hand, slots: &Slots, tag: u32, value: u64) {
-        slots.touch(tag, value);
-    }
 }
 
 /// The same, over a cache of as many tags as the workloads of tag_bench have.
@@ -94,11 +138,6 @@ pub struct BesideCached;
 impl Keeping for BesideCached {
     const NAME: &'static str = "tag_c, cache";
     const CACHE: u32 = 8;
-
-    #[inline]
-    fn touch(_hand: &mut Hand, slots: &Slots, tag: u32, value: u64) {
-        slots.touch(tag, value);
-    }
 }
 
 /// A pool from its open to its close.
@@ -114,8 +153,8 @@ impl<K> TagC<K> {
     }
 }
 
-/// A hand of one thread for one run, and the batch that it got last: its first tag, and the mask of those won.
-pub struct Hand(Handle, u32, u64);
+/// A hand of one thread for one run.
+pub struct Hand(Handle);
 
 impl Drop for Hand {
     fn drop(&mut self) {
@@ -154,7 +193,7 @@ impl<K: Keeping> Tags for TagC<K> {
         // SAFETY: the lock keeps the pool's handle to this call.
         let status = unsafe { tags_join(&mut *self.pool(), &mut hand, self.flags) };
         assert_eq!(status, 0, "there is no hand for this thread");
-        Hand(hand, 0, 0)
+        Hand(hand)
     }
 
     #[inline]
@@ -186,25 +225,28 @@ impl<K: Keeping> Tags for TagC<K> {
         unsafe { c_tags_take(&mut hand.0, tag) };
     }
 
-    #[inline]
-    fn get_batch(&self, hand: &mut Hand, tags: &mut [u32; BATCH]) -> usize {
-        let mut won = 0;
-        // SAFETY: as of `drop`.
-        let first = unsafe { c_tags_get_batch(&mut hand.0, BATCH as u32, &mut won) };
-        (hand.1, hand.2) = (first as u32, won);
-        let mut count = 0;
-        while first >= 0 && won != 0 {
-            tags[count] = first as u32 + won.trailing_zeros();
-            won &= won - 1;
-            count += 1;
-        }
-        count
+    fn get_batch(&self, _hand: &mut Hand, _tags: &mut [u32; BATCH]) -> usize {
+        unreachable!("the loop is C")
     }
 
-    #[inline]
-    fn clear_batch(&self, hand: &mut Hand, _tags: &[u32]) {
-        // SAFETY: as of `drop`.
-        unsafe { c_tags_clear_mask(&mut hand.0, hand.1, hand.2) };
+    fn clear_batch(&self, _hand: &mut Hand, _tags: &[u32]) {
+        unreachable!("the loop is C")
+    }
+
+    fn pairs(&self, hand: &mut Hand, slots: &Slots, rounds: u64) -> u64 {
+        // SAFETY: as of `drop`, and there is a slot for each tag, as there is in the next two.
+        unsafe { (K::LOOPS.pairs)(&mut hand.0, slots.start(), rounds) }
+    }
+
+    fn ring(&self, hand: &mut Hand, slots: &Slots, hold: usize, rounds: u64) -> u64 {
+        let mut held = vec![0; hold];
+        // SAFETY: as of `pairs`, and there is room for what is held.
+        unsafe { (K::LOOPS.ring)(&mut hand.0, slots.start(), held.as_mut_ptr(), hold as u64, rounds) }
+    }
+
+    fn batches(&self, hand: &mut Hand, slots: &Slots, rounds: u64) -> u64 {
+        // SAFETY: as of `pairs`.
+        unsafe { (K::LOOPS.batches)(&mut hand.0, slots.start(), BATCH as u32, rounds) }
     }
 
     fn close(self) {

@@ -25,7 +25,6 @@ enum {
 struct tags_options { uint32_t total, reserved, hands, cache; };
 struct tags_sums { uint64_t got, back; };
 struct tags_sizes { uint32_t depth, busy; };
-struct tags_counts { uint32_t waiting; };
 
 struct list {
 	uint32_t depth;
@@ -140,12 +139,14 @@ static inline int32_t tags_pool_show(struct tags_pool *pool, uint32_t kind, stru
 	return TAGS_OK;
 }
 
-static inline int32_t tags_pool_wakes(struct tags_pool *pool, struct tags_counts *counts)
+static inline int32_t tags_pool_waiting(struct tags_pool *pool)
 {
+	int32_t waiting;
+
 	pthread_mutex_lock(&pool->lists->lock);
-	counts->waiting = pool->lists->waiting;
+	waiting = (int32_t)pool->lists->waiting;
 	pthread_mutex_unlock(&pool->lists->lock);
-	return TAGS_OK;
+	return waiting;
 }
 
 static inline int32_t tags_flush(struct tags_hand *hand)
