@@ -6,7 +6,7 @@ import re
 import subprocess
 
 CONTRACTS = "docs/CONTRACTS.md"
-ASSEMBLY = ["c/generated/tag_c-x86_64.s", "c/generated/tag_c-aarch64.s"]
+ASSEMBLY = [f"c/generated/tag_c-{it}.s" for it in ("x86_64", "x86_64-v3", "aarch64", "aarch64-lse")]
 LINK = re.compile(r"\]\(([^)#\s]*)#([^)\s]+)\)")
 BLOCK = re.compile(r"^```sh\n(.*?)^```", re.M | re.S)
 PROMISED = re.compile(r"`((?:\w+::)?\w+)` \(((?:`[a-z_]+`(?:, )?)+)\)")

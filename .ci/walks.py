@@ -27,7 +27,7 @@ class Function:
     def calls(self, other):
         """Whether it calls another one, also by the name that an export has in the library, or hands it on."""
         exported = re.escape(other.removeprefix("tags_"))
-        call = re.compile(rf"\b(?:{re.escape(other)}|tags_library_{exported})\b\s*(?:::<[^>]*>)?\s*[(,)]")
+        call = re.compile(rf"\b(?:{re.escape(other)}|tags_library_{exported})\b\s*(?:::<[^(]*>)?\s*[(,)]")
         return any(call.search(it) for it in self.bodies)
 
 
