@@ -1,2 +1,3 @@
+mod Uses
 pub mod Reference
 pub mod ReferenceOrders

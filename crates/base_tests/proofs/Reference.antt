@@ -1,29 +1,13 @@
 -- The answer of the reference search, and the marks after it, in terms of a choice.
-use Rattle.std.proofs.Common.{◌≡◌, ◌≢◌, ◌↔◌, ℕ, ◌+◌, ◌*◌, ◌%◌, ◌^◌, ◌<◌, ◌≤◌, Bool, true, false, ◌&&◌, ◌||◌, List, []}
-use Rattle.std.proofs.Common.{◌∷◌, ◌++◌, map, length, get_or, take, drop, bit_or, Some, None, arith, refl, sym, ap, ◌∙◌}
-use Rattle.std.proofs.Common.{subst}
-use Rattle.std.specs.Prelude.{All, not, nat_eq, nat_lt, nat_le, insert}
-use mathlib.Core.Logic.{dite}
-use native.Mathlib.Decide.{dec_lt, ℕ_discrete}
+use Rattle.base_tests.proofs.Uses.{[], All, All-cons, All-from_get_or, All-head, All-map, All-nil, All-push, All-tail, all_scan, ap, arith, aside_then, batch, batch_words, bit_at, bit_at_set_other, bit_at_set_same, bit_or, Bool, chosen_aside, chosen_free, dec_lt, dite, drop, false, free_then, freed_in, get_or, HasNoRun, insert, is_available, is_in, IsAside, IsAvailableRun, IsBatchChoice, IsBusy, IsChoice, IsFirst, IsFree, IsFull, IsLeastAvailable, IsSet, Layout, length, List, map, mark_at, nat_le, nat_lt, no_batch, None, not, nothing, place_of, place_of-tag_at, Pool, pool_of_marks, Reach, refl, scan_order, Some, subst, sym, tag_at, tag_at-below, take, taken_at, taken_from, true, visit_of, visits, w64, word_bits, word_depth, word_of, word_of-tag_at, words, words_in, ℕ, ℕ_discrete, ◌∙◌}
+use Rattle.std.proofs.Common.{◌≡◌, ◌≢◌, ◌↔◌, ◌+◌, ◌*◌, ◌%◌, ◌^◌, ◌<◌, ◌≤◌, ◌&&◌, ◌||◌}
+use Rattle.std.proofs.Common.{◌∷◌, ◌++◌}
+use Rattle.std.specs.Prelude.{nat_eq}
 use Rattle.std.proofs.lemmas.Bool.{ltb-true}
 use Rattle.std.proofs.lemmas.Bool.Decides.{nat_tests}
 use Rattle.std.proofs.lemmas.List.{take-append-drop, take_all, take_more, drop_more, map-append, length-take}
 use Rattle.std.proofs.lemmas.List.{get_or-take, get_or_push, get_or_append_left, length_push}
-use Rattle.std.proofs.lemmas.List.Elements.{All-nil, All-cons, All-head, All-tail, All-map, All-push, All-from_get_or}
-use Rattle.std.specs.Int.{bit_at, w64}
-use Rattle.std.proofs.lemmas.Nat.Bits.{bit_at_set_same, bit_at_set_other}
-use Rattle.tag_layout.specs.Layout.{Layout, words, word_bits, word_of, place_of, word_depth, tag_at}
-use Rattle.tag_layout.proofs.PlaceFacts.{tag_at-below, word_of-tag_at, place_of-tag_at}
-use Rattle.tag_search.specs.Batch.{batch_words}
-use Rattle.tag_search.specs.Choice.{IsFree, IsSet, IsAside, IsBusy, IsFirst, IsFull, words_in, IsChoice, nothing}
-use Rattle.tag_search.specs.Choice.{chosen_free, chosen_aside, IsLeastAvailable, HasNoRun, IsAvailableRun, IsBatchChoice}
-use Rattle.tag_search.specs.Choice.{no_batch, batch}
-use Rattle.base_tests.specs.Marks.{mark_at, pool_of_marks, free_then, aside_then}
-use Rattle.tag_search.specs.Order.{scan_order}
-use Rattle.tag_search.specs.Pool.{Pool, is_available, is_in, freed_in, taken_from, taken_at}
 use Rattle.tag_search.specs.Search.{Visit}
-use Rattle.tag_search.specs.Visits.{Reach, visit_of, visits}
-use Rattle.tag_search.proofs.Orders.{all_scan}
 
 -- a run of one place is that place
 one_place : (k o : ℕ) → (nat_le k o && nat_lt o (k + 1)) ≡ nat_eq k o

@@ -1,12 +1,6 @@
 -- The order in which the reference search goes through the words, by the names that its code has for it.
-use Rattle.std.proofs.Common.{◌≡◌, ℕ, ◌*◌, ◌/◌, ◌%◌, ◌^◌, ◌<◌, Bool, true, List, length, get_or, Option, ap, ◌∙◌}
-use Rattle.std.proofs.lemmas.Nat.{one_shl}
-use Rattle.tag_layout.specs.Layout.{Layout, words, word_of}
-use Rattle.tag_search.specs.Batch.{batch_words}
-use Rattle.tag_search.specs.Hints.{reduced}
-use Rattle.tag_search.specs.Order.{scan_order}
-use Rattle.tag_search.specs.Scans.{limit_of}
-use Rattle.tag_search.specs.Visits.{Reach}
+use Rattle.base_tests.proofs.Uses.{ap, batch_words, Bool, get_or, Layout, length, limit_of, List, one_shl, Option, Reach, reduced, scan_order, true, word_of, words, ℕ, ◌∙◌}
+use Rattle.std.proofs.Common.{◌≡◌, ◌*◌, ◌/◌, ◌%◌, ◌^◌, ◌<◌}
 use Rattle.base_tests.proofs.Reference.{order_within}
 
 -- from where on a get looks, and up to which place

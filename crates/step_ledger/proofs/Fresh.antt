@@ -1,9 +1,6 @@
 -- The records of all members in one seat, in the order of their numbers, as a table opens with them.
-use Rattle.std.proofs.Common.{◌≡◌, ℕ, zero, suc, ◌+◌, ◌-◌, ◌<◌, [], ◌∷◌, arith, refl, sym, ap, ◌∙◌, subst}
-use mathlib.Core.Option.{some, some-injective, some-ne-none}
-use lib.ListN.{get_elem?}
-use Rattle.step_ledger.specs.declared.record.View.{View}
-use Rattle.step_ledger.specs.Views.{viewing, own_view, first_view, other_views, records_from}
+use Rattle.std.specs.Prelude.{◌+◌, ◌-◌, ◌<◌, ◌∷◌, ◌≡◌}
+use Rattle.step_ledger.proofs.Uses.{[], ap, arith, first_view, get_elem?, other_views, own_view, records_from, refl, some, some-injective, some-ne-none, subst, suc, sym, View, viewing, zero, ℕ, ◌∙◌}
 use Rattle.step_ledger.proofs.Seats.{Standing}
 
 module _ {A : Type 0} (record_of : ℕ → A) where

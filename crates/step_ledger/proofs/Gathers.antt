@@ -1,14 +1,6 @@
 -- What the last state tells where one seat has the records of all members.
-use Rattle.std.proofs.Common.{◌≡◌, ℕ, ◌<◌, List, sym, ap, ◌∙◌, subst}
-use mathlib.Core.Option.{some}
-use lib.ListN.{get_elem?}
-use Rattle.atomic_table.specs.Table.{State, Final, Seen}
-use Rattle.sums.specs.Below.{sum_below}
-use Rattle.step_ledger.specs.Gather.{Has, turned}
-use Rattle.step_ledger.specs.Records.{Records, numbers, sum_over}
-use Rattle.step_ledger.specs.declared.record.Record.{Record}
-use Rattle.step_ledger.specs.History.{own_steps, words_left, Lawful, AreListsOf}
-use Rattle.step_ledger.specs.Ledger.{Ledger}
+use Rattle.std.specs.Prelude.{◌<◌, ◌≡◌}
+use Rattle.step_ledger.proofs.Uses.{ap, AreListsOf, Final, get_elem?, Has, Lawful, Ledger, List, numbers, own_steps, Record, Records, Seen, some, State, subst, sum_below, sum_over, sym, turned, words_left, ℕ, ◌∙◌}
 use Rattle.step_ledger.proofs.Whole.{has_record, total_of_all}
 use Rattle.step_ledger.proofs.Turned.{at_turned, has_turned, sum_turned}
 

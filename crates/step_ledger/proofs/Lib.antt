@@ -1,3 +1,4 @@
+mod Uses
 pub mod Seats
 pub mod Fresh
 pub mod Numbers

@@ -1,15 +1,8 @@
 -- Steps of members, and records that pass from seat to seat, keep the rule of a ledger. Nothing here depends on what
 -- the steps are.
-use Rattle.std.proofs.Common.{◌≡◌, ◌≢◌, ℕ, ◌+◌, ◌-◌, ◌<◌, List, [], ◌∷◌, get_or, set, Bool, cond, refl, sym, ap, ◌∙◌, subst, ⊎_elim, eq-eqb, ne_eqb}
-use mathlib.Core.Option.{some}
-use lib.ListN.{get_elem?}
-use Rattle.atomic_table.specs.Table.{State, Me, opening, Allows, keeps, Splits, Joins}
-use Rattle.atomic_table.proofs.Lists.{at_set}
-use Rattle.step_ledger.specs.Records.{Records, with_step, push, fresh_record, fresh, still_to_come, steps_of, Stepped}
-use Rattle.step_ledger.specs.declared.record.Record.{Record}
-use Rattle.step_ledger.specs.Views.{viewing, own_view, first_view, other_views, both_views}
-use Rattle.step_ledger.specs.History.{own_steps, words_left, Lawful}
-use Rattle.step_ledger.specs.Ledger.{Ledger}
+use Rattle.std.specs.Prelude.{◌+◌, ◌-◌, ◌<◌, ◌∷◌, ◌≡◌, ◌≢◌}
+use Rattle.step_ledger.proofs.Uses.{[], Allows, ap, at_set, Bool, both_views, cond, eq-eqb, first_view, fresh, fresh_record, get_elem?, get_or, Joins, keeps, Lawful, Ledger, List, Me, ne_eqb, opening, other_views, own_steps, own_view, push, Record, Records, refl, set, some, Splits, State, Stepped}
+use Rattle.step_ledger.proofs.Uses.{steps_of, still_to_come, subst, sym, viewing, with_step, words_left, ℕ, ⊎_elim, ◌∙◌}
 use Rattle.step_ledger.proofs.Seats.{Standing, first_only, each_same}
 use Rattle.step_ledger.proofs.Fresh.{standing-fresh, next_is}
 use Rattle.step_ledger.proofs.Moves.{splits_first, joins_behind}

@@ -1,11 +1,7 @@
 -- A rule that says where each member's record stands, and is otherwise silent on seats, holds as records pass from seat
 -- to seat.
-use Rattle.std.proofs.Common.{◌≡◌, ℕ, List, [], ◌∷◌, sym, ap, ◌∙◌, subst}
-use mathlib.Core.Option.{some}
-use Rattle.atomic_table.specs.Table.{State, Splits, Joins}
-use Rattle.atomic_table.proofs.Lists.{set_else}
-use Rattle.step_ledger.specs.declared.record.View.{View}
-use Rattle.step_ledger.specs.Views.{viewing, own_view, first_view, other_views, both_views}
+use Rattle.std.specs.Prelude.{◌∷◌, ◌≡◌}
+use Rattle.step_ledger.proofs.Uses.{[], ap, both_views, first_view, Joins, List, other_views, own_view, set_else, some, Splits, State, subst, sym, View, viewing, ℕ, ◌∙◌}
 use Rattle.step_ledger.proofs.Seats.{Standing, split, join}
 
 module _ {S A : Type 0} (number : A → ℕ) (n : ℕ) (Rule : State S (View A) → Type 0)

@@ -1,9 +1,6 @@
 -- Members that stand at their numbers.
-use Rattle.std.proofs.Common.{◌≡◌, ℕ, zero, suc, ◌+◌, ◌<◌, List, [], ◌∷◌, ◌++◌, length, map, get_or, All, length-append, arith, refl, sym, ap, ◌∙◌, subst, ⊎_elim}
-use mathlib.Core.Option.{some}
-use lib.ListN.{get_elem?}
-use Rattle.step_ledger.specs.Gather.{AreNumbered}
-use Rattle.step_ledger.specs.Views.{records_from}
+use Rattle.std.specs.Prelude.{◌++◌, ◌+◌, ◌<◌, ◌∷◌, ◌≡◌}
+use Rattle.step_ledger.proofs.Uses.{[], All, ap, AreNumbered, arith, get_elem?, get_or, length, length-append, List, map, records_from, refl, some, subst, suc, sym, zero, ℕ, ⊎_elim, ◌∙◌}
 use Rattle.step_ledger.proofs.Seats.{snoc_at}
 
 module _ {A : Type 0} (IsNumber : ℕ → A → Type 0) where

@@ -1,12 +1,9 @@
 -- Where each member's record stands, as views pass from seat to seat. Nothing here depends on what a record tells.
-use Rattle.std.proofs.Common.{◌≡◌, ◌≢◌, ℕ, zero, suc, ◌+◌, ◌-◌, ◌<◌, ◌⊎◌, List, [], ◌∷◌, ◌++◌, length, set, nat_eq, Bool, cond, arith, refl, sym, ap, ◌∙◌, subst, ⊎_elim, inl, inr, eq-eqb, ne_eqb}
-use mathlib.Core.Option.{some, some-injective, some-ne-none}
+use Rattle.std.specs.Prelude.{◌++◌, ◌+◌, ◌-◌, ◌<◌, ◌∷◌, ◌≡◌, ◌≢◌, ◌⊎◌}
+use Rattle.step_ledger.proofs.Uses.{[], ap, arith, at_longer, at_set, Bool, both_views, cond, EachStands, eq-eqb, get_elem?, inl, inr, length, List, nat_eq, ne_eqb, own_view, refl, set, set_else, set_here, some, some-injective, some-ne-none, subst, suc, sym, View, viewing, zero, ℕ, ⊎_elim}
+use Rattle.step_ledger.proofs.Uses.{◌∙◌}
 use mathlib.Core.Logic.{dite}
 use native.Mathlib.Decide.{ℕ_discrete}
-use lib.ListN.{get_elem?}
-use Rattle.atomic_table.proofs.Lists.{at_set, set_here, set_else, at_longer}
-use Rattle.step_ledger.specs.declared.record.View.{View}
-use Rattle.step_ledger.specs.Views.{viewing, own_view, both_views, EachStands}
 
 -- an entry stands below the length
 pub within : {A : Type 0} (l : List A) (i : ℕ) (a : A) → get_elem? l i ≡ some a → i < length l

@@ -1,8 +1,6 @@
 -- What all steps of a history add up to, summed member by member.
-use Rattle.std.proofs.Common.{◌≡◌, ℕ, ◌+◌, List, [], ◌∷◌, ap, ◌∙◌}
-use Rattle.sums.specs.Below.{sum_below}
-use Rattle.sums.proofs.Laws.{sum_below-zero, sum_below-more}
-use Rattle.step_ledger.specs.History.{own_steps, total, total_all, Lawful}
+use Rattle.std.specs.Prelude.{◌+◌, ◌∷◌, ◌≡◌}
+use Rattle.step_ledger.proofs.Uses.{[], ap, Lawful, List, own_steps, sum_below, sum_below-more, sum_below-zero, total, total_all, ℕ, ◌∙◌}
 use Rattle.step_ledger.proofs.Members.{own_here, own_else}
 
 module _ {T : Type 0} (n : ℕ) (MayStep : ℕ → T → List (ℕ × T) → Type 0) where

@@ -1,13 +1,7 @@
 -- Lists in the other order, as they come off the end one by one, and what stands in them.
-use Rattle.std.proofs.Common.{◌≡◌, ◌≢◌, ℕ, zero, suc, ◌+◌, ◌<◌, List, [], ◌∷◌, ◌++◌, map, length, get_or, All, arith, refl, sym, ap, ◌∙◌, subst, length-append}
+use Rattle.std.specs.Prelude.{◌++◌, ◌+◌, ◌<◌, ◌∷◌, ◌≡◌, ◌≢◌}
+use Rattle.step_ledger.proofs.Uses.{[], All, ap, arith, at_longer, both_views, get_elem?, get_or, Has, HasAll, length, length-append, List, map, numbers, own_view, Record, Records, refl, some, some-injective, some-ne-none, subst, suc, sum_over, sym, turned, zero, ℕ, ◌∙◌}
 use mathlib.Core.List.{map-append}
-use mathlib.Core.Option.{some, some-injective, some-ne-none}
-use lib.ListN.{get_elem?}
-use Rattle.atomic_table.proofs.Lists.{at_longer}
-use Rattle.step_ledger.specs.Gather.{Has, HasAll, turned}
-use Rattle.step_ledger.specs.Records.{Records, numbers, sum_over}
-use Rattle.step_ledger.specs.declared.record.Record.{Record}
-use Rattle.step_ledger.specs.Views.{own_view, both_views}
 use Rattle.step_ledger.proofs.Seats.{append_second}
 use Rattle.step_ledger.proofs.Whole.{has_record}
 

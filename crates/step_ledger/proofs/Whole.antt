@@ -1,11 +1,6 @@
 -- Sums over the records of all members, each of which stands once in a list.
-use Rattle.std.proofs.Common.{◌≡◌, ℕ, zero, suc, ◌<◌, List, [], ◌∷◌, length, map, arith, refl, sym, ap, ◌∙◌, subst}
-use mathlib.Core.Option.{some, some-injective, some-ne-none}
-use lib.ListN.{get_elem?}
-use Rattle.sums.specs.Below.{sum_below}
-use Rattle.sums.proofs.Laws.{sum_below-first, sum_below-turned}
-use Rattle.step_ledger.specs.Gather.{Has}
-use Rattle.step_ledger.specs.History.{total}
+use Rattle.std.specs.Prelude.{◌<◌, ◌∷◌, ◌≡◌}
+use Rattle.step_ledger.proofs.Uses.{[], ap, arith, get_elem?, Has, length, List, map, refl, some, some-injective, some-ne-none, subst, suc, sum_below, sum_below-first, sum_below-turned, sym, total, zero, ℕ, ◌∙◌}
 
 module _ {A : Type 0} (number : A → ℕ) where
   -- a number that is among those of the records is that of one of them

@@ -1,20 +1,8 @@
 -- Each kind of step keeps what is known of all callers together.
-use Rattle.std.proofs.Common.{◌≡◌, ◌≢◌, ℕ, zero, suc, ◌^◌, ◌<◌, ◌≤◌, ◌⊎◌, ◌∷◌, Bool, cond, nat_eq, bit_and, arith, refl, sym, ap, ◌∙◌, subst, inl, inr, eq-eqb, ne_eqb}
-use mathlib.Core.Logic.{dite}
-use native.Mathlib.Decide.{ℕ_discrete, dec_le}
-use Rattle.std.specs.Int.{bit_at}
-use Rattle.std.proofs.lemmas.Nat.Bits.{bit_at-lt, bit_at-zero, bit_at-pow_same}
-use Rattle.tag_core.specs.declared.bell_step.BellStep.{BellStep}
-use Rattle.tag_core.specs.declared.bell_step.BellStep.TheVariants.{Enlist, Sight, Tell, GetUp}
-use Rattle.tag_core.specs.declared.step.Step.{Step}
-use Rattle.tag_core.specs.declared.step.Step.TheVariants.{Word, Post, Take, Bell}
-use Rattle.tag_core.specs.declared.word_step.WordStep.{WordStep}
-use Rattle.tag_core.specs.Steps.{changed_at, Finds}
-use Rattle.tag_core.specs.Histories.{History, cells_of, FindsIn, steps_by}
+use Rattle.std.specs.Prelude.{◌<◌, ◌^◌, ◌∷◌, ◌≡◌, ◌≢◌, ◌≤◌, ◌⊎◌}
+use Rattle.tag_bell.proofs.Uses.{ap, arith, Bell, BellStep, bit_and, bit_at, bit_at-lt, bit_at-pow_same, bit_at-zero, Bool, cells_of, changed_at, cond, dec_le, dite, Enlist, eq-eqb, Finds, FindsIn, GetUp, History, inl, inr, listed_bit, nat_eq, ne_eqb, Opens, Post, refl, Shuts, Sight, Spot, Step}
+use Rattle.tag_bell.proofs.Uses.{steps_by, subst, suc, sym, Take, Tell, Tried, waits, Word, WordStep, zero, ℕ, ℕ_discrete, ◌∙◌}
 use Rattle.tag_core.specs.Lists.{IsBy, IsOwn, FindsListed}
-use Rattle.tag_bell.specs.declared.spot.Spot.{Spot}
-use Rattle.tag_bell.specs.Waiting.{waits, Tried, Shuts, Opens}
-use Rattle.tag_bell.specs.Safety.{listed_bit}
 use Rattle.tag_bell.proofs.ListBits.{changed_at-here, changed_at-else, without-in, without-of, with-of, bit_and-common}
 use Rattle.tag_bell.proofs.Spots.{shut, opened}
 use Rattle.tag_bell.proofs.OneStep.{IsFreeAt, WayOf, Someone, Kept, carries, covers, idle, here, there}

@@ -1,3 +1,4 @@
+mod Uses
 pub mod ListBits
 pub mod Spots
 pub mod OneStep
@@ -6,3 +7,4 @@ pub mod Safe
 pub mod Rung
 pub mod Rousing
 pub mod StillThere
+pub mod Choosing

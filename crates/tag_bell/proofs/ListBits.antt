@@ -1,12 +1,7 @@
 -- Bits of words and lists: what an and-not leaves of them, one value of a function changed, and a bit of a number that
 -- is not 0.
-use Rattle.std.proofs.Common.{◌≡◌, ◌≢◌, ℕ, zero, suc, ◌-◌, ◌/◌, ◌%◌, ◌^◌, ◌≤◌, Bool, cond, bit_and, bit_or, arith, ap, ◌∙◌, eq-eqb, ne_eqb}
-use mathlib.Core.Logic.{dite}
-use native.Mathlib.Decide.{ℕ_discrete, dec_le}
-use Rattle.std.specs.Int.{bit_at}
-use Rattle.std.proofs.lemmas.Nat.Bits.{bit_at_and, bit_at_or, bit_at-lt, bit_at-zero, bit_at-suc, bit_at_lowest, bit_at_above, bit_at-pow_other}
-use Rattle.tag_core.specs.Steps.{changed_at, without}
-use Rattle.tag_core.proofs.Masks.{bit_minus}
+use Rattle.std.specs.Prelude.{◌%◌, ◌-◌, ◌/◌, ◌^◌, ◌≡◌, ◌≢◌, ◌≤◌}
+use Rattle.tag_bell.proofs.Uses.{ap, arith, bit_and, bit_at, bit_at-lt, bit_at-pow_other, bit_at-suc, bit_at-zero, bit_at_above, bit_at_and, bit_at_lowest, bit_at_or, bit_minus, bit_or, Bool, changed_at, cond, dec_le, dite, eq-eqb, ne_eqb, suc, without, zero, ℕ, ℕ_discrete, ◌∙◌}
 
 -- a changed function has the new value there, and the old ones elsewhere
 pub changed_at-here : (f : ℕ → ℕ) (at value i : ℕ) → i ≡ at → changed_at f at value i ≡ value

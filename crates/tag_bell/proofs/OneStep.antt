@@ -1,14 +1,7 @@
 -- What is known of all callers together, and which steps keep it: those that leave the list of the others as it is, or
 -- shorter.
-use Rattle.std.proofs.Common.{◌≡◌, ◌≢◌, ℕ, ◌<◌, ◌≤◌, ◌⊎◌, List, ◌∷◌, Bool, cond, arith, refl, sym, ap, ◌∙◌, subst, inl, inr, eq-eqb, ne_eqb}
-use mathlib.Core.Logic.{dite}
-use native.Mathlib.Decide.{ℕ_discrete}
-use Rattle.std.proofs.lemmas.Nat.Bits.{bit_at-lt}
-use Rattle.tag_core.specs.declared.step.Step.{Step}
-use Rattle.tag_core.specs.Histories.{History, cells_of, steps_by}
-use Rattle.tag_bell.specs.declared.spot.Spot.{Spot}
-use Rattle.tag_bell.specs.Waiting.{waits, Tried, Owes}
-use Rattle.tag_bell.specs.Safety.{listed_bit, IsOpen}
+use Rattle.std.specs.Prelude.{◌<◌, ◌∷◌, ◌≡◌, ◌≢◌, ◌≤◌, ◌⊎◌}
+use Rattle.tag_bell.proofs.Uses.{ap, arith, bit_at-lt, Bool, cells_of, cond, dite, eq-eqb, History, inl, inr, IsOpen, List, listed_bit, ne_eqb, Owes, refl, Spot, Step, steps_by, subst, sym, Tried, waits, ℕ, ℕ_discrete, ◌∙◌}
 
 -- a tag is free at the spot after this history
 abbrev pub IsFreeAt : {R : Type 0} → History R → Spot → Type 0

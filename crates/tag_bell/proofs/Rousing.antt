@@ -1,20 +1,11 @@
 -- Callers of a mask that are roused one after another, in the order of their numbers.
-use Rattle.std.proofs.Common.{◌≡◌, ◌≢◌, ℕ, ◌+◌, ◌^◌, ◌<◌, ◌≤◌, bit_or, arith, sym, subst, ◌∙◌}
-use mathlib.Core.Logic.{dite}
-use native.Mathlib.Decide.{ℕ_discrete, dec_le}
-use Rattle.std.specs.Int.{bit_at}
-use Rattle.tag_core.specs.declared.caller.Caller.{Caller}
-use Rattle.tag_core.specs.Callers.{IsUnchanged}
-use Rattle.std.proofs.lemmas.Nat.Bits.{bit_at_or, bit_at-pow_same, bit_at-pow_other, bit_at-lt, bit_at_above, same_from_bits}
+use Rattle.std.specs.Prelude.{◌+◌, ◌<◌, ◌^◌, ◌≡◌, ◌≢◌, ◌≤◌}
+use Rattle.tag_bell.proofs.Uses.{arith, bit_at, bit_at-lt, bit_at-pow_other, bit_at-pow_same, bit_at_above, bit_at_or, bit_or, Caller, dec_le, dite, IsUnchanged, same_from_bits, subst, sym, ℕ, ℕ_discrete, ◌∙◌}
 
 -- the callers of the mask below this number were roused, and nobody else
 pub record RousedBelow (n mask roused : ℕ) : Type 0 where
   pub below : (i : ℕ) → i < n → bit_at roused i ≡ bit_at mask i
   pub above : (i : ℕ) → n ≤ i → bit_at roused i ≡ 0
-
--- nobody yet
-pub roused_none : (mask : ℕ) → RousedBelow 0 mask 0
-roused_none mask = record { below = λ i low. absurd (omega arith); above = λ i high. bit_at_above 0 0 i (omega arith) high }
 
 module _ (n mask roused : ℕ) (so_far : RousedBelow n mask roused) where
   -- one more roused caller changes its own bit alone

@@ -1,27 +1,11 @@
 -- Steps that change nothing of a caller's record but its list of steps, and what follows for what it has to see to.
-use Rattle.std.proofs.Common.{◌≡◌, ◌≢◌, ℕ, ◌+◌, ◌-◌, ◌^◌, ◌<◌, ◌≤◌, min, List, [], ◌∷◌, ◌++◌, Bool, true, false, cond, nat_eq, bit_and, bit_or, arith, refl, sym, ap, ◌∙◌, subst, append_assoc, length-append, eq-eqb, ne_eqb, inl, inr, ⊎_elim}
-use Rattle.std.specs.Int.Bits.{or_zero_l}
-use Rattle.std.proofs.lemmas.Nat.{le_or_l, le_or_r}
-use mathlib.Core.Logic.{dite}
-use native.Mathlib.Decide.{ℕ_discrete}
-use Rattle.std.specs.Int.{bit_at}
-use Rattle.std.proofs.lemmas.Nat.Bits.{bit_at_and, bit_at-lt, bit_at-zero, bit_at_ones}
-use Rattle.tag_layout.specs.Layout.{Layout, words, word_of, place_of, word_depth}
-use Rattle.tag_layout.proofs.PlaceFacts.{place_of-below, word_of-below}
-use Rattle.tag_core.specs.declared.bell_step.BellStep.{BellStep}
-use Rattle.tag_core.specs.declared.bell_step.BellStep.TheVariants.{Enlist, Sight, Tell, GetUp}
-use Rattle.tag_core.specs.declared.caller.Caller.{Caller}
-use Rattle.tag_core.specs.declared.record.Record.{Record}
-use Rattle.tag_core.specs.declared.step.Step.{Step}
-use Rattle.tag_core.specs.declared.step.Step.TheVariants.{Word, Post, Take, Bell}
-use Rattle.tag_core.specs.declared.word_step.WordStep.TheVariants.{Look, LookAside}
-use Rattle.tag_bell.specs.declared.told.Told.{Told}
-use Rattle.tag_core.specs.Callers.{record_of, Adds}
-use Rattle.tag_bell.specs.declared.spot.Spot.{Spot}
-use Rattle.tag_bell.specs.Waiting.{waits, Owes, in_word, in_aside}
+use Rattle.std.specs.Prelude.{◌++◌, ◌+◌, ◌-◌, ◌<◌, ◌^◌, ◌∷◌, ◌≡◌, ◌≢◌, ◌≤◌}
+use Rattle.tag_bell.proofs.Uses.{[], Adds, ap, append_assoc, arith, Bell, BellStep, bit_and, bit_at, bit_at-lt, bit_at-zero, bit_at_and, bit_at_ones, bit_or, Bool, Caller, cond, dite, Enlist, eq-eqb, false, GetUp, in_aside, in_word, Layout, le_or_l, le_or_r, length-append, List, Look, LookAside}
+use Rattle.tag_bell.proofs.Uses.{min, nat_eq, ne_eqb, nobody, OnlyAdds, or_zero_l, Owes, OwesNoneWhere, OwesNothing, place_of, Post, Record, record_of, refl, SameMap, Sight, Spot, Step, subst, sym, Take, Tell, Tells, Told, told_in, true, waits, Word, word_depth, word_of, ℕ, ℕ_discrete, ⊎_elim}
+use Rattle.tag_bell.proofs.Uses.{◌∙◌}
+use Rattle.tag_layout.proofs.PlaceFacts.{place_of-below}
 use Rattle.tag_bell.specs.Waiting as steps
-use Rattle.tag_bell.specs.Callers.{layout_of, OwesNothing}
-use Rattle.tag_bell.specs.Calls.{OwesNoneWhere, nobody, Tells, OnlyAdds, OwesNoMore, told_in}
+use Rattle.tag_bell.specs.Callers.{layout_of}
 
 plus_none : (n : ℕ) → n + 0 ≡ n
 plus_none n = omega arith
@@ -38,28 +22,28 @@ module _ {R : Type 0} where
   abbrev with_steps : List (Step R) → Record R → Record R
   with_steps xs r = record r { steps = xs ++ r.steps }
 
-  -- a step on a list
+  -- a step that changes nothing of the record but the list of steps
+  one_added : (step : Step R) (old new : Caller R) → SameMap old new
+      → (let r = record_of old in record_of new ≡ record r { won = r.won + 0; back = r.back + 0; steps = step ∷ r.steps })
+      → OnlyAdds (step ∷ []) old new
+  one_added step old new same known = let r = record_of old in record {
+    known = known ∙ (λ j. record r { won = plus_none r.won j; back = plus_none r.back j; steps = step ∷ r.steps });
+    same_map = same;
+  }
+
+  -- a step on a list, a look at a word, and one at a cleared set
   pub rung : (step : BellStep) (old new : Caller R) → Adds (Bell step) old new → OnlyAdds (Bell step ∷ []) old new
-  rung step old new did = let r = record_of old in record {
-    known = did.known ∙ (λ j. record {
-      shape = r.shape;
-      number = r.number;
-      held = r.held;
-      swept = r.swept;
-      won = plus_none r.won j;
-      back = plus_none r.back j;
-      steps = Bell step ∷ r.steps;
-    });
-    same_map = did.same_map;
-  }
+  rung step old new did = one_added (Bell step) old new did.same_map did.known
 
-  -- none, and some after others
-  pub none_added : (old new : Caller R) → new ≡ old → OnlyAdds [] old new
-  none_added old new e = record {
-    known = ap (λ (c : Caller R). record_of c) e;
-    same_map = ap (λ (c : Caller R). c.seat.table_id) e;
-  }
+  looked : (i found : ℕ) (old new : Caller R) → Adds (Word (Look i found)) old new
+      → OnlyAdds (Word (Look i found) ∷ []) old new
+  looked i found old new did = one_added (Word (Look i found)) old new did.same_map did.known
 
+  looked_aside : (i found : ℕ) (old new : Caller R) → Adds (Word (LookAside i found)) old new
+      → OnlyAdds (Word (LookAside i found) ∷ []) old new
+  looked_aside i found old new did = one_added (Word (LookAside i found)) old new did.same_map did.known
+
+  -- some steps after others
   pub added_after : (xs ys : List (Step R)) (a b c : Caller R) → OnlyAdds xs a b → OnlyAdds ys b c → OnlyAdds (ys ++ xs) a c
   added_after xs ys a b c first next = let r = record_of a in record {
     known = next.known ∙ ap (with_steps ys) first.known
@@ -76,25 +60,15 @@ module _ {R : Type 0} where
   layout_kept xs old new is = ap (λ (r : Record R). r.shape.layout) is.known
 
   -- the caller has nothing to see to if its steps say so
-  pub owes_none : (list : ℕ) (xs : List (Step R)) (old new : Caller R) → OnlyAdds xs old new
+  owes_none : (list : ℕ) (xs : List (Step R)) (old new : Caller R) → OnlyAdds xs old new
       → steps.OwesNothing (layout_of old) list (xs ++ (record_of old).steps) → OwesNothing list new
   owes_none list xs old new is holds = subst (λ (x : Layout × List (Step R)). steps.OwesNothing x.0 list x.1)
       (λ j. (sym (layout_kept xs old new is) j, sym (steps_added xs old new is) j)) holds
 
-  pub waits_so : (list : ℕ) (xs : List (Step R)) (old new : Caller R) → OnlyAdds xs old new
-      → (n : ℕ) → waits list (xs ++ (record_of old).steps) ≡ n → waits list (record_of new).steps ≡ n
-  waits_so list xs old new is n e = ap (λ (s : List (Step R)). waits list s) (steps_added xs old new is) ∙ e
-
-  -- no spot is owed after the steps that was not owed before
-  pub AddsNoDuty : ℕ → List (Step R) → Type 0
-  AddsNoDuty list xs = (older : List (Step R)) (spot : Spot) → Owes list (xs ++ older) spot → Owes list older spot
-
-  pub owes_no_more : (list : ℕ) (xs : List (Step R)) (old new : Caller R) → OnlyAdds xs old new
-      → ((spot : Spot) → Owes list (xs ++ (record_of old).steps) spot → Owes list (record_of old).steps spot)
-      → OwesNoMore list old new
-  owes_no_more list xs old new is less none = owes_none list xs old new is
-      (λ tag low owes. none tag low (⊎_elim (λ a. inl (less (in_word (layout_of old) tag) a))
-      (λ b. inr (less (in_aside (layout_of old) tag) b)) owes))
+  pub owes_no_spot : (list : ℕ) (xs : List (Step R)) (old new : Caller R) → OnlyAdds xs old new
+      → ((spot : Spot) → ¬ (Owes list (xs ++ (record_of old).steps) spot)) → OwesNothing list new
+  owes_no_spot list xs old new is none = owes_none list xs old new is (λ tag low owes.
+      ⊎_elim (λ a. none (in_word (layout_of old) tag) a) (λ b. none (in_aside (layout_of old) tag) b) owes)
 
   -- steps that tell nobody, behind others and before them
   pub told-before : (list : ℕ) (ys xs : List (Step R)) → told_in list xs ≡ 0 → told_in list (ys ++ xs) ≡ told_in list ys
@@ -137,37 +111,6 @@ module _ (R : Type 0) (list mask found : ℕ) where
       ap (λ (b : Bool). cond b (bit_or (bit_and found mask) more) more) (ne_eqb list other (λ e. ne (sym e)))
 
 module _ {R : Type 0} where
-  -- a look at a word, and one at a cleared set
-  pub looked : (i found : ℕ) (old new : Caller R) → Adds (Word (Look i found)) old new
-      → OnlyAdds (Word (Look i found) ∷ []) old new
-  looked i found old new did = let r = record_of old in record {
-    known = did.known ∙ (λ j. record {
-      shape = r.shape;
-      number = r.number;
-      held = r.held;
-      swept = r.swept;
-      won = plus_none r.won j;
-      back = plus_none r.back j;
-      steps = Word (Look i found) ∷ r.steps;
-    });
-    same_map = did.same_map;
-  }
-
-  pub looked_aside : (i found : ℕ) (old new : Caller R) → Adds (Word (LookAside i found)) old new
-      → OnlyAdds (Word (LookAside i found) ∷ []) old new
-  looked_aside i found old new did = let r = record_of old in record {
-    known = did.known ∙ (λ j. record {
-      shape = r.shape;
-      number = r.number;
-      held = r.held;
-      swept = r.swept;
-      won = plus_none r.won j;
-      back = plus_none r.back j;
-      steps = Word (LookAside i found) ∷ r.steps;
-    });
-    same_map = did.same_map;
-  }
-
   -- a call that told nobody, and another one behind it
   pub tells_after : (first most : ℕ) (told : Told) (a b c : Caller R) → Tells first nobody a b → Tells most told b c
       → Tells (first + most) told a c
@@ -187,16 +130,6 @@ module _ {R : Type 0} where
     few = omega arith;
     sleepers = is.sleepers;
     listeners = is.listeners;
-  }
-
-  pub tells_same : (most : ℕ) (one other : Told) (a b : Caller R) → one.sleepers ≡ other.sleepers
-      → one.listeners ≡ other.listeners → Tells most one a b → Tells most other a b
-  tells_same most one other a b e e' is = record {
-    steps = is.steps;
-    only = is.only;
-    few = is.few;
-    sleepers = sym e ∙ is.sleepers;
-    listeners = sym e' ∙ is.listeners;
   }
 
 -- every usable bit of a word is 1 if their and is the usable bits
@@ -243,18 +176,6 @@ module _ {R : Type 0} where
     listeners = refl;
   }
 
-  seen_less : (list i found aside : ℕ) (older : List (Step R)) (spot : Spot)
-      → Owes list (seen i found aside ++ older) spot → Owes list older spot
-  seen_less list i found aside older spot owes =
-      ⊎_elim (λ no. absurd no) (λ o. ⊎_elim (λ no. absurd no) (λ was. was) o.0) owes.0
-
-  pub seen_others : (here : ℕ → Type 0) (list i found aside : ℕ) (old new : Caller R)
-      → OnlyAdds (seen i found aside) old new → OwesNoneWhere here list old → OwesNoneWhere here list new
-  seen_others here list i found aside old new is none = none_where here list (seen i found aside) old new is
-      (λ tag low at owes. let l = layout_of old in let mine = (record_of old).steps in none tag low at
-      (⊎_elim (λ a. inl (seen_less list i found aside mine (in_word l tag) a))
-      (λ b. inr (seen_less list i found aside mine (in_aside l tag) b)) owes))
-
   -- if each of the word's bits is 1, and its cleared set is empty, both looks find its spots shut
   pub seen_shut : (list i found aside usable : ℕ) (old new : Caller R) → OnlyAdds (seen i found aside) old new
       → usable + 1 ≡ 2 ^ word_depth (layout_of old) i → bit_and found usable ≡ usable → aside ≡ 0
@@ -268,14 +189,9 @@ module _ {R : Type 0} where
       )) a.0)
       (λ b. b.1 (here, ap (λ (n : ℕ). bit_at n (place_of l tag)) empty ∙ bit_at-zero (place_of l tag))) owes)
 
-  -- what holds below a word and in it holds below the next, and below the last of all tags
+  -- what holds below a word and in it holds below the next
   pub one_more : (i list : ℕ) (caller : Caller R) → OwesNoneWhere (λ j. j < i) list caller
       → OwesNoneWhere (λ j. j ≡ i) list caller → OwesNoneWhere (λ j. j < i + 1) list caller
   one_more i list caller below at tag low here = dite (ℕ_discrete (word_of (layout_of caller) tag) i)
       (λ (e : word_of (layout_of caller) tag ≡ i). at tag low e)
       (λ (ne : word_of (layout_of caller) tag ≢ i). below tag low (omega arith))
-
-  pub all_words : (n list : ℕ) (caller : Caller R) → n ≡ words (layout_of caller)
-      → OwesNoneWhere (λ j. j < n) list caller → OwesNothing list caller
-  all_words n list caller is below tag low = below tag low
-      (subst (λ (m : ℕ). word_of (layout_of caller) tag < m) (sym is) (word_of-below (layout_of caller) tag low))

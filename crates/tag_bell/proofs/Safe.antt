@@ -1,12 +1,8 @@
 -- Nobody is forgotten after a lawful history, by induction on it; and what follows.
-use Rattle.std.proofs.Common.{◌≡◌, ℕ, ◌<◌, ◌⊎◌, [], ◌∷◌, arith, sym, ap, ◌∙◌, inl, inr}
-use Rattle.std.proofs.lemmas.Nat.Bits.{bit_at-zero}
-use Rattle.tag_core.specs.declared.shape.Shape.{Shape}
+use Rattle.std.specs.Prelude.{◌<◌, ◌∷◌, ◌≡◌, ◌⊎◌}
+use Rattle.tag_bell.proofs.Uses.{[], ap, arith, bit_at-zero, EachFinds, EachStateIsSafe, History, in_aside, in_word, inl, inr, IsAsleep, IsAtRest, IsOnTheWay, listed_bit, NobodyForgotten, NobodyIsForgotten, NobodyRestsBesideATag, NoneFreeAtRest, NoTagForgotten, NoTagIsForgotten, Owes, Shape}
+use Rattle.tag_bell.proofs.Uses.{SomebodyComes, Spot, steps_by, sym, waits, ℕ, ◌∙◌}
 use Rattle.tag_core.specs.Bits.{word_bit, aside_bit}
-use Rattle.tag_core.specs.Histories.{History, EachFinds, steps_by}
-use Rattle.tag_bell.specs.declared.spot.Spot.{Spot}
-use Rattle.tag_bell.specs.Waiting.{waits, Owes, in_word, in_aside}
-use Rattle.tag_bell.specs.Safety.{listed_bit, IsAsleep, IsOnTheWay, SomebodyComes, IsAtRest, NobodyForgotten, NoTagForgotten, NoneFreeAtRest, NobodyIsForgotten, NoTagIsForgotten, NobodyRestsBesideATag, EachStateIsSafe}
 use Rattle.tag_bell.proofs.OneStep.{IsFreeAt, WayOf, Someone, Kept}
 use Rattle.tag_bell.proofs.EachStep.{each}
 

@@ -1,17 +1,8 @@
 -- What a step on words does to a spot: where it shuts one, no tag is free there afterwards, and where a tag is free
 -- then, one was before or the step opened the spot.
-use Rattle.std.proofs.Common.{◌≡◌, ◌≢◌, ℕ, ◌⊎◌, bit_or, arith, sym, ap, ◌∙◌, inl, inr}
-use mathlib.Core.Logic.{dite}
-use native.Mathlib.Decide.{ℕ_discrete}
-use Rattle.std.specs.Int.{bit_at}
-use Rattle.std.proofs.lemmas.Nat.Bits.{bit_at_or, bit_at-lt, bit_at-zero}
-use Rattle.tag_core.specs.declared.word_step.WordStep.{WordStep}
-use Rattle.tag_core.specs.declared.word_step.WordStep.TheVariants.{Look, LookAside, Claimed, Give, Put, Swap, Keep, Spill}
-use Rattle.tag_core.specs.Steps.{Words, changed_at, without, Finds, words_after}
-use Rattle.tag_bell.specs.declared.spot.Spot.{Spot}
+use Rattle.std.specs.Prelude.{◌≡◌, ◌≢◌, ◌⊎◌}
+use Rattle.tag_bell.proofs.Uses.{ap, arith, bit_at, bit_at-lt, bit_at-zero, bit_at_or, bit_or, changed_at, Claimed, dite, Finds, Give, inl, inr, IsCleared, IsOpen, Keep, Look, LookAside, Opens, Put, Shuts, Spill, Spot, Swap, sym, without, Words, words_after, WordStep, ℕ, ℕ_discrete, ◌∙◌}
 use Rattle.tag_bell.specs.declared.spot.Spot.TheVariants.{InWord, InAside}
-use Rattle.tag_bell.specs.Waiting.{Shuts, IsCleared, Opens}
-use Rattle.tag_bell.specs.Safety.{IsOpen}
 use Rattle.tag_bell.proofs.ListBits.{changed_at-here, changed_at-else}
 
 -- a bit of a changed function

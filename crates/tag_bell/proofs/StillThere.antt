@@ -1,13 +1,7 @@
 -- What a call that leaves its caller unchanged keeps of what was said of it.
-use Rattle.std.proofs.Common.{◌≡◌, ℕ, ◌<◌, sym, ◌∙◌, subst}
-use Rattle.tag_core.specs.declared.caller.Caller.{Caller}
-use Rattle.tag_core.specs.declared.record.Record.{Record}
-use Rattle.tag_core.specs.Callers.{IsUnchanged, Holds, record_of}
-use Rattle.tag_core.specs.Holdings.{KeepsAll}
+use Rattle.std.specs.Prelude.{◌<◌, ◌≡◌}
+use Rattle.tag_bell.proofs.Uses.{Caller, Holds, IsUnchanged, KeepsAll, List, OnlyAdds, OwesNothing, Record, record_of, Step, subst, sym, Tells, TellsFew, Told, WaitsAsBefore, ℕ, ◌∙◌}
 use Rattle.tag_core.specs.Records.{tag_bit}
-use Rattle.tag_bell.specs.declared.told.Told.{Told}
-use Rattle.tag_bell.specs.Callers.{OwesNothing, WaitsAsBefore}
-use Rattle.tag_bell.specs.Calls.{Tells}
 use Rattle.tag_bell.specs.Waiting as steps
 
 module _ {R : Type 0} (old new : Caller R) (unchanged : IsUnchanged old new) where
@@ -39,12 +33,25 @@ module _ {R : Type 0} (old new : Caller R) (unchanged : IsUnchanged old new) whe
     none_else = λ tag has. keeps.none_else tag (held_before tag has);
   }
 
-  -- it told those whom it had told
+  -- the same steps are all that it added
+  adds_still : (steps : List (Step R)) (first : Caller R) → OnlyAdds steps first old → OnlyAdds steps first new
+  adds_still steps first only =
+      record { known = unchanged.known ∙ only.known; same_map = unchanged.same_map ∙ only.same_map }
+
+  -- it told those whom it had told, and as few
   pub tells_still : (most : ℕ) (told : Told) (first : Caller R) → Tells most told first old → Tells most told first new
   tells_still most told first tells = record {
     steps = tells.steps;
-    only = record { known = unchanged.known ∙ tells.only.known; same_map = unchanged.same_map ∙ tells.only.same_map };
+    only = adds_still tells.steps first tells.only;
     few = tells.few;
     sleepers = tells.sleepers;
     listeners = tells.listeners;
+  }
+
+  pub few_still : (most : ℕ) (told : Told) (first : Caller R) → TellsFew most told first old → TellsFew most told first new
+  few_still most told first tells = record {
+    steps = tells.steps;
+    only = adds_still tells.steps first tells.only;
+    of_sleepers = tells.of_sleepers;
+    of_listeners = tells.of_listeners;
   }

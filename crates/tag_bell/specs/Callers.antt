@@ -1,8 +1,6 @@
 -- The terms in which contracts say of a caller whether it waits, and what it has to see to.
-use Rattle.std.specs.Prelude.{◌≡◌, ℕ}
-use Rattle.tag_layout.specs.Layout.{Layout}
-use Rattle.tag_core.specs.declared.caller.Caller.{Caller}
-use Rattle.tag_core.specs.Callers.{record_of}
+use Rattle.std.specs.Prelude.{◌≡◌}
+use Rattle.tag_bell.specs.Uses.{Caller, Layout, record_of, ℕ}
 use Rattle.tag_bell.specs.Waiting as steps
 
 -- the layout of the caller's map

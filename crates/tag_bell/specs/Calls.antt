@@ -1,12 +1,7 @@
 -- What the contracts of calls say of the steps that they make.
-use Rattle.std.specs.Prelude.{◌≡◌, ◌≢◌, ◌↔◌, ℕ, ◌<◌, ◌≤◌, Bool, IsTrue, List, [], ◌∷◌, ◌++◌, length, cond, nat_eq, bit_and, bit_or}
+use Rattle.std.specs.Prelude.{◌++◌, ◌<◌, ◌↔◌, ◌∷◌, ◌≡◌, ◌≢◌, ◌≤◌}
+use Rattle.tag_bell.specs.Uses.{[], Bell, bit_and, bit_or, Bool, Caller, cond, Enlist, GetUp, IsTrue, length, List, nat_eq, Post, record_of, SameMap, Sight, Step, Take, Tell, Word, word_of, ℕ}
 use Rattle.tag_core.specs.declared.bell_step.BellStep.{BellStep}
-use Rattle.tag_core.specs.declared.bell_step.BellStep.TheVariants.{Enlist, Sight, Tell, GetUp}
-use Rattle.tag_layout.specs.Layout.{word_of}
-use Rattle.tag_core.specs.declared.caller.Caller.{Caller}
-use Rattle.tag_core.specs.declared.step.Step.{Step}
-use Rattle.tag_core.specs.declared.step.Step.TheVariants.{Word, Post, Take, Bell}
-use Rattle.tag_core.specs.Callers.{record_of, SameMap}
 use Rattle.tag_bell.specs.declared.told.Told.{Told}
 use Rattle.tag_bell.specs.Callers.{layout_of, OwesNothing}
 use Rattle.tag_bell.specs.Waiting.{OwesTag}

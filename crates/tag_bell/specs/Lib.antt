@@ -1,5 +1,7 @@
+mod Uses
 pub mod Waiting
 pub mod Safety
 pub mod Callers
 pub mod Calls
+pub mod Selection
 pub mod Sleeping

@@ -1,14 +1,12 @@
 -- Who is asleep, who is on the way, and the law: nobody sleeps beside a free tag unless somebody is on the way to it.
-use Rattle.std.specs.Prelude.{◌≡◌, ℕ, ◌<◌, ◌⊎◌}
+use Rattle.std.specs.Prelude.{◌<◌, ◌≡◌, ◌⊎◌}
+use Rattle.tag_bell.specs.Uses.{bit_at, Layout, Words, ℕ}
 use mathlib.Core.Option.{some}
 use lib.ListN.{get_elem?}
-use Rattle.std.specs.Int.{bit_at}
 use Rattle.atomic_table.specs.Table.{State}
-use Rattle.tag_layout.specs.Layout.{Layout}
 use Rattle.tag_model.specs.declared.place.Place.TheVariants.{Free, Aside}
 use Rattle.tag_core.specs.declared.record.Record.{Record}
 use Rattle.tag_core.specs.declared.shape.Shape.{Shape}
-use Rattle.tag_core.specs.Steps.{Words}
 use Rattle.tag_core.specs.Histories.{History, cells_of, world_of, IsLawful, steps_by}
 use Rattle.tag_core.specs.Views.{View}
 use Rattle.tag_core.specs.Rule.{HasCells, Shown}

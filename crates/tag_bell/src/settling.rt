@@ -6,6 +6,7 @@ ghost use Rattle.tag_core.specs.Callers.{layout_of, IsCallerOf};
 ghost use Rattle.tag_core.specs.Holdings.{KeepsAll};
 ghost use Rattle.tag_bell.specs.Callers.{WaitsAsBefore, OwesNothing};
 ghost use Rattle.tag_bell.specs.Calls.{OwesNoneWhere, Tells, nobody};
+ghost use Rattle.tag_bell.specs.Selection.{TellsFew};
 
 use crate::telling::{see_to, sight_lists};
 use crate::told::Told;
@@ -20,6 +21,7 @@ pub fn settle<R>(map: &Map<R>, caller: &mut Caller<R>) -> Told
     ensures caller { IsCallerOf map.now caller.new }
     ensures done { (list : ℕ) → list < LISTS → OwesNothing list caller.new }
     ensures told { Tells (2 * words (layout_of map.now) + 8) result caller.old caller.new }
+    ensures few { TellsFew 1 result caller.old caller.new }
     ensures waits { (list : ℕ) → WaitsAsBefore list caller.old caller.new }
     ensures kept { KeepsAll caller.old caller.new }
 {
@@ -38,6 +40,7 @@ fn look_through<R>(map: &Map<R>, caller: &mut Caller<R>) -> Told
     ensures caller { IsCallerOf map.now caller.new }
     ensures done { (list : ℕ) → list < LISTS → OwesNothing list caller.new }
     ensures told { Tells (2 * words (layout_of map.now) + 6) result caller.old caller.new }
+    ensures few { TellsFew 1 result caller.old caller.new }
     ensures waits { (list : ℕ) → WaitsAsBefore list caller.old caller.new }
     ensures kept { KeepsAll caller.old caller.new }
 {

@@ -1,10 +1,11 @@
 //! How a caller that made tags free sees to them: it tells others that wait.
-ghost use Rattle.std.specs.Prelude.{◌≡◌, ◌≢◌, ℕ, ◌<◌, ◌≤◌, false};
+ghost use Rattle.std.specs.Prelude.{◌≡◌, ◌≢◌, ℕ, ◌<◌, max, false};
 ghost use Rattle.tag_core.specs.declared.bell.TheConstants.{LISTS};
 ghost use Rattle.tag_core.specs.Callers.{IsCallerOf};
 ghost use Rattle.tag_core.specs.Holdings.{KeepsAll};
 ghost use Rattle.tag_bell.specs.Callers.{WaitsAsBefore, OwesNothing};
 ghost use Rattle.tag_bell.specs.Calls.{OwesNoMore, FindsWaiters, LooksAtLists, Tells, TellsIn, nobody};
+ghost use Rattle.tag_bell.specs.Selection.{IsSelection, TellsFew, TellsFewIn, TellsFewOf};
 
 use crate::told::{LISTENERS, SLEEPERS, Told};
 use tag_core::{Caller, Map};
@@ -17,6 +18,7 @@ pub fn see_to<R>(map: &Map<R>, caller: &mut Caller<R>, freed: u32) -> Told
     ensures caller { IsCallerOf map.now caller.new }
     ensures done { (list : ℕ) → list < LISTS → OwesNothing list caller.new }
     ensures told { Tells 6 result caller.old caller.new }
+    ensures few { TellsFew (max freed 1) result caller.old caller.new }
     ensures waits { (list : ℕ) → WaitsAsBefore list caller.old caller.new }
     ensures kept { KeepsAll caller.old caller.new }
 {
@@ -73,6 +75,7 @@ fn tell_each<R>(
     ensures caller { IsCallerOf map.now caller.new }
     ensures done { (list : ℕ) → list < LISTS → OwesNothing list caller.new }
     ensures told { Tells 4 result caller.old caller.new }
+    ensures few { TellsFewOf (max freed 1) sleepers listeners result caller.old caller.new }
     ensures waits { (list : ℕ) → WaitsAsBefore list caller.old caller.new }
     ensures kept { KeepsAll caller.old caller.new }
 {
@@ -94,6 +97,7 @@ fn tell_some<R>(map: &Map<R>, caller: &mut Caller<R>, list: u32, most: u32, list
     ensures done { OwesNothing list caller.new }
     ensures others { (other : ℕ) → other ≢ list → OwesNoMore other caller.old caller.new }
     ensures told { TellsIn list result caller.old caller.new }
+    ensures few { TellsFewIn list (max most 1) listed result caller.old caller.new }
     ensures waits { (other : ℕ) → WaitsAsBefore other caller.old caller.new }
     ensures kept { KeepsAll caller.old caller.new }
 {
@@ -109,7 +113,9 @@ fn tell_some<R>(map: &Map<R>, caller: &mut Caller<R>, list: u32, most: u32, list
 }
 
 /// Returns those of a list that took their turns first, at most so many, and one at least.
-fn longest_waits<R>(map: &Map<R>, listed: u64, most: u32) -> u64 {
+fn longest_waits<R>(map: &Map<R>, listed: u64, most: u32) -> u64
+    ensures { IsSelection (max most 1) listed result }
+{
     if most >= listed.count_ones() {
         return listed;
     }
@@ -121,10 +127,12 @@ fn longest_waits<R>(map: &Map<R>, listed: u64, most: u32) -> u64 {
 }
 
 /// Returns the bit of the one of a list that took its turn first, or 0 if the list is empty.
-fn longest_wait<R>(map: &Map<R>, listed: u64) -> u64 {
+fn longest_wait<R>(map: &Map<R>, listed: u64) -> u64
+    ensures { IsSelection 1 listed result }
+{
     let mut bit = 0;
     let mut first = 0;
-    for number in 0..map.callers() {
+    for number in 0..u64::BITS - listed.leading_zeros() {
         if listed >> number & 1 == 1 {
             let turn = map.peek_turn(number);
             if bit == 0 || turn < first {

@@ -1,13 +1,8 @@
 -- A seat gives back all slots that it has, and takes those of its tags after the step, in order.
-use Rattle.std.proofs.Common.{◌≡◌, ◌≢◌, ℕ, zero, suc, ◌+◌, ◌<◌, ◌≤◌, List, [], ◌∷◌, map, length, set, Bool, cond, arith, refl, sym, ap, ◌∙◌, subst, length-set, eq-eqb, ne_eqb}
-use mathlib.Core.Option.{some, none, some-injective, some-ne-none}
+use Rattle.std.specs.Prelude.{◌+◌, ◌<◌, ◌∷◌, ◌≡◌, ◌≢◌, ◌≤◌}
+use Rattle.tag_core.proofs.Uses.{[], Act, ap, arith, Bool, carried_after, chain, cond, dite, eq-eqb, get_elem?, gives, homes_after, keeps, length, length-set, List, map, ne_eqb, none, refl, set, set_else, set_here, some, some-injective, some-ne-none, subst, suc, sym, tags_from, takes, Valid}
+use Rattle.tag_core.proofs.Uses.{value_of, zero, ℕ, ℕ_discrete, ◌∙◌}
 use mathlib.Core.Option as maybe
-use mathlib.Core.Logic.{dite}
-use native.Mathlib.Decide.{ℕ_discrete}
-use lib.ListN.{get_elem?}
-use Rattle.atomic_table.specs.Table.{Act, keeps, takes, gives, chain, carried_after, homes_after, Valid}
-use Rattle.atomic_table.proofs.Lists.{set_here, set_else}
-use Rattle.tag_core.specs.Records.{tags_from, value_of}
 
 module _ (S : Type 0) where
   abbrev Homes : Type 0

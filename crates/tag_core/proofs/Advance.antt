@@ -1,28 +1,11 @@
 -- One step of one caller keeps the rule, where the cells, the tags and the slots are shown to follow.
-use Rattle.std.proofs.Common.{◌≡◌, ◌≢◌, ℕ, ◌+◌, ◌<◌, List, ◌∷◌, get_or, set, refl, sym, ap, ◌∙◌, subst, ⊎_elim}
-use mathlib.Core.Option.{some, none, some-injective, some-ne-none}
+use Rattle.std.specs.Prelude.{◌+◌, ◌<◌, ◌∷◌, ◌≡◌, ◌≢◌}
+use Rattle.tag_core.proofs.Uses.{ap, at_set, back_by, bit_at, cells_after, cells_of, each_same, event_of, FindsIn, FindsPost, first_only, get_elem?, get_or, HasCells, held_after, History, IsBy, IsKnown, IsWithin, last_post, Layout, List, MayHappen, none, own_view, place_of, posted, Record}
+use Rattle.tag_core.proofs.Uses.{record_after, refl, set, Shape, Shown, SlotIs, some, some-injective, some-ne-none, State, Step, subst, swept_after, sym, tag_bit, View, won_by, word_of, words, world_of, ℕ, ⊎_elim, ◌∙◌}
 use mathlib.Core.Option as maybe
-use lib.ListN.{get_elem?}
-use Rattle.std.specs.Int.{bit_at}
-use Rattle.atomic_table.specs.Table.{State}
-use Rattle.atomic_table.proofs.Lists.{at_set}
-use Rattle.step_ledger.specs.Views.{own_view}
-use Rattle.tag_core.specs.Views.{View}
-use Rattle.tag_layout.specs.Layout.{Layout, words, word_of, place_of, IsWithin}
-use Rattle.tag_model.specs.declared.place.Place.TheVariants.{Posted as posted}
-use Rattle.tag_model.specs.Event.{won_by, back_by}
-use Rattle.tag_model.specs.World.{MayHappen}
-use Rattle.tag_core.specs.declared.shape.Shape.{Shape}
-use Rattle.tag_core.specs.declared.step.Step.{Step}
-use Rattle.tag_core.specs.declared.record.Record.{Record}
-use Rattle.tag_core.specs.Histories.{History, FindsIn, FindsPost, cells_after, cells_of, event_of, world_of, last_post}
-use Rattle.tag_core.specs.Lists.{IsBy}
-use Rattle.tag_core.specs.Records.{record_after, held_after, swept_after, tag_bit}
-use Rattle.tag_core.specs.Rule.{HasCells, SlotIs, IsKnown, Shown}
 use Rattle.tag_core.proofs.Picks.{placed}
 use Rattle.tag_core.proofs.Turns.{Shows}
 use Rattle.tag_core.proofs.Within.{held_within, sweeps_within}
-use Rattle.step_ledger.proofs.Seats.{first_only, each_same}
 use Rattle.tag_core.proofs.Counts.{own_counts, other_counts, steps_here, steps_else, held_long, swept_long}
 
 module _ (R : Type 0) (k : Shape) where

@@ -1,54 +1,21 @@
 -- Each kind of step is allowed by the rule.
-use Rattle.std.proofs.Common.{◌≡◌, ◌≢◌, ℕ, ◌+◌, ◌-◌, ◌%◌, ◌^◌, ◌<◌, ◌≤◌, ◌⊎◌, List, ◌∷◌, length, get_or, set, ◌==◌, Bool, cond, eqb, count_ones, bit_and, bit_or, arith, refl, sym, ap, ◌∙◌, subst, inl, inr, Some, None, eq-eqb, ne_eqb}
-use mathlib.Core.Option.{some, none, some-injective}
+use Rattle.std.specs.Prelude.{◌%◌, ◌+◌, ◌-◌, ◌<◌, ◌^◌, ◌∷◌, ◌≡◌, ◌≤◌, ◌⊎◌}
+use Rattle.tag_core.proofs.Uses.{Act, Allows, ap, arith, Bell, BellStep, bit_and, bit_at, bit_of, bit_or, carried_after, Carries, Claimed, claimed, count_ones, Enlist, enlisted, event_of, FindsHeld, gave, get_elem?, get_or, GetUp, Give, got_up, held, homes_after, inl, IsKnown, IsWithin, last_post}
+use Rattle.tag_core.proofs.Uses.{Layout, length, List, LISTS, Look, LookAside, looked, looked_aside, Me, MOST_WON, none, or_lt, own_view, Place, place_after, place_of, posted, posted_by, Put, put_aside, Record, record_after, refl, same_record, set, set-get_or, Shape, Shown, Sight, sighted, some}
+use Rattle.tag_core.proofs.Uses.{some-injective, Spill, spilled, State, Step, step, Stepped, subst, Swap, swapped, sym, tag_bit, Tell, took, Valid, value_of, View, without, Word, word_depth, word_of, word_of-below, words, world_of, ℕ, ◌∙◌}
 use mathlib.Core.Option as maybe
-use mathlib.Core.Logic.{dite}
-use native.Mathlib.Decide.{ℕ_discrete}
-use lib.ListN.{get_elem?}
-use lib.Seq.{set-get_or}
-use prog.Atomic.{either}
-use Rattle.atomic_table.specs.Table.{State, Me, step, Allows, Act, Valid, carried_after, homes_after}
-use Rattle.atomic_table.proofs.Lists.{exchanged}
-use Rattle.std.specs.Int.{bit_at}
-use Rattle.std.proofs.lemmas.Nat.{or_lt}
-use Rattle.step_ledger.proofs.Seats.{same_record}
-use Rattle.step_ledger.specs.Views.{own_view}
-use Rattle.tag_core.specs.Views.{View}
-use Rattle.tag_layout.specs.Layout.{Layout, words, word_depth, word_of, place_of, IsWithin}
-use Rattle.tag_layout.proofs.PlaceFacts.{word_of-below}
-use Rattle.tag_model.specs.declared.place.Place.{Place}
-use Rattle.tag_model.specs.declared.place.Place.TheVariants.{Held as held, Posted as posted}
-use Rattle.tag_model.specs.declared.world.TheConstants.{MOST_WON}
-use Rattle.tag_model.specs.World.{place_after}
-use Rattle.tag_core.specs.declared.shape.Shape.{Shape}
-use Rattle.tag_core.specs.declared.step.Step.{Step}
-use Rattle.tag_core.specs.declared.step.Step.TheVariants.{Word, Post, Take, Bell}
-use Rattle.tag_core.specs.declared.bell_step.BellStep.{BellStep}
-use Rattle.tag_core.specs.declared.bell_step.BellStep.TheVariants.{Enlist, Sight, Tell, GetUp}
-use Rattle.tag_core.specs.declared.bell.TheConstants.{LISTS}
 use Rattle.tag_core.specs.declared.word_step.WordStep.{WordStep}
-use Rattle.tag_core.specs.declared.word_step.WordStep.TheVariants.{Look, LookAside, Claimed, Give, Put, Swap, Spill}
-use Rattle.tag_core.specs.declared.record.Record.{Record}
-use Rattle.tag_core.specs.Lists.{bit_of}
-use Rattle.tag_core.specs.Spacing.{list_at, word_at, aside_at, state_at}
-use Rattle.tag_core.specs.Steps.{without}
-use Rattle.tag_core.specs.Bits.{posted_bit}
-use Rattle.tag_core.specs.Histories.{event_of, world_of, last_post, posted_by}
-use Rattle.tag_core.specs.Records.{record_after, tag_bit, value_of, Carries}
-use Rattle.tag_core.specs.Rule.{SlotIs, IsKnown, Shown}
-use Rattle.tag_core.specs.Plays.{Stepped, FindsHeld, looked, looked_aside, claimed, gave, put_aside, swapped, spilled, took, enlisted, sighted, got_up}
+use Rattle.tag_core.specs.Spacing.{list_at, word_at, aside_at}
 use Rattle.tag_core.specs.Plays as plays
 use Rattle.tag_core.proofs.Picks.{among, placed}
 use Rattle.tag_core.proofs.TagBits.{small_word, among_here}
-use Rattle.tag_core.proofs.Turns.{held_from, posted_from, posted_small}
-use Rattle.tag_core.proofs.Owing.{claim_owed, give_owed, look_owed, look_aside_owed, miss_owed, held_shown}
-use Rattle.tag_core.proofs.OwingTags.{put_owed, post_owed, take_owed, swap_owed, swept_taken, spill_owed}
+use Rattle.tag_core.proofs.Owing.{claim_owed, give_owed, look_owed, look_aside_owed, held_shown}
+use Rattle.tag_core.proofs.OwingTags.{put_owed, swap_owed, swept_taken, spill_owed}
 use Rattle.tag_core.proofs.Masks.{add_bit, take_bits}
 use Rattle.tag_core.proofs.Listing.{enlist_owed, sight_owed, tell_owed, get_up_owed}
 use Rattle.tag_core.proofs.Stand.{list_at_one, bit_tag, word_at_one, aside_at_one, tag_mask_within}
-use Rattle.tag_core.proofs.Singles.{same_state}
 use Rattle.tag_core.proofs.Advance.{Owed}
-use Rattle.tag_core.proofs.Moving.{moved, kept, told, posted_unheld, held_one}
+use Rattle.tag_core.proofs.Moving.{moved, kept, told}
 
 -- the step posts no tag
 abbrev pub PostsNone : {R : Type 0} → Layout → ℕ → Step R → Type 0
@@ -62,10 +29,6 @@ word_posts_none l c st t = ((λ q e. grind arith), λ before. refl)
 -- nor does one on a list
 bell_posts_none : {R : Type 0} (l : Layout) (c : ℕ) (st : BellStep) → PostsNone {R = R} l c (Bell st)
 bell_posts_none l c st t = ((λ q e. grind arith), λ before. refl)
-
--- nor does a take
-not_posted : (b : Bool) (c : ℕ) (q : Place) → cond b (held c) q ≡ posted → q ≡ posted
-not_posted b c q e = grind arith
 
 module _ (R : Type 0) (k : Shape) (narrow : k.layout.shift ≤ 6) (id : ℕ) (me : Me R (View R)) (r : Record R)
     (mine : me.0 ≡ own_view r) (carries : Carries k.layout r.held me.1) where
@@ -85,13 +48,13 @@ module _ (R : Type 0) (k : Shape) (narrow : k.layout.shift ≤ 6) (id : ℕ) (me
 
   module _ (s : State R (View R)) (sh : Shown k s) (deep : length s.homes ≡ k.layout.depth)
       (at : get_elem? s.views id ≡ some me.0) where
-    here : get_elem? s.views id ≡ some (own_view r)
+    abbrev here : get_elem? s.views id ≡ some (own_view r)
     here = at ∙ ap some mine
 
     pub ok : IsKnown k sh.history r
     ok = (sh.records id (own_view r) here 0 r refl).0
 
-    pub answer : (st : Step R) (words' : List ℕ) → Owed R k s sh r st words' → Posts s sh st → Answer s st words'
+    unfoldable pub answer : (st : Step R) (words' : List ℕ) → Owed R k s sh r st words' → Posts s sh st → Answer s st words'
     answer st words' owed posts = let go = moved R k s sh r st words' owed ok me.1 carries deep in (
       own_view (record_after st r),
       go.act,
@@ -102,7 +65,7 @@ module _ (R : Type 0) (k : Shape) (narrow : k.layout.shift ≤ 6) (id : ℕ) (me
     )
 
   -- a step that leaves the words owes the same where one of them is set to what it is
-  unchanged : (s : State R (View R)) (sh : Shown k s) (i : ℕ) {st : Step R} → Owed R k s sh r st s.words
+  pub unchanged : (s : State R (View R)) (sh : Shown k s) (i : ℕ) {st : Step R} → Owed R k s sh r st s.words
       → Owed R k s sh r st (set s.words i (get_or s.words i 0))
   unchanged s sh i {st} = subst (λ (ws : List ℕ). Owed R k s sh r st ws) (sym (set-get_or s.words i 0))
 
@@ -110,9 +73,6 @@ module _ (R : Type 0) (k : Shape) (narrow : k.layout.shift ≤ 6) (id : ℕ) (me
   pub renamed : (fact : ℕ → Record R → Type 0) {i i' : ℕ} → i ≡ i' → (r' : Record R) → me.0 ≡ own_view r' → fact i r → fact i' r'
   renamed fact same r' is = subst (λ (x : ℕ × Record R). fact x.0 x.1)
       (λ j. (same j, same_record r r' (sym mine ∙ is) j))
-
-  abbrev G : (s : State R (View R)) (sh : Shown k s) → ℕ → Place
-  G s sh = (world_of k sh.history).place
 
   -- what a look finds of the tags that are held
   pub found_held : (s : State R (View R)) (sh : Shown k s) → IsKnown k sh.history r → (i : ℕ)
@@ -288,40 +248,6 @@ module _ (R : Type 0) (k : Shape) (narrow : k.layout.shift ≤ 6) (id : ℕ) (me
         λ me' did. did,
       ))
 
-  -- a store of 1 in a held tag's state
-  pub post_allowed : (u : ℕ) (y : R) → u < k.layout.depth → tag_bit k.layout r.held u ≡ 1 → value_of me.1 u ≡ some y
-      → Allows (Shown k) k.layout.depth id me (state_at k.layout u) (λ _. 1)
-      (λ _. plays.posted (step k.layout.depth (state_at k.layout u) 1 0 none) me 1)
-  post_allowed u y lu has val s sh deep at _ = let o = ok s sh deep at in
-      let z = answer s sh deep at (Post u y) (set s.words (state_at k.layout u) 1)
-      (post_owed R k narrow s sh r o u y lu has)
-      (λ t l e. dite (ℕ_discrete t u)
-      (λ (same : t ≡ u). inr (
-        held_from r.number _ (o.held t l ∙ ap (tag_bit k.layout r.held) same ∙ has),
-        ap
-            (λ (b : Bool). cond b (some y) (last_post t sh.history)) (eq-eqb t u same) ∙ sym val
-            ∙ ap (value_of me.1) (sym same),
-      ))
-      (λ (n : t ≢ u). inl (
-        ap (λ (b : Bool). cond b posted (G s sh t)) (sym (ne_eqb t u n))
-            ∙ e,
-        ap (λ (b : Bool). cond b (some y) (last_post t sh.history)) (ne_eqb t u n),
-      ))) in (
-        z.0,
-        z.1,
-        z.2,
-        z.3,
-        λ u' y' r' eu ey er. subst (λ (x : ℕ × R × Record R). Stepped (Post x.0 x.1) x.2 me
-            (z.0, carried_after me.1 z.1))
-            (λ j. (
-              same_state k r r' u u' o.shape (same_record r r' (sym mine ∙ er)) eu j,
-              some-injective y y'
-                  (sym val ∙ ap (value_of me.1) (same_state k r r' u u' o.shape (same_record r r' (sym mine ∙ er)) eu)
-                  ∙ ey) j,
-              same_record r r' (sym mine ∙ er) j,
-            )) z.4,
-      )
-
   -- a sum of a cleared set and a held tag's bit, which is clear there
   pub put_allowed : (u : ℕ) → u < k.layout.depth → tag_bit k.layout r.held u ≡ 1
       → Allows (Shown k) k.layout.depth id me (aside_at (word_of k.layout u)) (λ n. (n + 2 ^ place_of k.layout u) % 2 ^ 64)
@@ -342,67 +268,3 @@ module _ (R : Type 0) (k : Shape) (narrow : k.layout.shift ≤ 6) (id : ℕ) (me
           small_word k narrow i _ (subst (λ (x : ℕ). bit_or x (2 ^ place_of k.layout u) < 2 ^ word_depth k.layout i)
           (sym (sh.cells.aside i inside))
           (or_lt (word_depth k.layout i) _ _ (sh.cells.aside_within i inside) (tag_mask_within k.layout u lu)))
-
-  -- the two ends of a compare-exchange
-  pub take_allowed : (u : ℕ) → u < k.layout.depth
-      → Allows (Shown k) k.layout.depth id me (state_at k.layout u) (λ n. either (eqb n 1) 0 n)
-      (took (step k.layout.depth (state_at k.layout u) 1 0 none) me)
-  unfolding answer
-  take_allowed u lu s sh deep at _ = let n : ℕ = get_or s.words (state_at k.layout u) 0 in let o = ok s sh deep at in
-      let shows : posted_bit ((world_of k sh.history).place u) ≡ n = (sh.tags u lu).posted
-      ∙ sym (sh.cells.state u lu) in
-      let small = posted_small ((world_of k sh.history).place u) in
-      exchanged n 1 0 (λ x. (w : View R) × (a : Act R) × Valid s.homes me.1 a × Shown k record
-      { words = set s.words (state_at k.layout u) x; homes = homes_after s.homes me.1 a; views = set s.views id w }
-      × took (step k.layout.depth (state_at k.layout u) 1 0 none) me n (w, carried_after me.1 a))
-      (λ (hit : n ≡ 1).
-      let its : (world_of k sh.history).place u ≡ posted = posted_from _ (shows ∙ hit) in
-      let last = post_there s sh u lu its in
-      let owed = take_owed R k narrow s sh r o u 0 last.0 lu hit refl last.1 in
-      let z = answer s sh deep at (Take u 1 (Some last.0)) (set s.words (state_at k.layout u) 0) owed
-      (λ t l e. inl (not_posted (t == u) r.number _ e, refl)) in
-      let go = moved R k s sh r (Take u 1 (Some last.0)) (set s.words (state_at k.layout u) 0)
-      owed o me.1 carries deep in
-      let not_mine = posted_unheld r.number ((world_of k sh.history).place u) _ (o.held u lu) its in
-      let now_mine = sym (owed.tags u lu).held ∙ held_one r.number _
-      (ap (λ (x : Bool). cond x (held r.number) ((world_of k sh.history).place u)) (eq-eqb u u refl)) in
-      let came = go.taken u lu not_mine now_mine in
-      let val : value_of (carried_after me.1 go.act) u ≡ some last.0 =
-      ap (λ (l : List (ℕ × R)). value_of l u) go.list_is
-      ∙ came.2 ∙ some-injective _ _ (sym came.1 ∙ sh.posts u lu its) ∙ last.1 in (
-        z.0,
-        z.1,
-        z.2,
-        z.3,
-        λ u' r' eu er. (
-          λ h. renamed (λ x y. (value : R) × (value_of (carried_after me.1 go.act) x ≡ some value)
-              × Stepped (Take x 1 (Some value)) y me (z.0, carried_after me.1 z.1)
-              × (tag_bit y.shape.layout y.held x ≢ 1))
-              (same_state k r r' u u' o.shape (same_record r r' (sym mine ∙ er)) eu) r' er
-              (last.0, val, z.4, subst (λ (z : Shape). tag_bit z.layout r.held u ≢ 1) (sym o.shape) not_mine),
-          λ h. absurd (h hit),
-        ),
-      ))
-      (λ (miss : n ≢ 1). let zero_there : n ≡ 0 = omega arith in
-      let z = answer s sh deep at (Take u 0 None) (set s.words (state_at k.layout u) n)
-      (unchanged s sh (state_at k.layout u) (miss_owed R k narrow s sh r o u lu zero_there))
-      (λ t l e. inl (e, refl)) in (
-        z.0,
-        z.1,
-        z.2,
-        z.3,
-        λ u' r' eu er. (
-          λ h. absurd (miss h),
-          λ h. (
-            zero_there,
-            renamed (λ x y. Stepped (Take x 0 None) y me (z.0, carried_after me.1 z.1))
-                (same_state k r r' u u' o.shape (same_record r r' (sym mine ∙ er)) eu) r' er z.4,
-          ),
-        ),
-      ))
-    where
-      post_there : (s : State R (View R)) (sh : Shown k s) (u : ℕ) → u < k.layout.depth
-          → (world_of k sh.history).place u ≡ posted → (y : R) × (last_post u sh.history ≡ some y)
-      post_there s sh u lu its =
-          let w = subst (λ (p : Place). SlotIs (get_elem? s.homes u) p) its (sh.slots u lu) in
-          (w.0, some-injective _ _ (sym (sh.posts u lu its) ∙ w.1))

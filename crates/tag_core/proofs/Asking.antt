@@ -1,28 +1,9 @@
 -- What the table asks of a call, and what a caller knows after it.
-use Rattle.std.proofs.Common.{◌≡◌, ℕ, ◌+◌, ◌*◌, ◌<◌, ◌≤◌, List, length, replicate, arith, sym, ap, ◌∙◌, subst}
-use mathlib.Core.Option.{none}
-use Rattle.std.proofs.Math.Nat.{mul-le-mul_right}
-use Rattle.atomic_table.specs.Table.{Me, step, Allows}
+use Rattle.std.specs.Prelude.{◌*◌, ◌+◌, ◌<◌, ◌≡◌, ◌≤◌}
+use Rattle.tag_core.proofs.Uses.{Allows, ap, arith, back_by, bit_at, Caller, Carries, event_of, FindsHeld, HasHistory, held_after, Holds, IsCallerOf, layout_of, length, List, Map, MAX_CALLERS, Me, MOST_WON, mul-le-mul_right, none, own_view, place_of, Record, record_after, record_of, replicate}
+use Rattle.tag_core.proofs.Uses.{same_record, Shape, Shown, Step, step, Stepped, steps_of, subst, swept_after, sym, tag_bit, value_of, View, won_by, word_of, words, ℕ, ◌∙◌}
 use Rattle.atomic_table.specs.Table as table
-use Rattle.step_ledger.proofs.Seats.{same_record}
-use Rattle.step_ledger.specs.Views.{own_view}
-use Rattle.std.specs.Int.{bit_at}
-use Rattle.tag_layout.specs.Layout.{words, word_of, place_of}
-use Rattle.tag_model.specs.declared.world.TheConstants.{MAX_CALLERS, MOST_WON}
-use Rattle.tag_model.specs.Event.{won_by, back_by}
-use Rattle.tag_core.specs.declared.shape.Shape.{Shape}
-use Rattle.tag_core.specs.declared.step.Step.{Step}
-use Rattle.tag_core.specs.declared.record.Record.{Record}
-use Rattle.tag_core.specs.declared.caller.Caller.{Caller}
-use Rattle.tag_core.specs.declared.map.Map.{Map}
 use Rattle.tag_core.specs.Spacing.{table_width, state_at}
-use Rattle.tag_core.specs.Histories.{event_of}
-use Rattle.tag_core.specs.Records.{record_after, held_after, swept_after, tag_bit, value_of, Carries}
-use Rattle.tag_core.specs.Views.{steps_of, View}
-use Rattle.tag_core.specs.Rule.{Shown}
-use Rattle.tag_core.specs.Plays.{Stepped, FindsHeld}
-use Rattle.tag_core.specs.Meeting.{HasHistory}
-use Rattle.tag_core.specs.Callers.{layout_of, IsCallerOf, record_of, Holds}
 
 -- what the table asks of a step at this index
 abbrev pub Asks : {R : Type 0} → Map R → ℕ → Me R (View R) → ℕ → (ℕ → ℕ) → ℕ → ℕ

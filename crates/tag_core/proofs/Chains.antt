@@ -1,20 +1,7 @@
 -- What was won along a chain of maps.
-use Rattle.std.proofs.Common.{◌≡◌, ℕ, ◌+◌, List, [], ◌∷◌, ◌<◌, arith, refl, ap, ◌∙◌}
-use Rattle.sums.specs.Below.{sum_below}
-use Rattle.sums.proofs.Laws.{sum_below-none, sum_below-same}
-use Rattle.tag_layout.specs.Layout.{Layout}
-use Rattle.tag_model.specs.declared.event.Event.{Event}
-use Rattle.tag_model.specs.declared.totals.Totals.{Totals}
-use Rattle.tag_model.specs.Event.{caller_of, won_by, back_by}
-use Rattle.tag_model.specs.World.{World, after, plus_at}
-use Rattle.tag_model.specs.Runs.{after_history, IsHistory}
-use Rattle.tag_model.specs.Totals.{AreTotals}
-use Rattle.tag_model.proofs.BalanceFacts.{sum_below-plus_at}
-use Rattle.tag_core.specs.declared.shape.Shape.{Shape}
-use Rattle.tag_core.specs.Histories.{History, IsLawful, events_of, opening_world, world_of}
-use Rattle.tag_core.specs.Sizes.{total_of}
-use Rattle.tag_core.specs.Records.{StartsAtZero}
-use Rattle.tag_core.specs.Chain.{Epoch, GoesOn, IsChain, HasChain, CountsChain}
+use Rattle.std.specs.Prelude.{◌+◌, ◌<◌, ◌∷◌, ◌≡◌}
+use Rattle.tag_core.proofs.Uses.{[], after, after_history, ap, AreTotals, arith, back_by, caller_of, CountsChain, Epoch, Event, events_of, GoesOn, HasChain, History, IsChain, IsHistory, IsLawful, Layout, List, opened, opening_world, plus_at, refl, reopened, Shape, StartsAtZero, sum_below}
+use Rattle.tag_core.proofs.Uses.{sum_below-none, sum_below-plus_at, sum_below-same, total_of, Totals, won_by, World, world_of, ℕ, ◌∙◌}
 
 -- what is counted of callers, either tags won or tags given back: it grows by what each event adds, from nothing before
 -- the first map, and a next map begins with what the one before it left
@@ -49,14 +36,14 @@ module _ {R : Type 0} {count : World → ℕ → ℕ} {added : Event → ℕ} (c
   -- a map opens with what was added in the maps before it
   before : (k : Shape) (older : List (Epoch R)) → IsChain k older
       → sum_below (count (opening_world k)) k.callers ≡ along older
-  before k [] is = sum_below-none (count (opening_world k)) k.callers (λ c l. counting.starts k is c)
-  before k (last ∷ older) is =
-      let shape = last.shape in let rest = before shape older is.1 in
+  before k [] (opened zero) = sum_below-none (count (opening_world k)) k.callers (λ c l. counting.starts k zero c)
+  before k (last ∷ older) (reopened on leads) =
+      let shape = last.shape in let rest = before shape older leads in
       let grown = adds shape.layout shape.callers (events_of shape.layout last.history) (opening_world shape)
-      is.0.lawful.happens in
-      ap (sum_below (count (opening_world k))) is.0.callers
+      on.lawful.happens in
+      ap (sum_below (count (opening_world k))) on.callers
       ∙ sum_below-same (count (opening_world k)) (count (world_of shape last.history)) shape.callers
-      (counting.goes_on last k is.0) ∙ omega arith
+      (counting.goes_on last k on) ∙ omega arith
 
   -- and ends with that and what its own steps added
   in_all : (k : Shape) (h : History R) → IsLawful k h → (total : ℕ)
@@ -71,6 +58,8 @@ pub count_chain : {R : Type 0} (k : Shape) (h : History R) (totals : Totals) →
     → AreTotals k.layout k.callers (world_of k h) totals → CountsChain k h totals
 count_chain k h totals leads lawful are = record {
   leads = leads;
-  got = in_all won_counting k h lawful totals.got are.got;
-  back = in_all back_counting k h lawful totals.back are.back;
+  counts = λ older is. record {
+    got = in_all won_counting k h lawful totals.got are.got older is;
+    back = in_all back_counting k h lawful totals.back are.back older is;
+  };
 }

@@ -1,13 +1,6 @@
 -- A seat counts the records that it has.
-use Rattle.std.proofs.Common.{◌≡◌, ℕ, ◌≤◌, ◌∷◌, length, refl, sym, ap, ◌∙◌, subst}
-use mathlib.Core.Option.{some, none}
-use lib.ListN.{get_elem?}
-use Rattle.atomic_table.specs.Table.{Me, step, Allows}
-use Rattle.step_ledger.specs.Views.{viewing}
-use Rattle.tag_core.specs.Views.{View}
-use Rattle.tag_core.specs.declared.shape.Shape.{Shape}
-use Rattle.tag_core.specs.Rule.{Shown}
-use Rattle.tag_core.specs.Plays.{counted}
+use Rattle.std.specs.Prelude.{◌∷◌, ◌≡◌, ◌≤◌}
+use Rattle.tag_core.proofs.Uses.{Allows, ap, counted, get_elem?, length, Me, none, refl, Shape, Shown, some, step, subst, sym, View, viewing, ℕ, ◌∙◌}
 use Rattle.tag_core.proofs.Fronts.{idle_allowed}
 use Rattle.tag_core.proofs.Ends.{few_records}
 

@@ -1,12 +1,6 @@
 -- The record of a caller after its step, beside the world after the event.
-use Rattle.std.proofs.Common.{◌≡◌, ◌≢◌, ℕ, ◌+◌, List, ◌∷◌, arith, eq-eqb, ne_eqb, length, length-set}
-use Rattle.tag_layout.specs.Layout.{Layout}
-use Rattle.tag_model.specs.Event.{caller_of, won_by, back_by}
-use Rattle.tag_model.specs.World.{plus_at}
-use Rattle.tag_model.proofs.HistoryFacts.{plus_at-here, plus_at-else, plus_at-none}
-use Rattle.tag_core.specs.declared.step.Step.{Step}
-use Rattle.tag_core.specs.Histories.{History, event_of, steps_by}
-use Rattle.tag_core.specs.Records.{held_after, swept_after}
+use Rattle.std.specs.Prelude.{◌+◌, ◌∷◌, ◌≡◌, ◌≢◌}
+use Rattle.tag_core.proofs.Uses.{arith, back_by, caller_of, eq-eqb, event_of, held_after, History, Layout, length, length-set, List, ne_eqb, plus_at, plus_at-else, plus_at-here, plus_at-none, Step, steps_by, swept_after, won_by, ℕ}
 
 module _ {R : Type 0} (l : Layout) (c : ℕ) where
   -- what a step adds to its caller's counts

@@ -1,33 +1,10 @@
 -- What the last state tells where one seat has the records of all callers.
-use Rattle.std.proofs.Common.{◌≡◌, ◌≢◌, ℕ, zero, suc, ◌<◌, ◌≤◌, ◌⊎◌, List, [], ◌∷◌, length, get_or, nat_eq, count_ones, arith, refl, sym, ap, ◌∙◌, ⊎_elim, eq-eqb, ne_eqb}
-use mathlib.Core.Option.{some}
-use mathlib.Core.Logic.{dite}
-use native.Mathlib.Decide.{dec_lt}
-use lib.ListN.{get_elem?}
-use Rattle.atomic_table.specs.Table.{State}
-use Rattle.sums.specs.Below.{sum_below, one_if}
-use Rattle.sums.proofs.Laws.{sum_below-none, sum_below-same, sum_below-only, sum_below-first, sum_below-swap, sum_below-le, one_if-le}
-use Rattle.step_ledger.proofs.Whole.{number_in, number_once, total_of_all}
-use Rattle.tag_core.specs.Views.{View}
-use Rattle.tag_layout.specs.Layout.{words, word_of, IsWithin}
-use Rattle.tag_layout.proofs.PlaceFacts.{word_of-below}
-use Rattle.tag_model.specs.declared.place.Place.{Place}
-use Rattle.tag_model.specs.declared.place.Place.TheVariants.{Free as free, Held as held, Posted as posted, Aside as aside, Sweep as sweep}
-use Rattle.tag_model.specs.declared.event.Event.{Event}
-use Rattle.tag_model.specs.Event.{caller_of, is_in_mask}
-use Rattle.tag_model.specs.World.{World, place_after}
-use Rattle.tag_model.specs.Runs.{after_history, IsHistory}
-use Rattle.tag_model.specs.Totals.{is_held, is_posted, got_in, back_in, held_in, posted_in, Balances}
+use Rattle.std.specs.Prelude.{◌<◌, ◌∷◌, ◌≡◌, ◌≢◌, ◌≤◌, ◌⊎◌}
+use Rattle.tag_core.proofs.Uses.{[], after_history, ap, arith, aside, back_in, Balances, balances-history, caller_of, count_ones, dec_lt, dite, eq-eqb, Event, events_of, free, get_elem?, get_or, got_in, held, held_bit, held_in, is_held, is_in_mask, is_posted, IsHistory, IsWithin, length, List}
+use Rattle.tag_core.proofs.Uses.{nat_eq, ne_eqb, number_in, number_once, one_if, one_if-le, opening_world, Place, place_after, posted, posted_bit, posted_in, Record, refl, Shape, Shown, size_of, some, State, suc, sum_below, sum_below-first, sum_below-le, sum_below-none, sum_below-only}
+use Rattle.tag_core.proofs.Uses.{sum_below-same, sum_below-swap, sweep, sym, tag_bit, total_of, total_of_all, View, word_of, word_of-below, words, World, world_of, zero, ℕ, ⊎_elim, ◌∙◌}
 use Rattle.tag_model.proofs.MaskFacts.{sum_below-mask}
-use Rattle.tag_model.proofs.BalanceFacts.{balances-history}
-use Rattle.tag_core.specs.declared.shape.Shape.{Shape}
-use Rattle.tag_core.specs.declared.record.Record.{Record}
 use Rattle.tag_core.specs.Spacing.{state_at}
-use Rattle.tag_core.specs.Bits.{held_bit, posted_bit}
-use Rattle.tag_core.specs.Histories.{events_of, opening_world, world_of}
-use Rattle.tag_core.specs.Records.{tag_bit}
-use Rattle.tag_core.specs.Sizes.{total_of, size_of}
-use Rattle.tag_core.specs.Rule.{Shown}
 use Rattle.tag_core.proofs.Moving.{opening_even}
 use Rattle.tag_core.proofs.Picks.{among, among_named}
 

@@ -1,8 +1,6 @@
 -- Entries of lists, and of what a function makes of them.
-use Rattle.std.proofs.Common.{◌≡◌, ℕ, zero, suc, ◌<◌, List, [], ◌∷◌, map, length, get_or, All, arith, refl, sym, subst}
-use mathlib.Core.Option.{some, some-injective, some-ne-none}
-use lib.ListN.{get_elem?}
-use Rattle.step_ledger.proofs.Seats.{within}
+use Rattle.std.specs.Prelude.{◌<◌, ◌∷◌, ◌≡◌}
+use Rattle.tag_core.proofs.Uses.{[], All, arith, get_elem?, get_or, length, List, map, refl, some, some-injective, some-ne-none, subst, suc, sym, within, zero, ℕ}
 
 module _ {A : Type 0} where
   -- below the length there is an entry

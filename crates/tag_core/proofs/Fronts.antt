@@ -1,25 +1,10 @@
 -- A held tag's slot comes to the front of its seat, and goes back to its place in the order: two loads that change
 -- nothing else.
-use Rattle.std.proofs.Common.{◌≡◌, ◌≢◌, ℕ, zero, suc, ◌<◌, List, [], ◌∷◌, map, length, get_or, set, arith, refl, sym, ap, ◌∙◌, subst, length-set, eq-eqb, ne_eqb}
-use mathlib.Core.Option.{some, none, some-injective, some-ne-none}
+use Rattle.std.specs.Prelude.{◌<◌, ◌∷◌, ◌≡◌, ◌≢◌}
+use Rattle.tag_core.proofs.Uses.{[], Act, Allows, ap, arith, but, carried_after, Carries, chain, dite, eq-eqb, fronted, get_elem?, get_or, gives, homes_after, IsKnown, keeps, Layout, length, length-set, List, map, Me, ne_eqb, none, ordered, own_view, Record, refl, same_record, set, set-get_or}
+use Rattle.tag_core.proofs.Uses.{set_else, set_here, Shape, Shown, SlotIs, some, some-injective, some-ne-none, State, step, subst, suc, sym, tag_bit, tags_from, takes, Valid, value_of, View, world_of, zero, ℕ, ℕ_discrete, ◌∙◌}
 use mathlib.Core.Option as maybe
-use mathlib.Core.Logic.{dite}
-use native.Mathlib.Decide.{ℕ_discrete}
-use lib.ListN.{get_elem?}
-use lib.Seq.{set-get_or}
-use Rattle.atomic_table.specs.Table.{State, Me, Act, Valid, keeps, takes, gives, chain, carried_after, homes_after, step, Allows}
-use Rattle.atomic_table.proofs.Lists.{set_here, set_else}
-use Rattle.step_ledger.proofs.Seats.{same_record}
-use Rattle.step_ledger.specs.Views.{own_view}
-use Rattle.tag_core.specs.Views.{View}
-use Rattle.tag_layout.specs.Layout.{Layout}
-use Rattle.tag_core.specs.declared.shape.Shape.{Shape}
-use Rattle.tag_core.specs.declared.record.Record.{Record}
 use Rattle.tag_core.specs.Spacing.{state_at}
-use Rattle.tag_core.specs.Histories.{world_of}
-use Rattle.tag_core.specs.Records.{tag_bit, value_of, tags_from, but, Carries}
-use Rattle.tag_core.specs.Rule.{SlotIs, IsKnown, Shown}
-use Rattle.tag_core.specs.Plays.{fronted, ordered}
 use Rattle.tag_core.proofs.Turns.{held_from}
 use Rattle.tag_core.proofs.Singles.{same_state}
 use Rattle.tag_core.proofs.Acts.{moves}

@@ -1,18 +1,7 @@
 -- What the steps that join a caller's list do to the tags that it holds.
-use Rattle.std.proofs.Common.{◌≡◌, ℕ, ◌-◌, ◌^◌, ◌<◌, ◌≤◌, List, length, get_or, min, max, arith, sym, ap, ◌∙◌, subst, eq-eqb}
-use Rattle.std.specs.Int.{bit_at}
-use Rattle.std.proofs.lemmas.Nat.Bits.{bit_at-lt, bit_at_above}
-use Rattle.tag_layout.specs.Layout.{Layout, words, word_of, place_of, IsWithin}
-use Rattle.tag_layout.proofs.PlaceFacts.{word_of-below, tag_at-back, tag_at-below}
-use Rattle.tag_core.specs.declared.shape.Shape.{Shape}
-use Rattle.tag_core.specs.declared.step.Step.{Step}
-use Rattle.tag_core.specs.declared.record.Record.{Record}
-use Rattle.tag_core.specs.declared.caller.Caller.{Caller}
-use Rattle.tag_core.specs.declared.map.Map.{Map}
-use Rattle.tag_core.specs.Steps.{without}
-use Rattle.tag_core.specs.Records.{joined, parted, held_after, tag_bit}
-use Rattle.tag_core.specs.Callers.{layout_of, IsCallerOf, Holds, slot_of, Adds, AddsTwo}
-use Rattle.tag_core.specs.Holdings.{IsInMask, Releases, Acquires, KeepsAll}
+use Rattle.std.specs.Prelude.{◌-◌, ◌<◌, ◌^◌, ◌≡◌, ◌≤◌}
+use Rattle.tag_core.proofs.Uses.{Acquires, Adds, AddsTwo, ap, arith, bit_at, bit_at-lt, bit_at_above, Caller, eq-eqb, get_or, held_after, Holds, IsCallerOf, IsInMask, IsWithin, joined, KeepsAll, Layout, layout_of, length, List, Map, max, min, parted, place_of, Record, Releases, Shape, slot_of, Step}
+use Rattle.tag_core.proofs.Uses.{subst, sym, tag_at-back, tag_at-below, tag_bit, without, word_of, word_of-below, words, ℕ, ◌∙◌}
 use Rattle.tag_core.proofs.Masks.{bit_minus}
 use Rattle.tag_core.proofs.Picks.{among, among_one, one_among}
 use Rattle.tag_core.proofs.TagBits.{place_small, among_here, among_else, among_small, minus_bit, or_bit, list_bit, only_among, only_is, tag_mask, small_word}

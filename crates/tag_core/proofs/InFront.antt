@@ -1,18 +1,8 @@
 -- What a call knows of its caller between the load that brings a held tag's slot to the front of the seat and the load
 -- that puts it back, and after both.
-use Rattle.std.proofs.Common.{◌≡◌, ◌≢◌, ℕ, List, ◌∷◌, sym, ap, ◌∙◌}
-use mathlib.Core.Option.{some, none, some-injective}
-use lib.ListN.{get_elem?}
-use Rattle.atomic_table.specs.Table.{Me, step, rest}
-use Rattle.step_ledger.specs.Views.{own_view}
-use Rattle.tag_core.specs.Views.{View}
-use Rattle.tag_layout.specs.Layout.{Layout}
-use Rattle.tag_core.specs.declared.caller.Caller.{Caller}
-use Rattle.tag_core.specs.declared.map.Map.{Map}
+use Rattle.std.specs.Prelude.{◌∷◌, ◌≡◌, ◌≢◌}
+use Rattle.tag_core.proofs.Uses.{ap, Caller, Carries, fronted, get_elem?, Holds, IsCallerOf, Layout, List, Map, Me, none, ordered, own_view, record_of, rest, slot_of, some, some-injective, step, sym, value_of, View, ℕ, ◌∙◌}
 use Rattle.tag_core.specs.Spacing.{state_at}
-use Rattle.tag_core.specs.Records.{value_of, Carries}
-use Rattle.tag_core.specs.Plays.{fronted, ordered}
-use Rattle.tag_core.specs.Callers.{IsCallerOf, record_of, Holds, slot_of}
 use Rattle.tag_core.proofs.Stand.{state_in}
 use Rattle.tag_core.proofs.Fronts.{front_allowed, order_allowed}
 use Rattle.tag_core.proofs.Asking.{Asks, asked, record_with, Promises}

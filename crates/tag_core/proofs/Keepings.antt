@@ -1,32 +1,12 @@
 -- A swap of which the caller keeps the least tag: at one moment the swap, and then what is kept of it.
-use Rattle.std.proofs.Common.{◌≡◌, ◌≢◌, ℕ, zero, suc, ◌+◌, ◌^◌, ◌<◌, ◌≤◌, List, [], ◌∷◌, length, get_or, set, max, arith, refl, sym, ap, ◌∙◌, subst, inl}
-use mathlib.Core.Option.{some, none}
-use mathlib.Core.Logic.{dite}
-use native.Mathlib.Decide.{ℕ_discrete}
-use lib.ListN.{get_elem?}
-use Rattle.atomic_table.specs.Table.{State, Me, step, Allows, chain, carried_after, homes_after}
-use Rattle.atomic_table.proofs.Lists.{set_here}
-use Rattle.std.specs.Int.{bit_at, trailing_zeros, w64}
-use Rattle.std.proofs.lemmas.Nat.{pow_below}
-use Rattle.std.proofs.lemmas.Nat.Bits.{bit_at-lt, bit_at_above, bit_at-pow_other, bit_at-trailing_zeros}
-use Rattle.step_ledger.proofs.Seats.{within}
-use Rattle.step_ledger.specs.Views.{own_view}
-use Rattle.tag_core.specs.Views.{View}
-use Rattle.tag_layout.specs.Layout.{words, word_depth}
-use Rattle.tag_model.specs.declared.world.TheConstants.{MOST_WON}
-use Rattle.tag_core.specs.declared.shape.Shape.{Shape}
-use Rattle.tag_core.specs.declared.step.Step.TheVariants.{Word}
-use Rattle.tag_core.specs.declared.word_step.WordStep.TheVariants.{Swap, Keep}
-use Rattle.tag_core.specs.declared.record.Record.{Record}
+use Rattle.std.specs.Prelude.{◌+◌, ◌<◌, ◌^◌, ◌∷◌, ◌≡◌, ◌≢◌, ◌≤◌}
+use Rattle.tag_core.proofs.Uses.{[], Allows, ap, arith, bit_at, bit_at-lt, bit_at-pow_other, bit_at-trailing_zeros, bit_at_above, carried_after, Carries, chain, dite, FindsHeld, get_elem?, get_or, homes_after, inl, IsKnown, Keep, kept_least, least_bit, length, List, max, Me, MOST_WON, none}
+use Rattle.tag_core.proofs.Uses.{own_view, pow_below, Record, record_after, refl, set, set_here, Shape, Shown, some, State, step, Stepped, subst, suc, Swap, sym, tag_bit, trailing_zeros, View, w64, within, Word, word_depth, words, zero, ℕ, ℕ_discrete, ◌∙◌}
 use Rattle.tag_core.specs.Spacing.{aside_at}
-use Rattle.tag_core.specs.Steps.{least_bit}
-use Rattle.tag_core.specs.Records.{record_after, tag_bit, Carries}
-use Rattle.tag_core.specs.Rule.{IsKnown, Shown}
 use Rattle.tag_core.specs.Keeping.{IsLeastIn}
-use Rattle.tag_core.specs.Plays.{Stepped, FindsHeld, kept_least}
 use Rattle.tag_core.proofs.Picks.{among}
 use Rattle.tag_core.proofs.TagBits.{small_word, among_here, among_else, or_bit, list_bit}
-use Rattle.tag_core.proofs.Masks.{ones_pow}
+use Rattle.tag_core.proofs.OneBit.{count_ones-pow}
 use Rattle.tag_core.proofs.Stand.{aside_at_one}
 use Rattle.tag_core.proofs.OwingTags.{swap_owed, keep_owed}
 use Rattle.tag_core.proofs.Advance.{Owed}
@@ -136,7 +116,7 @@ module _ (R : Type 0) (k : Shape) (narrow : k.layout.shift ≤ 6) (id : ℕ) (me
       keep : Owed R k s1 sh1 r1 (Word (Keep i m)) s1.words
       keep = keep_owed R k narrow s1 sh1 r1 known1 i m inside (least_within n some_aside fits (word_depth k.layout i) low)
           (least_within n some_aside fits 64 fits)
-          (subst (λ (z : ℕ). r1.won + z ≤ MOST_WON) (sym (ones_pow (trailing_zeros w64 n))) (few r.won refl)) swept
+          (subst (λ (z : ℕ). r1.won + z ≤ MOST_WON) (sym (count_ones-pow (trailing_zeros w64 n))) (few r.won refl)) swept
 
       -- what is kept of it
       kept : Answer R k narrow id me1 r1 mine1 carries1 s1 (Word (Keep i m)) s1.words

@@ -1,23 +1,8 @@
 -- A caller after a sweep of which it kept the least tag.
-use Rattle.std.proofs.Common.{◌≡◌, ◌≢◌, ℕ, ◌+◌, ◌^◌, ◌<◌, ◌≤◌, List, ◌∷◌, length, get_or, count_ones, arith, sym, ap, ◌∙◌, subst, length-set}
-use Rattle.atomic_table.specs.Table.{Me}
-use Rattle.std.specs.Int.{bit_at, trailing_zeros, w64}
-use Rattle.step_ledger.specs.Views.{own_view}
-use Rattle.tag_layout.specs.Layout.{Layout, words, word_depth, word_bits, word_of, place_of, tag_at, IsWithin}
-use Rattle.tag_layout.proofs.PlaceFacts.{word_of-tag_at, place_of-tag_at, tag_at-below}
-use Rattle.tag_core.specs.declared.shape.Shape.{Shape}
-use Rattle.tag_core.specs.declared.step.Step.TheVariants.{Word}
-use Rattle.tag_core.specs.declared.word_step.WordStep.TheVariants.{Swap, Keep, Spill}
-use Rattle.tag_core.specs.declared.record.Record.{Record}
-use Rattle.tag_core.specs.declared.caller.Caller.{Caller}
-use Rattle.tag_core.specs.declared.map.Map.{Map}
-use Rattle.tag_core.specs.Steps.{without, least_bit}
-use Rattle.tag_core.specs.Records.{joined, record_after, Carries}
-use Rattle.tag_core.specs.Views.{steps_of, View}
-use Rattle.tag_core.specs.Plays.{Stepped, FindsHeld}
-use Rattle.tag_core.specs.Callers.{layout_of, IsCallerOf, record_of, Holds, slot_of}
-use Rattle.tag_core.specs.Holdings.{Acquires}
-use Rattle.tag_core.proofs.Masks.{ones_pow}
+use Rattle.std.specs.Prelude.{◌+◌, ◌<◌, ◌^◌, ◌∷◌, ◌≡◌, ◌≢◌, ◌≤◌}
+use Rattle.tag_core.proofs.Uses.{Acquires, ap, arith, bit_at, Caller, Carries, count_ones, FindsHeld, get_or, Holds, IsCallerOf, IsWithin, joined, Keep, Layout, layout_of, least_bit, length, length-set, List, Map, Me, own_view, place_of, place_of-tag_at, Record, record_after, record_of, Shape}
+use Rattle.tag_core.proofs.Uses.{slot_of, Spill, Stepped, steps_of, subst, Swap, sym, tag_at, tag_at-below, trailing_zeros, View, w64, without, Word, word_bits, word_depth, word_of, word_of-tag_at, words, ℕ, ◌∙◌}
+use Rattle.tag_core.proofs.OneBit.{count_ones-pow}
 use Rattle.tag_core.proofs.Sweepings.{mask_of, rest_of, all_kept, rest_freed}
 use Rattle.tag_core.proofs.Asking.{record_with, Promises, shows}
 use Rattle.tag_core.proofs.Keepings.{least_in, least_below}
@@ -42,7 +27,7 @@ module _ {R : Type 0} (w : Caller R) (i f : ℕ) (inside : i < words w.shape.val
       (did.shown.known.swept_within i inside)
 
   won_one : w.won + 1 ≡ w.won + 0 + count_ones (least_bit f)
-  won_one = let one = ones_pow (trailing_zeros w64 f) in omega arith
+  won_one = let one = count_ones-pow (trailing_zeros w64 f) in omega arith
 
   -- the fields that a call leaves
   module _ (held : List ℕ) (held_is : joined w.held.items i (least_bit f) ≡ held) where

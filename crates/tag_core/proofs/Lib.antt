@@ -1,3 +1,4 @@
+mod Uses
 pub mod Picks
 pub mod Turns
 pub mod Masks
@@ -13,6 +14,7 @@ pub mod Listing
 pub mod Acts
 pub mod Moving
 pub mod Allowed
+pub mod AllowedStates
 pub mod Keepings
 pub mod Passing
 pub mod Asking
@@ -36,6 +38,7 @@ pub mod Reopenings
 pub mod Showings
 pub mod Holdings
 pub mod OneWord
+pub mod OneBit
 pub mod OnePlace
 pub mod Numbers
 pub mod FewCallers

@@ -1,19 +1,7 @@
 -- What steps on lists of the callers that wait owe.
-use Rattle.std.proofs.Common.{◌≡◌, ℕ, ◌<◌, ◌≤◌, List, get_or, set, bit_or, refl, ap, subst, sym}
-use lib.Seq.{set-get_or}
-use Rattle.atomic_table.specs.Table.{State}
-use Rattle.tag_core.specs.Views.{View}
-use Rattle.tag_core.specs.declared.shape.Shape.{Shape}
-use Rattle.tag_core.specs.declared.record.Record.{Record}
-use Rattle.tag_core.specs.declared.step.Step.TheVariants.{Bell}
-use Rattle.tag_core.specs.declared.bell_step.BellStep.{BellStep}
-use Rattle.tag_core.specs.declared.bell_step.BellStep.TheVariants.{Enlist, Sight, Tell, GetUp}
-use Rattle.tag_core.specs.declared.bell.TheConstants.{LISTS}
-use Rattle.tag_core.specs.Lists.{bit_of, FindsListed, IsOwn, lists_after}
+use Rattle.std.specs.Prelude.{◌<◌, ◌≡◌, ◌≤◌}
+use Rattle.tag_core.proofs.Uses.{ap, Bell, BellStep, bit_of, bit_or, Cells, cells_of, changed_at, Enlist, FindsListed, get_or, GetUp, HasCells, IsKnown, IsOwn, List, LISTS, lists_after, Record, refl, set, set-get_or, Shape, Shown, Sight, State, subst, sym, Tell, View, without, ℕ}
 use Rattle.tag_core.specs.Spacing.{list_at}
-use Rattle.tag_core.specs.Steps.{changed_at, without}
-use Rattle.tag_core.specs.Histories.{Cells, cells_of}
-use Rattle.tag_core.specs.Rule.{HasCells, IsKnown, Shown}
 use Rattle.tag_core.proofs.Advance.{Owed}
 use Rattle.tag_core.proofs.Owing.{list_cells, look_needs, same_tags}
 

@@ -1,13 +1,6 @@
 -- The word of a caller's mask that a call reads, and the mask after a call changed one tag's bit in it.
-use Rattle.std.proofs.Common.{◌≡◌, ℕ, ◌-◌, ◌*◌, ◌%◌, ◌^◌, ◌<◌, slice_index, slice_set, get_or, sym, ap, ◌∙◌, subst}
-use Rattle.std.proofs.lemmas.List.{get_or_read}
-use Rattle.std.proofs.lemmas.Nat.{one_shl}
-use Rattle.tag_layout.specs.Layout.{Layout, words, word_of, place_of}
-use Rattle.tag_layout.proofs.PlaceFacts.{word_of-below}
-use Rattle.std.specs.Int.{bit_at}
-use Rattle.tag_core.specs.declared.caller.Caller.{Caller}
-use Rattle.tag_core.specs.Steps.{without}
-use Rattle.tag_core.specs.Callers.{Holds}
+use Rattle.std.specs.Prelude.{◌%◌, ◌*◌, ◌-◌, ◌<◌, ◌^◌, ◌≡◌}
+use Rattle.tag_core.proofs.Uses.{ap, bit_at, Caller, get_or, get_or_read, Holds, Layout, one_shl, place_of, slice_index, slice_set, subst, sym, without, word_of, word_of-below, words, ℕ, ◌∙◌}
 use Rattle.tag_core.proofs.Masks.{take_bit}
 
 -- what stands in a word of the mask

@@ -1,13 +1,8 @@
 -- Bits of a word after an or, and after an and-not.
-use Rattle.std.proofs.Common.{◌≡◌, ℕ, zero, suc, ◌+◌, ◌-◌, ◌*◌, ◌/◌, ◌%◌, ◌^◌, ◌<◌, ◌≤◌, min, max, bit_and, bit_or, arith, ap, ◌∙◌}
-use Rattle.std.specs.Int.{bit_at, w64}
-use Rattle.std.proofs.lemmas.Nat.Bits.{bit_at_and, bit_at_or, bit_at_not, bit_at-lt, bit_at-zero, bit_at-pow_other, and_pow, same_from_bits_below}
+use Rattle.std.specs.Prelude.{◌%◌, ◌*◌, ◌+◌, ◌-◌, ◌/◌, ◌<◌, ◌^◌, ◌≡◌, ◌≤◌}
+use Rattle.tag_core.proofs.Uses.{and_le_l, and_pow, and_step, ap, arith, bit_and, bit_at, bit_at-lt, bit_at-pow_other, bit_at-zero, bit_at_and, bit_at_not, bit_at_or, bit_or, count_ones, max, min, one-mul, ones-le, or_disjoint, or_lt, pow_below, same_from_bits_below, suc, w64, without, zero, ℕ}
+use Rattle.tag_core.proofs.Uses.{◌∙◌}
 use lib.Count.{ones, ones_step}
-use lib.Bits.{and_step}
-use Rattle.std.proofs.Common.{count_ones}
-use Rattle.std.proofs.Math.Nat.{one-mul}
-use Rattle.std.proofs.lemmas.Nat.{and_le_l, ones-le, ones_cat, or_disjoint, or_lt, pow_below, pow_pos}
-use Rattle.tag_core.specs.Steps.{without}
 
 -- a clear bit is set by adding it
 pub add_bit : (n b : ℕ) → bit_at n b ≡ 0 → bit_or n (2 ^ b) < 2 ^ 64 → (n + 2 ^ b) % 2 ^ 64 ≡ bit_or n (2 ^ b)
@@ -47,20 +42,19 @@ take_bit n b fits low one = let few = pow_below b 64 low in
     among : (at : ℕ) → bit_at (2 ^ b) at ≡ 1 → bit_at n at ≡ 1
     among at here = grind (arith, bit_at-pow_other)
 
--- a single bit is one
-pub ones_pow : (k : ℕ) → count_ones (2 ^ k) ≡ 1
-unfolding ones
-ones_pow k = let e : 2 ^ k ≡ 1 * 2 ^ k + 0 = omega arith in ap count_ones e ∙ ones_cat k 1 0 (pow_pos k)
-
-fewer : (d m x : ℕ) → m ≤ d → count_ones (bit_and m x) ≤ count_ones m
-fewer zero m x h = omega (arith, ones-le 0 (bit_and m x) (omega (arith, and_le_l m x)))
-fewer (suc d) m x h =
+-- a part of a mask has no more bits than the mask
+ones_part : (d m x : ℕ) → m ≤ d → count_ones (bit_and m x) ≤ count_ones m
+ones_part zero m x h = omega (arith, ones-le 0 (bit_and m x) (omega (arith, and_le_l m x)))
+ones_part (suc d) m x h =
     let a = and_step m x in let s = ones_step m in let t = ones_step (bit_and m x) in
     let half : bit_and m x / 2 ≡ bit_and (m / 2) (x / 2) = omega arith in
     let low : bit_and m x % 2 ≤ m % 2 = omega arith in
     let e : count_ones (bit_and m x / 2) ≡ count_ones (bit_and (m / 2) (x / 2)) = ap count_ones half in
-    let ih = fewer d (m / 2) (x / 2) (omega arith) in omega arith
+    let ih = ones_part d (m / 2) (x / 2) (omega arith) in omega arith
+
+pub ones_and : (m x : ℕ) → count_ones (bit_and m x) ≤ count_ones m
+ones_and m x = ones_part m m x (omega arith)
 
 -- a word less a mask has no more bits than the word
 pub ones_minus : (n m : ℕ) → count_ones (without n m) ≤ count_ones n
-ones_minus n m = fewer n n (2 ^ 64 - 1 - m) (omega arith)
+ones_minus n m = ones_and n (2 ^ 64 - 1 - m)

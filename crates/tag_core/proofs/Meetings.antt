@@ -1,18 +1,6 @@
 -- Two callers whose records stand in one view hold no tag in common.
-use Rattle.std.proofs.Common.{◌≡◌, ◌≢◌, ℕ, [], ◌∷◌, arith, refl, sym, ap, ◌∙◌, subst, ne_eqb}
-use mathlib.Core.Option.{some, none}
-use lib.ListN.{get_elem?}
-use Rattle.atomic_table.specs.Table.{State, Me, step, Allows}
-use Rattle.step_ledger.specs.Views.{viewing}
-use Rattle.tag_core.specs.Views.{View}
-use Rattle.tag_model.specs.declared.place.Place.{Place}
-use Rattle.tag_core.specs.declared.shape.Shape.{Shape}
-use Rattle.tag_core.specs.declared.record.Record.{Record}
-use Rattle.tag_core.specs.Bits.{held_bit}
-use Rattle.tag_core.specs.Histories.{world_of}
-use Rattle.tag_core.specs.Rule.{IsKnown, Shown}
-use Rattle.tag_core.specs.Meeting.{ShareHistory, AreApart}
-use Rattle.tag_core.specs.Plays.{met}
+use Rattle.std.specs.Prelude.{◌∷◌, ◌≡◌, ◌≢◌}
+use Rattle.tag_core.proofs.Uses.{[], Allows, ap, AreApart, arith, get_elem?, held_bit, IsKnown, Me, met, ne_eqb, none, Place, Record, refl, Shape, ShareHistory, Shown, some, State, step, subst, sym, View, viewing, world_of, ℕ, ◌∙◌}
 use Rattle.tag_core.proofs.Fronts.{idle_allowed}
 
 -- one place has one holder

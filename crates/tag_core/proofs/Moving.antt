@@ -1,33 +1,10 @@
 -- One step of one caller, with its slots.
-use Rattle.std.proofs.Common.{◌≡◌, ◌≢◌, ℕ, ◌+◌, ◌*◌, ◌<◌, ◌≤◌, ◌⊎◌, List, ◌∷◌, map, length, set, arith, refl, sym, ap, ◌∙◌, subst, ⊎_elim, eq-eqb, ne_eqb}
-use mathlib.Core.Option.{some, none, some-injective, some-ne-none}
+use Rattle.std.specs.Prelude.{◌*◌, ◌+◌, ◌<◌, ◌∷◌, ◌≡◌, ◌≢◌, ◌≤◌, ◌⊎◌}
+use Rattle.tag_core.proofs.Uses.{ap, arith, back-history, back_by, back_in, carried_after, Carries, dite, eq-eqb, event_of, events_of, get_elem?, got_in, HasHistory, held, held_after, held_bit, held_in, homes_after, IsKnown, IsOpening, last_post, length, List, map, MOST_WON, ne_eqb, none, one_if}
+use Rattle.tag_core.proofs.Uses.{opening_world, own_view, Place, posted, posted_in, Record, record_after, refl, set, set_here, Shape, Shown, SlotIs, some, some-injective, some-ne-none, State, Step, Stepped, subst, sum_below-none, sym, tag_bit, value_of, View, within, world_of, ℕ, ℕ_discrete, ⊎_elim}
+use Rattle.tag_core.proofs.Uses.{◌∙◌}
 use mathlib.Core.Option as maybe
-use mathlib.Core.Logic.{dite}
-use native.Mathlib.Decide.{ℕ_discrete}
-use lib.ListN.{get_elem?}
-use Rattle.atomic_table.specs.Table.{State, carried_after, homes_after}
-use Rattle.sums.proofs.Laws.{sum_below-none}
-use Rattle.sums.specs.Below.{one_if}
-use Rattle.step_ledger.specs.Views.{own_view}
-use Rattle.tag_core.specs.Views.{View}
-use Rattle.tag_model.specs.declared.place.Place.{Place}
-use Rattle.tag_model.specs.declared.place.Place.TheVariants.{Held as held, Posted as posted}
-use Rattle.tag_model.specs.declared.world.TheConstants.{MOST_WON}
-use Rattle.tag_model.specs.Event.{back_by}
-use Rattle.tag_model.specs.Totals.{got_in, back_in, held_in, posted_in}
-use Rattle.tag_model.proofs.HistoryFacts.{back-history}
-use Rattle.tag_core.specs.declared.shape.Shape.{Shape}
-use Rattle.tag_core.specs.declared.step.Step.{Step}
-use Rattle.tag_core.specs.declared.record.Record.{Record}
-use Rattle.tag_core.specs.Bits.{held_bit}
-use Rattle.tag_core.specs.Histories.{event_of, events_of, opening_world, world_of, last_post}
-use Rattle.tag_core.specs.Records.{record_after, held_after, tag_bit, value_of, Carries}
-use Rattle.tag_core.specs.Rule.{SlotIs, IsKnown, IsOpening, Shown}
-use Rattle.tag_core.specs.Plays.{Stepped}
 use Rattle.tag_core.proofs.Picks.{placed}
-use Rattle.atomic_table.proofs.Lists.{set_here}
-use Rattle.tag_core.specs.Meeting.{HasHistory}
-use Rattle.step_ledger.proofs.Seats.{within}
 use Rattle.tag_core.proofs.Showings.{seen_in}
 use Rattle.tag_core.proofs.Counts.{own_counts}
 use Rattle.tag_core.proofs.Turns.{held_from}

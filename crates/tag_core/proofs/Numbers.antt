@@ -1,8 +1,6 @@
 -- Records by the numbers of their callers.
-use Rattle.std.proofs.Common.{◌≡◌, ℕ, List, [], ◌∷◌, map, refl, ap}
-use Rattle.tag_core.specs.declared.caller.Caller.{Caller}
-use Rattle.tag_core.specs.Callers.{record_of}
-use Rattle.tag_core.specs.Gathering.{numbers, numbers_of}
+use Rattle.std.specs.Prelude.{◌∷◌, ◌≡◌}
+use Rattle.tag_core.proofs.Uses.{[], ap, Caller, List, map, numbers, numbers_of, record_of, refl, ℕ}
 
 module _ {R : Type 0} where
   -- callers' records have their numbers

@@ -1,63 +1,15 @@
 -- A claim of one place: what it found there, and what it leaves of its caller.
-use Rattle.std.proofs.Common.{◌≡◌, ◌≢◌, ◌⊎◌, ℕ, zero, suc, ◌+◌, ◌-◌, ◌*◌, ◌%◌, ◌^◌, ◌<◌, List, arith, refl, sym, ap, ◌∙◌}
-use Rattle.std.proofs.Common.{subst, inl, inr, count_ones, bit_and, bit_or, slice_set, set, get_or}
-use Rattle.std.specs.Int.{bit_at, w64}
+use Rattle.std.specs.Prelude.{◌%◌, ◌*◌, ◌+◌, ◌<◌, ◌^◌, ◌≡◌, ◌≢◌}
+use Rattle.tag_core.proofs.Uses.{Acquires, and_pow, ap, arith, bit_and, bit_at, bit_or, Caller, Claimed, count_ones, get_or, inl, inr, IsCallerOf, joined, layout_of, List, Map, Me, one_shl, place_of, place_of-tag_at, pow_pos, record_of, refl, set, Shape, slice_set, Stepped, subst, sym, tag_at}
+use Rattle.tag_core.proofs.Uses.{tag_at-below, View, Word, word_bits, word_bits-le, word_depth, word_of, word_of-tag_at, words, ℕ, ◌∙◌}
 use Rattle.std.specs.Int.Bits.{or_zero_r}
 use Rattle.std.proofs.lemmas.List.{set-get_or}
-use Rattle.std.proofs.lemmas.Nat.{and_comm, ones_cat, one_shl, pow_pos}
-use Rattle.std.proofs.lemmas.Nat.Bits.{and_pow, bit_at_not, bit_at-lt}
-use Rattle.atomic_table.specs.Table.{Me}
 use lib.Count.{ones}
-use Rattle.tag_layout.specs.Layout.{words, word_bits, word_depth, word_of, place_of, tag_at}
-use Rattle.tag_layout.proofs.PlaceFacts.{word_bits-le, word_of-tag_at, place_of-tag_at, tag_at-below}
-use Rattle.tag_core.specs.declared.caller.Caller.{Caller}
-use Rattle.tag_core.specs.declared.map.Map.{Map}
-use Rattle.tag_core.specs.declared.shape.Shape.{Shape}
-use Rattle.tag_core.specs.declared.step.Step.TheVariants.{Word}
-use Rattle.tag_core.specs.declared.word_step.WordStep.TheVariants.{Claimed}
-use Rattle.tag_core.specs.Callers.{layout_of, IsCallerOf, record_of}
 use Rattle.tag_core.specs.Claims.{ClaimsPlace}
-use Rattle.tag_core.specs.Holdings.{Acquires}
-use Rattle.tag_core.specs.Plays.{Stepped}
-use Rattle.tag_core.specs.Records.{joined}
-use Rattle.tag_core.specs.Steps.{without}
-use Rattle.tag_core.specs.Views.{View}
 use Rattle.tag_core.proofs.Asking.{Left, left, plus_none}
 use Rattle.tag_core.proofs.Holdings.{adds_acquires_one}
 use Rattle.tag_core.proofs.Marking.{mask_read}
-
--- a power of two has one bit
-pub count_ones-pow : (k : ℕ) → count_ones (2 ^ k) ≡ 1
-unfolding ones
-count_ones-pow k = let e : 2 ^ k ≡ 1 * 2 ^ k + 0 = omega arith in ap count_ones e ∙ ones_cat k 1 0 (pow_pos k)
-
--- zero has none
-pub count_ones-zero : count_ones 0 ≡ 0
-unfolding ones
-count_ones-zero = refl
-
--- a bit is 1 or 0
-pub bit_is : (n k : ℕ) → (bit_at n k ≡ 1) ⊎ (bit_at n k ≡ 0)
-bit_is n k = cases (bit_at n k) refl (bit_at-lt n k)
-  where
-    cases : (b : ℕ) → bit_at n k ≡ b → b < 2 → (bit_at n k ≡ 1) ⊎ (bit_at n k ≡ 0)
-    cases zero e l = inr e
-    cases (suc zero) e l = inl e
-    cases (suc (suc b)) e l = absurd (omega arith)
-
-module _ (found k : ℕ) (fits : found < 2 ^ 64) (low : k < 64) where
-  -- the mask that a claim of one place won, by the bit that it found there
-  without-pow : without (2 ^ k) found ≡ (1 - bit_at found k) * 2 ^ k
-  without-pow = and_comm (2 ^ k) (2 ^ 64 - 1 - found) ∙ and_pow (2 ^ 64 - 1 - found) k
-      ∙ ap (λ (x : ℕ). x * 2 ^ k) (bit_at_not w64 found k fits low)
-
-  -- a claim of one place wins its bit if it found the place clear
-  pub won_where_clear : bit_at found k ≡ 0 → without (2 ^ k) found ≡ 2 ^ k
-  won_where_clear clear = without-pow ∙ ap (λ (x : ℕ). (1 - x) * 2 ^ k) clear ∙ omega arith
-
-  -- and nothing if it found the place taken
-  pub none_where_taken : bit_at found k ≡ 1 → without (2 ^ k) found ≡ 0
-  none_where_taken taken = without-pow ∙ ap (λ (x : ℕ). (1 - x) * 2 ^ k) taken ∙ omega arith
+use Rattle.tag_core.proofs.OneBit.{bit_is, count_ones-pow, count_ones-zero, won_where_clear, none_where_taken}
 
 -- the bit of a place, by an and with its mask
 module _ (found k : ℕ) (low : k < 64) where

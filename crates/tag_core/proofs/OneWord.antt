@@ -1,8 +1,6 @@
 -- The tags of a mask of one word.
-use Rattle.std.proofs.Common.{◌≡◌, ℕ, ◌<◌, arith, ap, ◌∙◌, eq-eqb, ne_eqb}
-use Rattle.std.specs.Int.{bit_at}
-use Rattle.tag_layout.specs.Layout.{Layout, word_of, place_of, IsWithin}
-use Rattle.tag_core.specs.Holdings.{IsInMask}
+use Rattle.std.specs.Prelude.{◌<◌, ◌≡◌}
+use Rattle.tag_core.proofs.Uses.{ap, arith, bit_at, eq-eqb, IsInMask, IsWithin, Layout, ne_eqb, place_of, word_of, ℕ, ◌∙◌}
 use Rattle.tag_core.proofs.Picks.{among_one, one_among}
 use Rattle.tag_core.proofs.Stand.{bit_tag}
 use Rattle.tag_core.proofs.Holdings.{named_below}

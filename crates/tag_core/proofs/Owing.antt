@@ -1,31 +1,10 @@
 -- What a claim, a give and a look owe.
-use Rattle.std.proofs.Common.{List, get_or-set_same, ◌≡◌, None, ℕ, ◌+◌, ◌-◌, ◌/◌, ◌%◌, ◌^◌, ◌<◌, ◌≤◌, get_or, set, bit_or, count_ones, min, max, arith, sym, ap, ◌∙◌, subst, length-set, get_or-set_other}
-use mathlib.Core.Logic.{dite}
-use native.Mathlib.Decide.{ℕ_discrete}
-use Rattle.std.specs.Int.{bit_at}
-use Rattle.std.proofs.lemmas.Nat.{or_lt}
-use Rattle.atomic_table.specs.Table.{State}
-use Rattle.tag_core.specs.Views.{View}
-use Rattle.tag_layout.specs.Layout.{words, word_depth, word_of, place_of, IsWithin}
-use Rattle.tag_layout.proofs.PlaceFacts.{word_of-below}
-use Rattle.tag_model.specs.declared.place.Place.{Place}
-use Rattle.tag_model.specs.declared.place.Place.TheVariants.{Free as free, Held as held}
-use Rattle.tag_model.specs.declared.world.TheConstants.{MOST_WON}
+use Rattle.std.specs.Prelude.{◌%◌, ◌+◌, ◌-◌, ◌/◌, ◌<◌, ◌^◌, ◌≡◌, ◌≤◌}
+use Rattle.tag_core.proofs.Uses.{ap, arith, aside_bit, bit_at, bit_or, Cells, cells_of, changed_at, Claimed, count_ones, dite, events_of, free, get_or, get_or-set_other, get_or-set_same, Give, HasCells, held, held_bit, IsKnown, IsWithin, length-set, List, LISTS, Look, LookAside, max, MayHappen, min}
+use Rattle.tag_core.proofs.Uses.{MOST_WON, None, opening_world, or_lt, Place, place_of, Record, set, Shape, Shown, State, Step, subst, sym, tag_bit, Take, View, without, won-history, Word, word_bit, word_depth, word_of, word_of-below, words, World, world_of, ℕ, ℕ_discrete}
+use Rattle.tag_core.proofs.Uses.{◌∙◌}
 use Rattle.tag_model.specs.declared.event.Event.TheVariants as event
-use Rattle.tag_model.specs.World.{World, MayHappen}
-use Rattle.tag_model.proofs.HistoryFacts.{won-history}
-use Rattle.tag_core.specs.declared.shape.Shape.{Shape}
-use Rattle.tag_core.specs.declared.step.Step.{Step}
-use Rattle.tag_core.specs.declared.step.Step.TheVariants.{Word, Take}
-use Rattle.tag_core.specs.declared.word_step.WordStep.TheVariants.{Look, LookAside, Claimed, Give}
-use Rattle.tag_core.specs.declared.record.Record.{Record}
-use Rattle.tag_core.specs.Steps.{changed_at, without}
-use Rattle.tag_core.specs.declared.bell.TheConstants.{LISTS}
 use Rattle.tag_core.specs.Spacing.{list_at, word_at, aside_at, state_at}
-use Rattle.tag_core.specs.Bits.{word_bit, aside_bit, held_bit}
-use Rattle.tag_core.specs.Histories.{Cells, cells_of, events_of, opening_world, world_of}
-use Rattle.tag_core.specs.Records.{tag_bit}
-use Rattle.tag_core.specs.Rule.{HasCells, IsKnown, Shown}
 use Rattle.tag_core.proofs.Picks.{pick, among, among_one, pick_among}
 use Rattle.tag_core.proofs.Turns.{Shows, claims, gives, unchanged, reshow, free_from, held_from}
 use Rattle.tag_core.proofs.Masks.{bit_minus, minus_le, ones_minus}

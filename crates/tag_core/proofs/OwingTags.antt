@@ -1,26 +1,8 @@
 -- What steps on one tag and sweeps owe.
-use Rattle.std.proofs.Common.{◌≡◌, Some, ℕ, suc, ◌-◌, ◌/◌, ◌%◌, ◌+◌, ◌^◌, ◌<◌, ◌≤◌, length, count_ones, get_or, set, cond, nat_eq, bit_or, min, max, arith, refl, sym, ap, ◌∙◌, subst}
-use mathlib.Core.Option.{some}
-use Rattle.std.specs.Int.{bit_at}
-use Rattle.std.proofs.lemmas.Nat.{pow_pos, or_lt}
-use Rattle.atomic_table.specs.Table.{State}
-use Rattle.tag_core.specs.Views.{View}
-use Rattle.tag_layout.specs.Layout.{words, word_depth, word_of, place_of}
-use Rattle.tag_layout.proofs.PlaceFacts.{word_of-below}
-use Rattle.tag_model.specs.declared.place.Place.{Place}
-use Rattle.tag_model.specs.declared.place.Place.TheVariants.{Held as held, Posted as posted, Aside as aside, Sweep as sweep}
-use Rattle.tag_model.specs.declared.world.TheConstants.{MOST_WON}
-use Rattle.tag_model.specs.World.{World}
-use Rattle.tag_core.specs.declared.shape.Shape.{Shape}
-use Rattle.tag_core.specs.declared.step.Step.TheVariants.{Word, Post, Take}
-use Rattle.tag_core.specs.declared.word_step.WordStep.TheVariants.{Put, Swap, Keep, Spill}
-use Rattle.tag_core.specs.declared.record.Record.{Record}
-use Rattle.tag_core.specs.Steps.{changed_at, without}
+use Rattle.std.specs.Prelude.{◌%◌, ◌+◌, ◌-◌, ◌/◌, ◌<◌, ◌^◌, ◌≡◌, ◌≤◌}
+use Rattle.tag_core.proofs.Uses.{ap, arith, aside, aside_bit, bit_at, bit_or, Cells, cells_of, changed_at, cond, count_ones, get_or, held, held_bit, IsKnown, Keep, last_post, length, max, min, MOST_WON, nat_eq, or_lt, Place, place_of, Post, posted, posted_bit, pow_pos, Put, Record, refl, set, Shape}
+use Rattle.tag_core.proofs.Uses.{Shown, Some, some, Spill, State, subst, suc, Swap, sweep, sweep_bit, sym, tag_bit, Take, View, without, Word, word_bit, word_depth, word_of, word_of-below, words, World, world_of, ℕ, ◌∙◌}
 use Rattle.tag_core.specs.Spacing.{word_at, aside_at, state_at}
-use Rattle.tag_core.specs.Bits.{word_bit, aside_bit, posted_bit, held_bit, sweep_bit}
-use Rattle.tag_core.specs.Histories.{Cells, cells_of, world_of, last_post}
-use Rattle.tag_core.specs.Records.{tag_bit}
-use Rattle.tag_core.specs.Rule.{IsKnown, Shown}
 use Rattle.tag_core.proofs.Picks.{only, only_one, among, among_one, pick_among, pick_only, pick_swept, pick_spilled}
 use Rattle.tag_core.proofs.Turns.{puts, posts, takes, gathers, keeps, spills, posted_small, posted_from, aside_small, sweep_small, reshow, held_from, swept_from}
 use Rattle.tag_core.proofs.Masks.{minus_le}

@@ -1,24 +1,8 @@
 -- Records pass from one seat to another.
-use Rattle.std.proofs.Common.{◌≡◌, ℕ, zero, suc, ◌%◌, ◌^◌, ◌<◌, List, [], ◌∷◌, map, length, get_or, replicate, Bool, cond, arith, refl, sym, ap, ◌∙◌, subst, ne_eqb}
-use mathlib.Core.Option.{some}
-use lib.ListN.{get_elem?, length-replicate}
-use Rattle.std.specs.Int.{bit_at}
-use Rattle.std.proofs.lemmas.Nat.{pow_pos}
-use Rattle.std.proofs.lemmas.Nat.Bits.{bit_at-zero}
-use Rattle.atomic_table.specs.Table.{State, opening, Splits, Joins}
-use Rattle.sums.proofs.Laws.{sum_below-none}
-use Rattle.step_ledger.specs.Views.{viewing, first_view, other_views, both_views}
-use Rattle.tag_layout.specs.Layout.{Layout, words, word_depth, word_of, place_of}
-use Rattle.tag_core.specs.declared.shape.Shape.{Shape}
-use Rattle.tag_core.specs.declared.record.Record.{Record}
-use Rattle.tag_core.specs.Histories.{History}
+use Rattle.std.specs.Prelude.{◌%◌, ◌<◌, ◌^◌, ◌∷◌, ◌≡◌}
+use Rattle.tag_core.proofs.Uses.{[], all_fresh, ap, arith, bit_at, bit_at-zero, Bool, both_views, cond, first_view, fresh_record, get_elem?, get_or, HasHistory, History, IsKnown, IsOpening, Joins, Layout, length, length-replicate, List, map, ne_eqb, opening, other_views, place_of, pow_pos, Record}
+use Rattle.tag_core.proofs.Uses.{refl, replicate, Shape, Shown, some, Splits, Standing, standing-fresh, StartsAtZero, State, subst, suc, sum_below-none, sym, tag_bit, tags_from, View, viewing, word_depth, word_of, words, zero, ℕ, ◌∙◌}
 use Rattle.tag_core.specs.Spacing.{list_at, word_at, aside_at, state_at, table_width}
-use Rattle.tag_core.specs.Records.{fresh_record, tag_bit, tags_from, StartsAtZero}
-use Rattle.tag_core.specs.Views.{all_fresh, View}
-use Rattle.tag_core.specs.Rule.{IsOpening, IsKnown, Shown}
-use Rattle.tag_core.specs.Meeting.{HasHistory}
-use Rattle.step_ledger.proofs.Seats.{Standing}
-use Rattle.step_ledger.proofs.Fresh.{standing-fresh}
 use Rattle.step_ledger.proofs.Moves.{splits_first, joins_behind}
 
 -- each of so many zeros is 0

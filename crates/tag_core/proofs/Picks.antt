@@ -1,16 +1,6 @@
 -- What each event does with one tag, as a choice by the bits of masks.
-use Rattle.std.proofs.Common.{◌≡◌, ℕ, zero, suc, ◌/◌, ◌%◌, ◌^◌, cond, nat_eq, ◌==◌, IsTrue, arith}
-use Rattle.std.specs.Int.{bit_at}
-use Rattle.std.proofs.lemmas.Nat.Bits.{bit_at-lt}
-use Rattle.sums.specs.Below.{one_if}
-use Rattle.sums.proofs.Laws.{one_if-bit}
-use Rattle.tag_layout.specs.Layout.{Layout}
-use Rattle.tag_model.specs.declared.place.Place.{Place}
-use Rattle.tag_model.specs.declared.place.Place.TheVariants.{Free as free, Sweep as sweep}
-use Rattle.tag_model.specs.declared.event.Event.{Event}
-use Rattle.tag_model.specs.Event.{is_in_mask, swept_by, spilled_by}
-use Rattle.tag_model.specs.World.{place_after}
-use Rattle.tag_core.specs.Bits.{aside_bit, sweep_bit}
+use Rattle.std.specs.Prelude.{◌%◌, ◌/◌, ◌==◌, ◌^◌, ◌≡◌}
+use Rattle.tag_core.proofs.Uses.{arith, aside_bit, bit_at, bit_at-lt, cond, Event, free, is_in_mask, IsTrue, Layout, nat_eq, one_if, one_if-bit, Place, place_after, spilled_by, suc, sweep, sweep_bit, swept_by, zero, ℕ}
 
 -- the second place where n is 0, else the first
 abbrev pub pick : ℕ → Place → Place → Place

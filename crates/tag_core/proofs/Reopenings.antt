@@ -1,34 +1,10 @@
 -- The callers of a map that has ended go on with a next one: what their counts and their records tell of it.
-use Rattle.std.proofs.Common.{◌≡◌, ℕ, ◌<◌, ◌≤◌, List, [], ◌∷◌, Bool, cond, nat_eq, map, get_or, arith, refl, sym, ap, ◌∙◌, subst, eq-eqb}
-use mathlib.Core.Option.{some}
-use mathlib.Core.Logic.{dite}
-use native.Mathlib.Decide.{dec_lt}
+use Rattle.std.specs.Prelude.{◌<◌, ◌∷◌, ◌≡◌, ◌≤◌}
+use Rattle.tag_core.proofs.Uses.{[], AllFree, ap, AreReopened, AreSettled, AreUnchanged, arith, at_map, back_in, Bool, Caller, cond, dec_lt, dite, Epoch, eq-eqb, get_elem?, get_or, GoesOn, GoesOnFrom, got_in, Has, HasChain, HasCounts, HaveOwnNumbers, IsChain, IsNext, IsOpening, Layout, le_prop}
+use Rattle.tag_core.proofs.Uses.{LeadsOn, List, Map, map, MOST_WON, nat_eq, numbers_of, opening_world, Record, record_of, refl, reopened, Shape, some, Step, steps_by, subst, sum_below-same, sym, Totals, within, world_of, ℕ, ∥∥₁_elim, ∥∥₁_map, ∥∥₁_prop, ◌∙◌}
 use native.Mathlib.Nat.{ℕ_set}
-use Rattle.std.proofs.Math.Logic.{∥∥₁_elim, ∥∥₁_map, ∥∥₁_prop}
-use Rattle.std.specs.Coded.{le_prop}
-use lib.ListN.{get_elem?}
-use Rattle.atomic_table.proofs.Lists.{at_map}
-use Rattle.sums.proofs.Laws.{sum_below-same}
-use Rattle.step_ledger.specs.Gather.{Has}
-use Rattle.tag_layout.specs.Layout.{Layout}
-use Rattle.tag_model.specs.declared.totals.Totals.{Totals}
-use Rattle.tag_model.specs.declared.world.TheConstants.{MOST_WON}
-use Rattle.tag_model.specs.Totals.{got_in, back_in}
-use Rattle.tag_core.specs.declared.shape.Shape.{Shape}
-use Rattle.tag_core.specs.declared.step.Step.{Step}
-use Rattle.tag_core.specs.declared.record.Record.{Record}
-use Rattle.tag_core.specs.declared.caller.Caller.{Caller}
-use Rattle.tag_core.specs.declared.map.Map.{Map}
 use Rattle.tag_core.specs.declared.settled.Settled.{Settled}
-use Rattle.tag_core.specs.Histories.{opening_world, world_of, steps_by}
-use Rattle.tag_core.specs.Rule.{IsOpening}
-use Rattle.tag_core.specs.Callers.{record_of, HaveOwnNumbers, AreUnchanged}
-use Rattle.tag_core.specs.Gathering.{numbers_of}
-use Rattle.tag_core.specs.Settling.{AreSettled}
-use Rattle.tag_core.specs.Reopening.{IsNext, HasCounts, AreReopened, GoesOnFrom, AllFree, LeadsOn}
-use Rattle.tag_core.specs.Chain.{Epoch, GoesOn, IsChain, HasChain}
 use Rattle.tag_core.proofs.Entries.{entry, entry_of_map}
-use Rattle.step_ledger.proofs.Seats.{within}
 
 module _ {R : Type 0} where
   -- no history but that of no steps shows that nobody has made a step
@@ -132,7 +108,7 @@ module _ {R : Type 0} (k : Shape) (callers : List (Caller R)) (totals : Totals) 
     chain_on layout next is counts chain no_held no_posted = ∥∥₁_elim known ∥∥₁_prop (λ z. ∥∥₁_map chain
         (λ (x : (older : List (Epoch R)) × IsChain k older). (
           (record { shape = k; history = z.history }) ∷ x.0,
-          (goes_on z next counts layout is no_held no_posted, x.1),
+          reopened (goes_on z next counts layout is no_held no_posted) x.1,
         )))
 
     -- in the next map all tags are free
@@ -171,8 +147,6 @@ leads_on {R} old next callers s same kept known on = record {
       ap (λ (z : Record R). z.steps) (sym is)
       ∙ (known.each i (record_of b.0) (at_map (record_of {R = R}) s.callers.items i b.0 b.1)).steps
       ∙ ap (λ (z : Record R). steps_by z.number known.history) is;
-  chain = λ older is. (
-    subst (λ (z : Map R). GoesOn (record { shape = z.shape; history = known.history }) next.shape) same (on known),
-    is,
-  );
+  chain = λ older is. reopened
+      (subst (λ (z : Map R). GoesOn (record { shape = z.shape; history = known.history }) next.shape) same (on known)) is;
 }

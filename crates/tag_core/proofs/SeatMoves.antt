@@ -1,12 +1,6 @@
 -- Records move between the seats of a map's table.
-use Rattle.std.proofs.Common.{ℕ, ◌<◌, ◌≡◌, List, [], ◌∷◌, sym, subst}
-use Rattle.atomic_table.specs.Table.{Splits, Joins}
-use Rattle.step_ledger.specs.Views.{viewing, first_view, other_views, both_views}
-use Rattle.tag_core.specs.Views.{View}
-use Rattle.tag_core.specs.declared.map.Map.{Map}
-use Rattle.tag_core.specs.declared.record.Record.{Record}
-use Rattle.tag_core.specs.declared.shape.Shape.{Shape}
-use Rattle.tag_core.specs.Rule.{Shown}
+use Rattle.std.specs.Prelude.{◌<◌, ◌∷◌, ◌≡◌}
+use Rattle.tag_core.proofs.Uses.{[], both_views, first_view, Joins, List, Map, other_views, Record, Shape, Shown, Splits, subst, sym, View, viewing, ℕ}
 use Rattle.tag_core.proofs.Passing.{hands_first, joins}
 use Rattle.tag_core.proofs.Stand.{some_width}
 

@@ -1,19 +1,7 @@
 -- A seat that has the record of one caller more: the caller that it makes holds nothing and has made no step.
-use Rattle.std.proofs.Common.{◌≡◌, ℕ, ◌<◌, ◌-◌, ◌+◌, List, [], replicate, length, slice_index, sym, ap, ◌∙◌, subst}
-use lib.ListN.{length-replicate}
-use Rattle.atomic_table.specs.Table.{Me, Splits}
-use Rattle.step_ledger.specs.Views.{viewing, own_view, first_view, other_views}
-use Rattle.step_ledger.proofs.Seats.{same_record}
-use Rattle.step_ledger.proofs.Fresh.{next_is, next_first}
-use Rattle.tag_layout.specs.Layout.{words}
-use Rattle.tag_core.specs.declared.map.Map.{Map}
-use Rattle.tag_core.specs.declared.shape.Shape.{Shape}
-use Rattle.tag_core.specs.declared.step.Step.{Step}
-use Rattle.tag_core.specs.declared.record.Record.{Record}
-use Rattle.tag_core.specs.Records.{fresh_record, Carries}
-use Rattle.tag_core.specs.Rule.{Shown}
-use Rattle.tag_core.specs.Views.{fresh, steps_of, View}
-use Rattle.tag_core.specs.Meeting.{HasHistory}
+use Rattle.std.specs.Prelude.{◌+◌, ◌-◌, ◌<◌, ◌≡◌}
+use Rattle.tag_core.proofs.Uses.{[], ap, Carries, first_view, fresh, fresh_record, HasHistory, length, length-replicate, List, Map, Me, next_first, next_is, other_views, own_view, Record, replicate, same_record, Shape, Shown, slice_index, Splits, Step, steps_of, subst, sym, View, viewing, words, ℕ}
+use Rattle.tag_core.proofs.Uses.{◌∙◌}
 use Rattle.tag_core.proofs.Passing.{carries_none, fresh_history}
 use Rattle.tag_core.proofs.SeatMoves.{splits_off}
 

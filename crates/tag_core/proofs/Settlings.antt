@@ -1,22 +1,7 @@
 -- A seat that has the records of all callers.
-use Rattle.std.proofs.Common.{◌≡◌, ℕ, suc, ◌+◌, List, [], ◌∷◌, ◌++◌, map, arith, refl, sym, ap, ◌∙◌, subst, length-append, append_assoc}
-use Rattle.std.proofs.lemmas.List.{map-append}
-use mathlib.Core.Option.{some, none}
-use lib.ListN.{get_elem?}
-use Rattle.atomic_table.specs.Table.{State, Me, step, Allows}
-use Rattle.tag_core.specs.Views.{View}
-use Rattle.tag_model.specs.declared.totals.Totals.{Totals}
-use Rattle.tag_model.specs.Totals.{posted_in}
-use Rattle.tag_core.specs.declared.shape.Shape.{Shape}
-use Rattle.tag_core.specs.declared.record.Record.{Record}
-use Rattle.tag_core.specs.declared.caller.Caller.{Caller}
-use Rattle.tag_core.specs.Histories.{world_of}
-use Rattle.tag_core.specs.Sizes.{total_of, size_of}
-use Rattle.tag_core.specs.Rule.{Shown}
-use Rattle.tag_core.specs.Settling.{HasRecords, AreSettled}
-use Rattle.tag_core.specs.Plays.{settled}
-use Rattle.tag_core.specs.Callers.{record_of, IsUnchanged, AreUnchanged}
-use Rattle.step_ledger.proofs.Seats.{pairs_more}
+use Rattle.std.specs.Prelude.{◌++◌, ◌+◌, ◌∷◌, ◌≡◌}
+use Rattle.tag_core.proofs.Uses.{[], Allows, ap, append_assoc, AreSettled, AreUnchanged, arith, Caller, get_elem?, HasRecords, IsUnchanged, length-append, List, map, map-append, Me, none, pairs_more, posted_in, Record, record_of, refl, settled, Shape, Shown, size_of, some, State, step, subst, suc}
+use Rattle.tag_core.proofs.Uses.{sym, total_of, Totals, View, world_of, ℕ, ◌∙◌}
 use Rattle.tag_core.proofs.Fronts.{idle_allowed}
 use Rattle.tag_core.proofs.Ends.{few_records, won_all, back_all, held_all, even_all}
 

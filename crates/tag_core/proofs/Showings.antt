@@ -1,14 +1,6 @@
 -- One history shows a record that stands alone in its view.
-use Rattle.std.proofs.Common.{◌≡◌, ℕ, refl}
-use mathlib.Core.Option.{some}
-use lib.ListN.{get_elem?}
-use Rattle.atomic_table.specs.Table.{State}
-use Rattle.step_ledger.specs.Views.{own_view}
-use Rattle.tag_core.specs.Views.{View}
-use Rattle.tag_core.specs.declared.shape.Shape.{Shape}
-use Rattle.tag_core.specs.declared.record.Record.{Record}
-use Rattle.tag_core.specs.Rule.{Shown}
-use Rattle.tag_core.specs.Meeting.{HasHistory}
+use Rattle.std.specs.Prelude.{◌≡◌}
+use Rattle.tag_core.proofs.Uses.{get_elem?, HasHistory, own_view, Record, refl, Shape, Shown, some, State, View, ℕ}
 
 -- the history of the table shows the record
 pub seen_in : (R : Type 0) (k : Shape) (s : State R (View R)) → Shown k s → (id : ℕ) (r : Record R)

@@ -1,7 +1,6 @@
 -- A state's place tells its tag.
-use Rattle.std.proofs.Common.{◌≡◌, ℕ, sym, ap, ◌∙◌}
-use Rattle.tag_core.specs.declared.shape.Shape.{Shape}
-use Rattle.tag_core.specs.declared.record.Record.{Record}
+use Rattle.std.specs.Prelude.{◌≡◌}
+use Rattle.tag_core.proofs.Uses.{ap, Record, Shape, sym, ℕ, ◌∙◌}
 use Rattle.tag_core.specs.Spacing.{state_at}
 use Rattle.tag_core.proofs.Stand.{state_at_one}
 

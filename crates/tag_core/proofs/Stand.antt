@@ -1,12 +1,6 @@
 -- Lists, words, cleared sets and states stand apart in the table, and tags in their words.
-use Rattle.std.proofs.Common.{◌≡◌, ◌≢◌, ℕ, ◌+◌, ◌*◌, ◌^◌, ◌<◌, arith, sym, ◌∙◌}
-use Rattle.std.specs.Int.{bit_at}
-use Rattle.std.proofs.lemmas.Nat.Bits.{bit_at_above}
-use Rattle.std.proofs.lemmas.Nat.{pow_below, div-add-mod'}
-use Rattle.tag_layout.specs.Layout.{Layout, word_bits, words, word_depth, word_of, place_of, tag_at, IsWithin}
-use Rattle.tag_layout.proofs.PlaceFacts.{place_of-below, tag_at-below, word_of-tag_at, place_of-tag_at}
-use Rattle.tag_model.specs.declared.world.TheConstants.{MAX_CALLERS}
-use Rattle.tag_core.specs.declared.bell.TheConstants.{LISTS}
+use Rattle.std.specs.Prelude.{◌*◌, ◌+◌, ◌<◌, ◌^◌, ◌≡◌, ◌≢◌}
+use Rattle.tag_core.proofs.Uses.{arith, bit_at, bit_at_above, div-add-mod', IsWithin, Layout, LISTS, MAX_CALLERS, place_of, place_of-below, place_of-tag_at, pow_below, sym, tag_at, tag_at-below, word_bits, word_depth, word_of, word_of-tag_at, words, ℕ, ◌∙◌}
 use Rattle.tag_core.specs.Spacing.{list_at, clock_at, turn_at, word_at, aside_at, state_at, table_width}
 
 -- different lists stand at different indexes

@@ -1,15 +1,8 @@
 -- A tag's bits in words and masks, and what they are once one word is changed.
-use Rattle.std.proofs.Common.{◌≡◌, ◌≢◌, ℕ, ◌-◌, ◌/◌, ◌%◌, ◌^◌, ◌<◌, ◌≤◌, List, length, get_or, set, bit_or, min, max, arith, ap, ◌∙◌, get_or-set_other, get_or-set_same, eq-eqb, ne_eqb}
-use Rattle.std.specs.Int.{bit_at, trailing_zeros, w64}
-use Rattle.std.proofs.lemmas.Nat.{pow_pos, pow_below, mod_below}
-use Rattle.std.proofs.lemmas.Nat.Bits.{bit_at_or, bit_at-lt, bit_at-zero, bit_at-pow_same, bit_at-pow_other, bit_at-trailing_zeros}
+use Rattle.std.specs.Prelude.{◌%◌, ◌-◌, ◌/◌, ◌<◌, ◌^◌, ◌≡◌, ◌≢◌, ◌≤◌}
+use Rattle.tag_core.proofs.Uses.{ap, arith, bit_at, bit_at-lt, bit_at-pow_other, bit_at-pow_same, bit_at-trailing_zeros, bit_at-zero, bit_at_or, bit_or, changed_at, eq-eqb, get_or, get_or-set_other, get_or-set_same, length, List, max, min, mod_below, ne_eqb, one_if-le, place_of, pow_below, pow_pos}
+use Rattle.tag_core.proofs.Uses.{set, Shape, tag_at, tag_at-back, tag_bit, trailing_zeros, w64, without, word_depth, word_of, ℕ, ◌∙◌}
 use Rattle.std.proofs.Math.Pow.{pow_mono}
-use Rattle.sums.proofs.Laws.{one_if-le}
-use Rattle.tag_layout.specs.Layout.{word_depth, word_of, place_of, tag_at}
-use Rattle.tag_layout.proofs.PlaceFacts.{tag_at-back}
-use Rattle.tag_core.specs.declared.shape.Shape.{Shape}
-use Rattle.tag_core.specs.Steps.{changed_at, without}
-use Rattle.tag_core.specs.Records.{tag_bit}
 use Rattle.tag_core.proofs.Picks.{among, only}
 use Rattle.tag_core.proofs.Masks.{bit_minus}
 use Rattle.tag_core.proofs.Stand.{same_tag}

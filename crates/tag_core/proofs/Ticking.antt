@@ -1,12 +1,7 @@
 -- Words of which the rule says nothing may change at any time.
-use Rattle.std.proofs.Common.{◌≡◌, ℕ, ◌<◌, List, get_or, set, arith, refl, sym, subst, ◌∙◌, length-set, get_or-set_other}
-use Rattle.atomic_table.specs.Table.{State, Me, keeps, Allows}
-use Rattle.tag_core.specs.Views.{View}
-use Rattle.tag_core.specs.declared.shape.Shape.{Shape}
-use Rattle.tag_core.specs.declared.map.Map.{Map}
+use Rattle.std.specs.Prelude.{◌<◌, ◌≡◌}
+use Rattle.tag_core.proofs.Uses.{Allows, arith, Cells, cells_of, get_or, get_or-set_other, HasCells, keeps, length-set, List, Map, Me, refl, set, Shape, Shown, State, subst, sym, View, ℕ, ◌∙◌}
 use Rattle.tag_core.specs.Spacing.{list_at, word_at, aside_at, state_at}
-use Rattle.tag_core.specs.Histories.{Cells, cells_of}
-use Rattle.tag_core.specs.Rule.{HasCells, Shown}
 use Rattle.tag_core.proofs.Fronts.{set_same}
 use Rattle.tag_core.proofs.Stand.{IsApart}
 

@@ -1,6 +1,6 @@
 -- Sums over lists that grow.
-use Rattle.std.proofs.Common.{◌≡◌, ℕ, zero, suc, ◌+◌, ◌<◌, List, [], ◌∷◌, length, take, get_or, arith, ap, ◌∙◌}
-use Rattle.tag_core.specs.Sizes.{total_of}
+use Rattle.std.specs.Prelude.{◌+◌, ◌<◌, ◌∷◌, ◌≡◌}
+use Rattle.tag_core.proofs.Uses.{[], ap, arith, get_or, length, List, suc, take, total_of, zero, ℕ, ◌∙◌}
 
 -- the total of one element more
 pub total_of-next : (f : ℕ → ℕ) (xs : List ℕ) (i : ℕ) → i < length xs

@@ -1,10 +1,6 @@
 -- What each event does to what one tag's place shows.
-use Rattle.std.proofs.Common.{◌≡◌, ◌≢◌, ℕ, ◌-◌, ◌<◌, min, max, nat_eq, arith, refl, sym, ap, eq-eqb, ne_eqb}
-use Rattle.sums.specs.Below.{one_if}
-use Rattle.sums.proofs.Laws.{one_if-le}
-use Rattle.tag_model.specs.declared.place.Place.{Place}
-use Rattle.tag_model.specs.declared.place.Place.TheVariants.{Free as free, Held as held, Posted as posted, Aside as aside, Sweep as sweep}
-use Rattle.tag_core.specs.Bits.{word_bit, aside_bit, posted_bit, held_bit, sweep_bit}
+use Rattle.std.specs.Prelude.{◌-◌, ◌<◌, ◌≡◌, ◌≢◌}
+use Rattle.tag_core.proofs.Uses.{ap, arith, aside, aside_bit, eq-eqb, free, held, held_bit, max, min, nat_eq, ne_eqb, one_if, one_if-le, Place, posted, posted_bit, refl, sweep, sweep_bit, sym, word_bit, ℕ}
 use Rattle.tag_core.proofs.Picks.{pick}
 
 same : (c : ℕ) → one_if (nat_eq c c) ≡ 1

@@ -1,11 +1,7 @@
 -- A seat has a slot for each tag that its caller holds.
-use Rattle.std.proofs.Common.{◌≡◌, ℕ, ◌<◌, List, map, replicate, length, arith}
-use mathlib.Core.Option.{some, none}
+use Rattle.std.specs.Prelude.{◌<◌, ◌≡◌}
+use Rattle.tag_core.proofs.Uses.{arith, Caller, Holds, length, length-replicate, List, map, none, replicate, slot_of, some, tag_bit, tags_from, value_of, ℕ}
 use mathlib.Core.Option as maybe
-use lib.ListN.{length-replicate}
-use Rattle.tag_core.specs.declared.caller.Caller.{Caller}
-use Rattle.tag_core.specs.Records.{tag_bit, tags_from, value_of}
-use Rattle.tag_core.specs.Callers.{Holds, slot_of}
 use Rattle.tag_core.proofs.Acts.{moves}
 
 -- each tag that is carried has a value

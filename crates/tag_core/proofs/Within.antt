@@ -1,12 +1,6 @@
 -- Held masks and sweeps stay within the words' usable bits.
-use Rattle.std.proofs.Common.{◌≡◌, ℕ, ◌^◌, ◌<◌, List, length, get_or, set, arith, get_or-set_same, get_or-set_other}
-use Rattle.std.proofs.lemmas.Nat.{or_lt, pow_pos}
-use Rattle.tag_layout.specs.Layout.{Layout, words, word_depth, IsWithin}
-use Rattle.tag_model.specs.Event.{IsInLayout}
-use Rattle.tag_core.specs.declared.step.Step.{Step}
-use Rattle.tag_core.specs.Steps.{without}
-use Rattle.tag_core.specs.Histories.{Cells, FindsIn, event_of}
-use Rattle.tag_core.specs.Records.{held_after, swept_after}
+use Rattle.std.specs.Prelude.{◌<◌, ◌^◌, ◌≡◌}
+use Rattle.tag_core.proofs.Uses.{arith, Cells, event_of, FindsIn, get_or, get_or-set_other, get_or-set_same, held_after, IsInLayout, IsWithin, Layout, length, List, or_lt, pow_pos, set, Step, swept_after, without, word_depth, words, ℕ}
 use Rattle.tag_core.proofs.Masks.{minus_le}
 use Rattle.tag_core.proofs.Stand.{tag_mask_within}
 

@@ -1,8 +1,5 @@
 -- What a tag's place shows in the words, in its state and in the masks of a caller: 1 or 0.
-use Rattle.std.specs.Prelude.{ℕ, nat_eq}
-use Rattle.tag_model.specs.declared.place.Place.{Place}
-use Rattle.tag_model.specs.declared.place.Place.TheVariants.{Free, Held, Posted, Aside, Sweep}
-use Rattle.sums.specs.Below.{one_if}
+use Rattle.tag_core.specs.Uses.{Aside, Free, Held, nat_eq, one_if, Place, Posted, Sweep, ℕ}
 
 -- the tag's bit in `word`: 1 is taken
 abbrev pub word_bit : Place → ℕ

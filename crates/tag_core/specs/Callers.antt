@@ -1,9 +1,7 @@
 -- What contracts see of a map and of its callers.
-use Rattle.std.specs.Prelude.{◌≡◌, ℕ, ◌<◌, List, length, replicate}
-use mathlib.Core.Option.{some}
+use Rattle.std.specs.Prelude.{◌<◌, ◌≡◌}
+use Rattle.tag_core.specs.Uses.{get_elem?, Layout, length, List, replicate, some, words, ℕ}
 use mathlib.Core.Option as maybe
-use lib.ListN.{get_elem?}
-use Rattle.tag_layout.specs.Layout.{Layout, words}
 use Rattle.tag_core.specs.declared.step.Step.{Step}
 use Rattle.tag_core.specs.declared.record.Record.{Record}
 use Rattle.tag_core.specs.declared.caller.Caller.{Caller}

@@ -1,8 +1,6 @@
 -- Maps one after another: each goes on where the one before it ended.
-use Rattle.std.specs.Prelude.{◌≡◌, ℕ, ◌<◌, List, [], ◌∷◌}
-use Rattle.tag_model.specs.declared.totals.Totals.{Totals}
-use Rattle.tag_model.specs.Event.{won_by, back_by}
-use Rattle.tag_model.specs.Totals.{held_in, posted_in}
+use Rattle.std.specs.Prelude.{◌<◌, ◌∷◌, ◌≡◌}
+use Rattle.tag_core.specs.Uses.{[], back_by, held_in, List, posted_in, Totals, won_by, ℕ}
 use Rattle.tag_core.specs.declared.shape.Shape.{Shape}
 use Rattle.tag_core.specs.Histories.{History, IsLawful, events_of, opening_world, world_of}
 use Rattle.tag_core.specs.Records.{StartsAtZero}
@@ -24,9 +22,11 @@ pub record GoesOn {R : Type 0} (last : Epoch R) (next : Shape) : Type 0 where
   pub back : (c : ℕ) → c < last.shape.callers → (opening_world next).back c ≡ (world_of last.shape last.history).back c
 
 -- these are the maps before this one, the newest first; before the first of all nobody had won a tag or given one back
-abbrev pub IsChain : {R : Type 0} → Shape → List (Epoch R) → Type 0
-IsChain k [] = StartsAtZero k
-IsChain k (last ∷ older) = GoesOn last k × IsChain last.shape older
+pub data IsChain {R : Type 0} : Shape → List (Epoch R) → Type 0 where
+  opened : {k : Shape} → StartsAtZero k → IsChain k []
+  reopened :
+      {k : Shape} {last : Epoch R} {older : List (Epoch R)}
+      → GoesOn last k → IsChain last.shape older → IsChain k (last ∷ older)
 
 -- some chain of maps leads to this one
 abbrev pub HasChain : (R : Type 0) → Shape → Type 0
@@ -40,11 +40,12 @@ won_along {R} epochs = total_of (λ (e : Epoch R). total_of won_by (events_of e.
 abbrev pub back_along : {R : Type 0} → List (Epoch R) → ℕ
 back_along {R} epochs = total_of (λ (e : Epoch R). total_of back_by (events_of e.shape.layout e.history)) epochs
 
--- a chain leads to this map, and along each such chain the totals are what its steps and those of this map won and
--- gave back
+-- the totals count what the steps of these maps won and gave back
+pub record CountsAll {R : Type 0} (epochs : List (Epoch R)) (totals : Totals) : Type 0 where
+  pub got : totals.got ≡ won_along epochs
+  pub back : totals.back ≡ back_along epochs
+
+-- a chain leads to this map; and whichever leads to it, the totals count its maps and, after them, this one
 pub record CountsChain {R : Type 0} (k : Shape) (h : History R) (totals : Totals) : Type 0 where
   pub leads : HasChain R k
-  pub got : (older : List (Epoch R)) → IsChain k older
-      → totals.got ≡ won_along (record { shape = k; history = h } ∷ older)
-  pub back : (older : List (Epoch R)) → IsChain k older
-      → totals.back ≡ back_along (record { shape = k; history = h } ∷ older)
+  pub counts : (older : List (Epoch R)) → IsChain k older → CountsAll (record { shape = k; history = h } ∷ older) totals

@@ -1,7 +1,6 @@
 -- What a claim of one place does.
-use Rattle.std.specs.Prelude.{◌≡◌, ℕ, ◌^◌, ◌<◌}
-use Rattle.std.specs.Int.{bit_at}
-use Rattle.tag_layout.specs.Layout.{Layout, word_of, place_of}
+use Rattle.std.specs.Prelude.{◌<◌, ◌^◌, ◌≡◌}
+use Rattle.tag_core.specs.Uses.{bit_at, Layout, place_of, word_of, ℕ}
 use Rattle.tag_core.specs.declared.caller.Caller.{Caller}
 use Rattle.tag_core.specs.declared.step.Step.TheVariants.{Word}
 use Rattle.tag_core.specs.declared.word_step.WordStep.TheVariants.{Claimed}

@@ -1,11 +1,6 @@
 -- What all callers of a map show when they come together.
-use Rattle.std.specs.Prelude.{◌≡◌, ℕ, ◌+◌, ◌<◌, List, length, map, nat_eq, slice_index}
-use mathlib.Core.Option.{some}
-use lib.ListN.{get_elem?}
-use Rattle.sums.specs.Below.{sum_below, one_if}
-use Rattle.tag_layout.specs.Layout.{Layout}
-use Rattle.tag_model.specs.declared.place.Place.TheVariants.{Posted}
-use Rattle.tag_model.specs.Totals.{AreTotals}
+use Rattle.std.specs.Prelude.{◌+◌, ◌<◌, ◌≡◌}
+use Rattle.tag_core.specs.Uses.{AreTotals, get_elem?, Layout, length, List, map, nat_eq, one_if, Posted, slice_index, some, sum_below, ℕ}
 use Rattle.tag_core.specs.declared.shape.Shape.{Shape}
 use Rattle.tag_core.specs.declared.record.Record.{Record}
 use Rattle.tag_core.specs.declared.caller.Caller.{Caller}

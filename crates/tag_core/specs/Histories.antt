@@ -1,10 +1,7 @@
 -- Histories: steps by the callers of a map, the newest first, each of which finds what the older ones leave.
-use Rattle.std.specs.Prelude.{◌≡◌, ℕ, zero, suc, ◌<◌, List, [], ◌∷◌, cond, nat_eq, slice_index, Some}
-use mathlib.Core.Option.{some, none}
+use Rattle.std.specs.Prelude.{◌<◌, ◌∷◌, ◌≡◌}
+use Rattle.tag_core.specs.Uses.{[], cond, Free, Layout, List, nat_eq, none, slice_index, Some, some, suc, tag_at, trailing_zeros, w64, zero, ℕ}
 use mathlib.Core.Option as maybe
-use Rattle.std.specs.Int.{trailing_zeros, w64}
-use Rattle.tag_layout.specs.Layout.{Layout, tag_at}
-use Rattle.tag_model.specs.declared.place.Place.TheVariants.{Free}
 use Rattle.tag_model.specs.declared.event.Event.{Event}
 use Rattle.tag_model.specs.declared.event.Event.TheVariants as event
 use Rattle.tag_model.specs.World.{World}

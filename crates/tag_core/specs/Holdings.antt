@@ -1,7 +1,6 @@
 -- How the tags that a caller holds change.
-use Rattle.std.specs.Prelude.{◌≡◌, ◌⊎◌, ℕ, IsTrue}
-use Rattle.tag_layout.specs.Layout.{Layout}
-use Rattle.tag_model.specs.Event.{is_in_mask}
+use Rattle.std.specs.Prelude.{◌≡◌, ◌⊎◌}
+use Rattle.tag_core.specs.Uses.{is_in_mask, IsTrue, Layout, ℕ}
 use Rattle.tag_core.specs.declared.caller.Caller.{Caller}
 use Rattle.tag_core.specs.Callers.{Holds, slot_of}
 

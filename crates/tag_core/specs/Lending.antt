@@ -1,7 +1,6 @@
 -- Callers that lend their records, so that all come together for a while.
-use Rattle.std.specs.Prelude.{◌≡◌, List}
-use mathlib.Core.Option.{some}
-use lib.ListN.{get_elem?}
+use Rattle.std.specs.Prelude.{◌≡◌}
+use Rattle.tag_core.specs.Uses.{get_elem?, List, some}
 use Rattle.tag_core.specs.declared.shape.Shape.{Shape}
 use Rattle.tag_core.specs.declared.record.Record.{Record}
 use Rattle.tag_core.specs.declared.caller.Caller.{Caller}

@@ -1,8 +1,8 @@
 -- What a caller's record shows alone, and what two callers of a map show when they come together.
-use Rattle.std.specs.Prelude.{◌≡◌, ◌≢◌, ℕ, ◌<◌}
+use Rattle.std.specs.Prelude.{◌<◌, ◌≡◌, ◌≢◌}
+use Rattle.tag_core.specs.Uses.{IsWithin, words, ℕ}
 use Rattle.tag_core.specs.declared.shape.Shape.{Shape}
 use Rattle.tag_core.specs.declared.record.Record.{Record}
-use Rattle.tag_layout.specs.Layout.{words, IsWithin}
 use Rattle.tag_core.specs.Histories.{History, cells_of, world_of, IsLawful}
 use Rattle.tag_core.specs.Records.{tag_bit}
 use Rattle.tag_core.specs.Rule.{ShowsTag, IsKnown}

@@ -1,8 +1,6 @@
 -- A new map, and its callers.
-use Rattle.std.specs.Prelude.{◌≡◌, ℕ, List, length}
-use mathlib.Core.Option.{some}
-use lib.ListN.{get_elem?}
-use Rattle.tag_layout.specs.Layout.{Layout}
+use Rattle.std.specs.Prelude.{◌≡◌}
+use Rattle.tag_core.specs.Uses.{get_elem?, Layout, length, List, some, ℕ}
 use Rattle.tag_core.specs.declared.caller.Caller.{Caller}
 use Rattle.tag_core.specs.declared.map.Map.{Map}
 use Rattle.tag_core.specs.Records.{fresh_record, StartsAtZero}

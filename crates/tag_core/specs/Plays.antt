@@ -1,16 +1,8 @@
 -- What each kind of step on the table tells the caller that makes it.
-use Rattle.std.specs.Prelude.{◌≡◌, ◌≢◌, ℕ, ◌+◌, ◌-◌, ◌*◌, ◌^◌, ◌<◌, ◌≤◌, List, [], ◌∷◌, map, length, slice_index, Some, None}
-use mathlib.Core.Option.{some}
-use lib.ListN.{get_elem?}
-use Rattle.std.specs.Int.{bit_at}
-use Rattle.atomic_table.specs.Table.{Me}
+use Rattle.std.specs.Prelude.{◌*◌, ◌+◌, ◌-◌, ◌<◌, ◌^◌, ◌∷◌, ◌≡◌, ◌≢◌, ◌≤◌}
+use Rattle.tag_core.specs.Uses.{[], back_by, bit_at, get_elem?, length, List, map, Me, MOST_WON, None, own_view, place_of, slice_index, Some, some, Totals, viewing, word_of, ℕ}
 use Rattle.atomic_table.specs.Table as table
-use Rattle.step_ledger.specs.Views.{viewing, own_view}
 use Rattle.tag_core.specs.Views.{View}
-use Rattle.tag_layout.specs.Layout.{word_of, place_of}
-use Rattle.tag_model.specs.declared.totals.Totals.{Totals}
-use Rattle.tag_model.specs.declared.world.TheConstants.{MOST_WON}
-use Rattle.tag_model.specs.Event.{back_by}
 use Rattle.tag_core.specs.declared.step.Step.{Step}
 use Rattle.tag_core.specs.declared.step.Step.TheVariants.{Word, Post, Take, Bell}
 use Rattle.tag_core.specs.declared.bell_step.BellStep.TheVariants.{Enlist, Sight, Tell, GetUp}

@@ -1,10 +1,7 @@
 -- What is known of one caller, how its own steps change it, and the slots that it carries.
-use Rattle.std.specs.Prelude.{◌≡◌, ℕ, zero, suc, ◌+◌, ◌^◌, List, [], ◌∷◌, map, replicate, cond, nat_eq, bit_or, slice_index, slice_set}
-use mathlib.Core.Option.{some, none}
+use Rattle.std.specs.Prelude.{◌+◌, ◌^◌, ◌∷◌, ◌≡◌}
+use Rattle.tag_core.specs.Uses.{[], back_by, bit_at, bit_or, cond, Layout, List, map, nat_eq, none, place_of, replicate, slice_index, slice_set, some, suc, won_by, word_of, words, zero, ℕ}
 use mathlib.Core.Option as maybe
-use Rattle.std.specs.Int.{bit_at}
-use Rattle.tag_layout.specs.Layout.{Layout, words, word_of, place_of}
-use Rattle.tag_model.specs.Event.{won_by, back_by}
 use Rattle.tag_core.specs.declared.shape.Shape.{Shape}
 use Rattle.tag_core.specs.declared.step.Step.{Step}
 use Rattle.tag_core.specs.declared.step.Step.TheVariants.{Word, Post, Take, Bell}

@@ -1,9 +1,6 @@
 -- A next map, in which the callers of one that has ended go on.
-use Rattle.std.specs.Prelude.{◌≡◌, ℕ, List, [], ◌∷◌, length, map, replicate, slice_index}
-use mathlib.Core.Option.{some}
-use lib.ListN.{get_elem?}
-use Rattle.tag_layout.specs.Layout.{Layout, words}
-use Rattle.tag_model.specs.declared.place.Place.TheVariants.{Free}
+use Rattle.std.specs.Prelude.{◌∷◌, ◌≡◌}
+use Rattle.tag_core.specs.Uses.{[], Free, get_elem?, Layout, length, List, map, replicate, slice_index, some, words, ℕ}
 use Rattle.tag_core.specs.declared.shape.Shape.{Shape}
 use Rattle.tag_core.specs.declared.record.Record.{Record}
 use Rattle.tag_core.specs.declared.caller.Caller.{Caller}

@@ -1,18 +1,9 @@
 -- The rule of the table: words, states, slots and records show one world, which one history of all callers' steps
 -- gives.
-use Rattle.std.specs.Prelude.{◌≡◌, ◌≤◌, ◌<◌, ℕ, List, length, slice_index}
-use mathlib.Core.Option.{some, none}
+use Rattle.std.specs.Prelude.{◌<◌, ◌≡◌, ◌≤◌}
+use Rattle.tag_core.specs.Uses.{back_in, bit_at, EachStands, get_elem?, got_in, Held, IsWithin, length, List, MOST_WON, none, Place, place_of, Posted, slice_index, some, State, word_of, words, ℕ}
 use mathlib.Core.Option as maybe
-use lib.ListN.{get_elem?}
-use Rattle.std.specs.Int.{bit_at}
-use Rattle.atomic_table.specs.Table.{State}
 use Rattle.tag_core.specs.Views.{View}
-use Rattle.step_ledger.specs.Views.{EachStands}
-use Rattle.tag_layout.specs.Layout.{words, word_of, place_of, IsWithin}
-use Rattle.tag_model.specs.declared.place.Place.{Place}
-use Rattle.tag_model.specs.declared.place.Place.TheVariants.{Held, Posted}
-use Rattle.tag_model.specs.declared.world.TheConstants.{MOST_WON}
-use Rattle.tag_model.specs.Totals.{got_in, back_in}
 use Rattle.tag_core.specs.declared.shape.Shape.{Shape}
 use Rattle.tag_core.specs.declared.record.Record.{Record}
 use Rattle.tag_core.specs.declared.bell.TheConstants.{LISTS}

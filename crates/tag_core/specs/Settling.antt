@@ -1,9 +1,6 @@
 -- All callers of a map together, so that nobody else acts.
-use Rattle.std.specs.Prelude.{◌≡◌, ℕ, ◌+◌, ◌<◌, ◌≤◌, List, length}
-use mathlib.Core.Option.{some}
-use lib.ListN.{get_elem?}
-use Rattle.tag_model.specs.declared.totals.Totals.{Totals}
-use Rattle.tag_model.specs.Totals.{AreTotals}
+use Rattle.std.specs.Prelude.{◌+◌, ◌<◌, ◌≡◌, ◌≤◌}
+use Rattle.tag_core.specs.Uses.{AreTotals, get_elem?, length, List, some, Totals, ℕ}
 use Rattle.tag_core.specs.declared.shape.Shape.{Shape}
 use Rattle.tag_core.specs.declared.record.Record.{Record}
 use Rattle.tag_core.specs.Histories.{History, IsLawful, world_of}

@@ -1,8 +1,8 @@
 -- Where the lists of who waits, their turns, the words, the cleared sets and the states stand in the table. A spare word
 -- at 0, the lists behind it and the clock of turns share 64 bytes; then come 64 words of turns, one for each caller; and
 -- each word, its cleared set behind it, and then each state has 64 bytes of its own.
-use Rattle.std.specs.Prelude.{ℕ, ◌+◌, ◌*◌}
-use Rattle.tag_layout.specs.Layout.{Layout, words}
+use Rattle.std.specs.Prelude.{◌*◌, ◌+◌}
+use Rattle.tag_core.specs.Uses.{Layout, words, ℕ}
 
 -- the index of a list of the callers that wait
 unfoldable pub list_at : ℕ → ℕ

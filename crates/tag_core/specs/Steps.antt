@@ -1,6 +1,6 @@
 -- What a step on the words of a map finds, and what it leaves.
-use Rattle.std.specs.Prelude.{◌≡◌, ℕ, ◌-◌, ◌^◌, List, [], ◌∷◌, cond, nat_eq, bit_and, bit_or}
-use Rattle.std.specs.Int.{trailing_zeros, w64}
+use Rattle.std.specs.Prelude.{◌-◌, ◌^◌, ◌∷◌, ◌≡◌}
+use Rattle.tag_core.specs.Uses.{[], bit_and, bit_or, cond, List, nat_eq, trailing_zeros, w64, ℕ}
 use Rattle.tag_core.specs.declared.word_step.WordStep.{WordStep}
 use Rattle.tag_core.specs.declared.word_step.WordStep.TheVariants.{Look, LookAside, Claimed, Give, Put, Swap, Keep, Spill}
 

@@ -1,7 +1,7 @@
 -- Views of callers' records, and the steps in them.
-use Rattle.std.specs.Prelude.{ℕ, List, [], ◌∷◌}
+use Rattle.std.specs.Prelude.{◌∷◌}
+use Rattle.tag_core.specs.Uses.{[], List, records_from, viewing, ℕ}
 use Rattle.step_ledger.specs.declared.record.View as ledger
-use Rattle.step_ledger.specs.Views.{viewing, records_from}
 use Rattle.tag_core.specs.declared.shape.Shape.{Shape}
 use Rattle.tag_core.specs.declared.step.Step.{Step}
 use Rattle.tag_core.specs.declared.record.Record.{Record}

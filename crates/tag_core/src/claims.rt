@@ -10,10 +10,22 @@ ghost use Rattle.tag_core.specs.declared.step.Step.TheVariants.{Word};
 ghost use Rattle.tag_core.specs.declared.word_step.WordStep.TheVariants.{Claimed};
 
 use crate::caller::Caller;
-use crate::claim::{Claim, Spent};
 use crate::map::Map;
 use crate::plays::Claiming;
 use crate::spots::word_spot;
+
+/// What one claim won.
+#[derive(Clone, Copy, Debug, PartialEq, Eq)]
+pub struct Claim {
+    /// The bits of the mask that were 0, whose tags the caller now holds: 1 is won.
+    pub won: u64,
+    /// The word just before the step: 1 is taken.
+    pub found: u64,
+}
+
+/// The tags asked for could exceed the caller's life. No step was made.
+#[derive(Clone, Copy, Debug, PartialEq, Eq)]
+pub struct Spent;
 
 impl<R> Map<R> {
     /// Sets the bits of the mask in a word, and wins the tags whose bits were 0. One step, `fetch_or`. `Spent`: the
@@ -32,7 +44,8 @@ impl<R> Map<R> {
         ensures spent { IsErr result ↔ ((record_of caller.old).shape.life < (record_of caller.old).won + count_ones mask) }
         ensures unchanged { OnErr result (caller.new ≡ caller.old) }
     {
-        if !caller.room(mask.count_ones()) {
+        let asked = mask.count_ones();
+        if !caller.room(asked) {
             return Err(Spent);
         }
         let table = &self.table.shared;
@@ -40,7 +53,7 @@ impl<R> Map<R> {
         let won = mask & !found;
         let held = caller.held[word as usize] | won;
         caller.held[word as usize] = held;
-        caller.won += won.count_ones() as u64;
+        caller.won += count_part(won, mask, asked) as u64;
         Ok(Claim { won, found })
     }
 
@@ -71,6 +84,15 @@ impl<R> Map<R> {
         caller.won += 1;
         Ok(())
     }
+}
+
+/// Returns the number of bits of a part of a mask that has `all` bits. Those of the whole mask are not counted again.
+#[inline(always)]
+fn count_part(part: u64, mask: u64, all: u32) -> u32
+    requires { all ≡ count_ones mask }
+    ensures { result ≡ count_ones part }
+{
+    if part == mask { all } else { part.count_ones() }
 }
 
 impl<R> Caller<R> {

@@ -5,7 +5,6 @@
 mod bell;
 mod bell_step;
 mod caller;
-mod claim;
 mod claims;
 mod clears;
 mod closed;
@@ -35,7 +34,7 @@ mod word_step;
 pub use bell::LISTS;
 pub use bell_step::BellStep;
 pub use caller::Caller;
-pub use claim::{Claim, Spent};
+pub use claims::{Claim, Spent};
 pub use closed::{Closed, GatherFault};
 pub use kept::Kept;
 pub use loans::{Lender, Loans};

@@ -1,3 +1,4 @@
+mod Uses
 pub mod PlaceFacts
 pub mod ShareFacts
 pub mod Scans

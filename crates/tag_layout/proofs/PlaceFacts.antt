@@ -1,9 +1,7 @@
 -- Where words begin and end, and which tags stand in them.
-use Rattle.std.proofs.Common.{◌≡◌, ℕ, zero, suc, ◌+◌, ◌-◌, ◌*◌, ◌/◌, ◌%◌, ◌^◌, ◌<◌, ◌≤◌, min, bit_and, arith, ap, ◌∙◌}
-use Rattle.std.proofs.lemmas.Nat.{pow_pos, one_shl, and_mask, le-div, mod_below, div-mul-add, mod-mul-add, div-add-mod'}
-use Rattle.std.proofs.Math.Nat.{mul-le-mul_right, pow-le-pow_right}
-use Rattle.sums.specs.Below.{sum_below}
-use Rattle.tag_layout.specs.Layout.{Layout, word_bits, words, word_of, place_of, tag_at, word_depth}
+use Rattle.std.specs.Prelude.{◌%◌, ◌*◌, ◌+◌, ◌-◌, ◌/◌, ◌<◌, ◌^◌, ◌≡◌, ◌≤◌}
+use Rattle.tag_layout.proofs.Uses.{and_mask, ap, arith, bit_and, div-add-mod', div-mul-add, Layout, le-div, min, mod-mul-add, mod_below, mul-le-mul_right, one_shl, place_of, pow-le-pow_right, pow_pos, suc, sum_below, tag_at, word_bits, word_depth, word_of, words, zero, ℕ}
+use Rattle.tag_layout.proofs.Uses.{◌∙◌}
 
 -- a word has a bit
 pub word_bits-pos : (l : Layout) → 0 < word_bits l
@@ -69,10 +67,6 @@ word_depths-sum l = let sum = sum_below-word_depth l (words l) in let room = dep
 -- the low bits of a tag, as the code masks them out
 pub low_bits : (tag shift : ℕ) → shift ≤ 6 → bit_and tag (1 * 2 ^ shift % 2 ^ 32 - 1) ≡ tag % 2 ^ shift
 low_bits tag shift h = ap (λ x. bit_and tag (x - 1)) (one_shl shift 32 (omega arith)) ∙ and_mask tag shift
-
--- a word's first tag, as the code shifts it
-pub shifted : (word shift : ℕ) → word * 2 ^ shift < 2 ^ 32 → word * 2 ^ shift % 2 ^ 32 ≡ word * 2 ^ shift
-shifted word shift h = omega arith
 
 -- a whole word has at most 64 bits
 pub word_bits-le : (l : Layout) → l.shift ≤ 6 → word_bits l ≤ 64

@@ -1,11 +1,7 @@
 -- What the lowest 1 of a word's clear bits says of its places.
-use Rattle.std.proofs.Common.{◌≡◌, ℕ, ◌+◌, ◌-◌, ◌/◌, ◌%◌, ◌^◌, ◌<◌, ◌≤◌, arith, ap, ◌∙◌}
-use mathlib.Core.Logic.{dite}
-use native.Mathlib.Decide.{dec_lt}
+use Rattle.std.specs.Prelude.{◌%◌, ◌+◌, ◌-◌, ◌/◌, ◌<◌, ◌^◌, ◌≡◌, ◌≤◌}
+use Rattle.tag_layout.proofs.Uses.{ap, arith, bit_at, bit_at-lt, bit_at-trailing_zeros, bit_at-zero, bit_at_not, dec_lt, dite, shr-shr, shr_le, trailing_zeros, w64, ℕ, ◌∙◌}
 use lib.Count.{count_trailing_zeros}
-use Rattle.std.specs.Int.{bit_at, w64, trailing_zeros}
-use Rattle.std.proofs.lemmas.Nat.{shr-shr, shr_le}
-use Rattle.std.proofs.lemmas.Nat.Bits.{bit_at-lt, bit_at_not, bit_at-zero, bit_at-trailing_zeros}
 use Rattle.tag_layout.specs.Bits.{AllSet, IsFirstClear}
 
 -- a bit of what is left after a shift

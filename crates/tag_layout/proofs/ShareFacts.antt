@@ -1,11 +1,6 @@
 -- How a shallow depth is shared out: the words' limits, and a share by one multiplication.
-use Rattle.std.proofs.Common.{◌≡◌, ℕ, zero, suc, ◌+◌, ◌-◌, ◌*◌, ◌/◌, ◌%◌, ◌^◌, ◌<◌, ◌≤◌, min, arith, sym, ap, ◌∙◌}
-use mathlib.Core.Logic.{dite}
-use native.Mathlib.Decide.{dec_lt}
-use Rattle.std.proofs.lemmas.Nat.{le-div, mod_below, div-mul-add, div-add-mod'}
-use Rattle.std.proofs.Math.Nat.{mul-le-mul_left, mul-le-mul_right}
-use Rattle.sums.specs.Below.{sum_below}
-use Rattle.tag_layout.specs.Layout.{Layout, word_bits, words, word_depth, share, shallow_limit}
+use Rattle.std.specs.Prelude.{◌%◌, ◌*◌, ◌+◌, ◌-◌, ◌/◌, ◌<◌, ◌^◌, ◌≡◌, ◌≤◌}
+use Rattle.tag_layout.proofs.Uses.{ap, arith, dec_lt, dite, div-add-mod', div-mul-add, Layout, le-div, min, mod_below, mul-le-mul_left, mul-le-mul_right, shallow_limit, share, suc, sum_below, sym, word_bits, word_depth, words, zero, ℕ, ◌∙◌}
 use Rattle.tag_layout.proofs.PlaceFacts.{word_bits-pos, depth-le-words}
 
 -- a quotient is between its bounds

@@ -1,16 +1,7 @@
 -- In every run the tags won are those given back, held and posted.
-use Rattle.std.proofs.Common.{◌≡◌, ℕ, ◌+◌, ◌<◌, ◌==◌, List, [], ◌∷◌, Bool, cond, IsTrue, arith, refl, sym, ap, ◌∙◌, eq-eqb, ne_eqb}
-use Rattle.sums.specs.Below.{sum_below, one_if}
-use Rattle.sums.proofs.Laws.{sum_below-none, sum_below-same, sum_below-add, sum_below-only, sum_below-more}
-use Rattle.tag_layout.specs.Layout.{Layout}
-use Rattle.tag_model.specs.declared.place.Place.{Place}
-use Rattle.tag_model.specs.declared.place.Place.TheVariants.{Free, Held, Posted, Aside}
-use Rattle.tag_model.specs.declared.event.Event.{Event}
-use Rattle.tag_model.specs.declared.event.Event.TheVariants.{Look, Win, Put, Give, Sweep, Keep, Spill, Post, Take}
-use Rattle.tag_model.specs.Event.{caller_of, is_in_mask, names, swept_by, spilled_by, won_by, back_by}
-use Rattle.tag_model.specs.World.{World, opened, place_after, plus_at, after, MayHappen}
-use Rattle.tag_model.specs.Runs.{after_all, MayRun, after_history, IsHistory}
-use Rattle.tag_model.specs.Totals.{is_held, is_posted, held_in, posted_in, Balances}
+use Rattle.std.specs.Prelude.{◌+◌, ◌<◌, ◌==◌, ◌∷◌, ◌≡◌}
+use Rattle.tag_model.proofs.Uses.{[], after, after_all, after_history, ap, arith, Aside, back_by, Balances, Bool, caller_of, cond, eq-eqb, Event, Free, Give, Held, held_in, is_held, is_in_mask, is_posted, IsHistory, IsTrue, Keep, Layout, List, Look, MayHappen, MayRun, names, ne_eqb, one_if, opened}
+use Rattle.tag_model.proofs.Uses.{Place, place_after, plus_at, Post, Posted, posted_in, Put, refl, Spill, spilled_by, sum_below, sum_below-add, sum_below-more, sum_below-none, sum_below-only, sum_below-same, Sweep, swept_by, sym, Take, Win, won_by, World, ℕ, ◌∙◌}
 use Rattle.tag_model.proofs.MaskFacts.{sum_below-mask}
 
 -- 1 for a tag that was won and not given back

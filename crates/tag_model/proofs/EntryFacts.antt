@@ -1,15 +1,9 @@
 -- Two entries for each tag: which of them counts, and what a write and a turn change.
-use Rattle.std.proofs.Common.{◌≡◌, ◌≢◌, ℕ, ◌+◌, ◌%◌, ◌<◌, ◌==◌, List, map, length, get_or, set, replicate, true, false, cond, bit_xor, arith, sym, ap, ◌∙◌, get_or-set_same, get_or-set_other}
-use Rattle.std.proofs.Math.Path.{fun_ext}
+use Rattle.std.specs.Prelude.{◌%◌, ◌+◌, ◌<◌, ◌==◌, ◌≡◌, ◌≢◌}
+use Rattle.tag_model.proofs.Uses.{ap, arith, bit_at-lt, bit_at_xor, bit_xor, chosen, cond, ext_get_or, false, Free, fun_ext, get_or, get_or-replicate, get_or-set_other, get_or-set_same, is_in_mask, is_turned, Layout, length, length-replicate, List, map, Place, replicate, set, sym, true, ℕ}
+use Rattle.tag_model.proofs.Uses.{◌∙◌}
 use Rattle.std.specs.List.{range_with_len}
-use Rattle.std.proofs.lemmas.List.{ext_get_or, length-replicate, get_or-replicate}
 use Rattle.std.proofs.lemmas.List.FromFn.{get_or-map-range_with_len, length-map-range_with_len}
-use Rattle.std.proofs.lemmas.Nat.Bits.{bit_at_xor, bit_at-lt}
-use Rattle.tag_layout.specs.Layout.{Layout}
-use Rattle.tag_model.specs.declared.place.Place.{Place}
-use Rattle.tag_model.specs.declared.place.Place.TheVariants.{Free}
-use Rattle.tag_model.specs.Event.{is_in_mask}
-use Rattle.tag_model.specs.Entries.{is_turned, chosen}
 
 module _ (l : Layout) (turned : List ℕ) where
   -- the entry of one tag
@@ -40,39 +34,63 @@ module _ (l : Layout) (turned : List ℕ) where
   entry-second first second tag other place far = grind (arith, get_or-set_other)
 
   -- the entry that doesn't count may be written
-  pub same-first : (first second : List Place) (tag : ℕ) (place : Place) → is_turned l turned tag ≡ true
+  same-first : (first second : List Place) (tag : ℕ) (place : Place) → is_turned l turned tag ≡ true
       → chosen l turned (set first tag place) second ≡ chosen l turned first second
   same-first first second tag place is = ap (λ (f : ℕ → Place). map f (range_with_len 0 l.depth))
       (fun_ext {f = entry (set first tag place) second} {g = entry first second}
       (λ (k : ℕ). grind (arith, entry-first)))
 
-  pub same-second : (first second : List Place) (tag : ℕ) (place : Place) → is_turned l turned tag ≡ false
+  same-second : (first second : List Place) (tag : ℕ) (place : Place) → is_turned l turned tag ≡ false
       → chosen l turned first (set second tag place) ≡ chosen l turned first second
   same-second first second tag place is = ap (λ (f : ℕ → Place). map f (range_with_len 0 l.depth))
       (fun_ext {f = entry first (set second tag place)} {g = entry first second}
       (λ (k : ℕ). grind (arith, entry-second)))
 
   -- the entry that was written
-  pub here-first : (first second : List Place) (tag : ℕ) (place : Place) → is_turned l turned tag ≡ false
+  here-first : (first second : List Place) (tag : ℕ) (place : Place) → is_turned l turned tag ≡ false
       → tag < l.depth → length first ≡ l.depth
       → get_or (chosen l turned (set first tag place) second) tag Free ≡ place
   here-first first second tag place is h long = grind (arith, chosen-at, get_or-set_same)
 
-  pub here-second : (first second : List Place) (tag : ℕ) (place : Place) → is_turned l turned tag ≡ true
+  here-second : (first second : List Place) (tag : ℕ) (place : Place) → is_turned l turned tag ≡ true
       → tag < l.depth → length second ≡ l.depth
       → get_or (chosen l turned first (set second tag place)) tag Free ≡ place
   here-second first second tag place is h long = grind (arith, chosen-at, get_or-set_same)
 
   -- the other tags' entries
-  pub others-first : (first second : List Place) (tag other : ℕ) (place : Place) → other < l.depth → other ≢ tag
+  others-first : (first second : List Place) (tag other : ℕ) (place : Place) → other < l.depth → other ≢ tag
       → get_or (chosen l turned (set first tag place) second) other Free
       ≡ get_or (chosen l turned first second) other Free
   others-first first second tag other place h far = grind (arith, chosen-at, get_or-set_other)
 
-  pub others-second : (first second : List Place) (tag other : ℕ) (place : Place) → other < l.depth → other ≢ tag
+  others-second : (first second : List Place) (tag other : ℕ) (place : Place) → other < l.depth → other ≢ tag
       → get_or (chosen l turned first (set second tag place)) other Free
       ≡ get_or (chosen l turned first second) other Free
   others-second first second tag other place h far = grind (arith, chosen-at, get_or-set_other)
+
+  -- the tag's entry that doesn't count was written: those that count are the same, and this place alone is ready anew
+  pub record MadeReady (first second first' second' : List Place) (tag : ℕ) (place : Place) : Type 0 where
+    pub same : chosen l turned first' second' ≡ chosen l turned first second
+    pub here : get_or (chosen l turned second' first') tag Free ≡ place
+    pub others :
+        (other : ℕ) → other < l.depth → other ≢ tag
+        → get_or (chosen l turned second' first') other Free ≡ get_or (chosen l turned second first) other Free
+
+  pub ready-first : (first second : List Place) (tag : ℕ) (place : Place) → is_turned l turned tag ≡ true
+      → tag < l.depth → length first ≡ l.depth → MadeReady first second (set first tag place) second tag place
+  ready-first first second tag place is h long = record {
+    same = same-first first second tag place is;
+    here = here-second second first tag place is h long;
+    others = λ other low far. others-second second first tag other place low far;
+  }
+
+  pub ready-second : (first second : List Place) (tag : ℕ) (place : Place) → is_turned l turned tag ≡ false
+      → tag < l.depth → length second ≡ l.depth → MadeReady first second first (set second tag place) tag place
+  ready-second first second tag place is h long = record {
+    same = same-second first second tag place is;
+    here = here-first second first tag place is h long;
+    others = λ other low far. others-first second first tag other place low far;
+  }
 
   -- where all entries are free, those that count are
   pub chosen-free : (first second : List Place) → first ≡ replicate l.depth Free → second ≡ replicate l.depth Free

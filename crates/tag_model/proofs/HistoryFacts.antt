@@ -1,12 +1,7 @@
 -- Counts in the worlds of a history: nobody wins more than one may, or gives back more than all win.
-use Rattle.std.proofs.Common.{◌≡◌, ◌≢◌, ℕ, ◌+◌, ◌*◌, ◌<◌, ◌≤◌, List, [], ◌∷◌, arith, eq-eqb, ne_eqb}
-use Rattle.sums.proofs.Laws.{le-sum_below, sum_below-bound}
-use Rattle.tag_layout.specs.Layout.{Layout}
-use Rattle.tag_model.specs.declared.event.Event.{Event}
+use Rattle.std.specs.Prelude.{◌*◌, ◌+◌, ◌<◌, ◌∷◌, ◌≡◌, ◌≢◌, ◌≤◌}
+use Rattle.tag_model.proofs.Uses.{[], after, after_history, arith, Balances, eq-eqb, Event, IsHistory, Layout, le-sum_below, List, MayHappen, ne_eqb, plus_at, sum_below-bound, World, ℕ}
 use Rattle.tag_model.specs.declared.world.TheConstants.{MOST_WON}
-use Rattle.tag_model.specs.World.{World, plus_at, after, MayHappen}
-use Rattle.tag_model.specs.Runs.{after_history, IsHistory}
-use Rattle.tag_model.specs.Totals.{Balances}
 use Rattle.tag_model.proofs.BalanceFacts.{balances-history}
 
 pub plus_at-here : (g : ℕ → ℕ) (c n : ℕ) → plus_at c n g c ≡ g c + n

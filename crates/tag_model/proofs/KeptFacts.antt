@@ -1,19 +1,7 @@
 -- Worlds as they are kept: sums and counts of their lists, and the lists after an event.
-use Rattle.std.proofs.Common.{◌≡◌, ℕ, ◌+◌, ◌*◌, ◌<◌, ◌≤◌, List, length, get_or, set, replicate, arith, refl, sym, ap, ◌∙◌, subst, get_or-set_same, get_or-set_other, length-set, Vec, Global}
-use Rattle.std.proofs.Math.Path.{fun_ext}
-use Rattle.std.specs.Vec.{with_items}
-use Rattle.std.proofs.Math.Nat.{mul-le-mul_right}
-use Rattle.std.proofs.lemmas.List.{with_items_is, length-replicate, get_or-replicate, get_or_past}
-use Rattle.sums.specs.Below.{sum_below}
-use Rattle.sums.proofs.Laws.{sum_below-bound, le-sum_below}
-use Rattle.tag_layout.specs.Layout.{Layout}
-use Rattle.tag_model.specs.declared.place.Place.{Place}
-use Rattle.tag_model.specs.declared.place.Place.TheVariants.{Free}
-use Rattle.tag_model.specs.declared.event.Event.{Event}
-use Rattle.tag_model.specs.Event.{caller_of, IsInLayout, won_by, back_by}
-use Rattle.tag_model.specs.World.{World, opened, place_after, plus_at, after, MayHappen}
-use Rattle.tag_model.specs.Totals.{Balances}
-use Rattle.tag_model.specs.Kept.{KeptWorld, callers_of, world_of, IsSound, Happens, MovesTags}
+use Rattle.std.specs.Prelude.{◌*◌, ◌+◌, ◌<◌, ◌≡◌, ◌≤◌}
+use Rattle.tag_model.proofs.Uses.{after, ap, arith, back_by, Balances, caller_of, callers_of, Event, Free, fun_ext, get_or, get_or-replicate, get_or-set_other, get_or-set_same, get_or_past, Global, Happens, IsInLayout, IsSound, KeptWorld, Layout, le-sum_below, length, length-replicate, length-set}
+use Rattle.tag_model.proofs.Uses.{List, MayHappen, MovesTags, mul-le-mul_right, opened, Place, place_after, plus_at, refl, replicate, set, subst, sum_below, sum_below-bound, sym, Vec, with_items, with_items_is, won_by, World, world_of, ℕ, ◌∙◌}
 use Rattle.tag_model.proofs.MaskFacts.{in_mask-past}
 use Rattle.tag_model.proofs.BalanceFacts.{balances-after, balances-opened}
 

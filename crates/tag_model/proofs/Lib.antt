@@ -1,3 +1,4 @@
+mod Uses
 pub mod RunFacts
 pub mod MaskFacts
 pub mod BalanceFacts

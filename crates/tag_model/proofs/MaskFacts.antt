@@ -1,17 +1,11 @@
 -- The tags of a mask: which they are, and how many.
-use Rattle.std.proofs.Common.{◌≡◌, ◌≢◌, ℕ, zero, suc, ◌+◌, ◌*◌, ◌/◌, ◌^◌, ◌<◌, ◌≤◌, ◌==◌, ◌&&◌, Bool, false, count_ones, arith, ap, ◌∙◌, ⊎_elim, eq-eqb, ne_eqb}
-use mathlib.Core.Logic.{dite}
-use native.Mathlib.Decide.{ℕ_discrete}
+use Rattle.std.specs.Prelude.{◌&&◌, ◌*◌, ◌+◌, ◌/◌, ◌<◌, ◌==◌, ◌^◌, ◌≡◌, ◌≢◌, ◌≤◌}
+use Rattle.tag_model.proofs.Uses.{ap, arith, bit_at-lt, bit_at-pow_other, bit_at-pow_same, bit_at-suc, bit_at_above, bit_at_lowest, Bool, count_ones, dite, eq-eqb, false, is_in_mask, IsWithin, Layout, ne_eqb, one_if, one_if-bit, place_of, pow-suc, suc, sum_below, sum_below-same, sum_below-split}
+use Rattle.tag_model.proofs.Uses.{sum_below-window, word_bits, word_depth, word_of, words, zero, ℕ, ℕ_discrete, ⊎_elim, ◌∙◌}
 use lib.Count.{ones_step}
 use Rattle.std.specs.Int.{bit_at}
-use Rattle.std.proofs.Math.Nat.{pow-suc}
 use Rattle.std.proofs.lemmas.Nat.{ones-le}
-use Rattle.std.proofs.lemmas.Nat.Bits.{bit_at-lt, bit_at_lowest, bit_at-suc, bit_at_above, bit_at-pow_same, bit_at-pow_other}
-use Rattle.sums.specs.Below.{sum_below, one_if}
-use Rattle.sums.proofs.Laws.{sum_below-same, sum_below-split, sum_below-window, one_if-bit}
-use Rattle.tag_layout.specs.Layout.{Layout, word_bits, words, word_of, place_of, word_depth, IsWithin}
 use Rattle.tag_layout.proofs.PlaceFacts.{word-start, word_bits-pos, tag_at-back, place_of-below, word_of-tag_at, place_of-tag_at}
-use Rattle.tag_model.specs.Event.{is_in_mask}
 
 -- the sum of the bits is their number
 pub sum_below-bits : (width mask : ℕ) → mask < 2 ^ width → sum_below (bit_at mask) width ≡ count_ones mask

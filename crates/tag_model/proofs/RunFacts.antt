@@ -1,11 +1,7 @@
 -- Runs of two lists, and of one event more.
-use Rattle.std.proofs.Common.{◌≡◌, ℕ, ◌+◌, List, [], ◌∷◌, ◌++◌, length, arith, refl, sym, ap, ◌∙◌, subst, append_assoc, length-append}
-use Rattle.tag_layout.specs.Layout.{Layout}
-use Rattle.tag_model.specs.declared.event.Event.{Event}
+use Rattle.std.specs.Prelude.{◌++◌, ◌+◌, ◌∷◌, ◌≡◌}
+use Rattle.tag_model.proofs.Uses.{[], after, after_all, ap, append_assoc, arith, callers_of, Event, Happens, IsFirstFault, KeptWorld, Layout, length, length-append, List, MayHappen, MayRun, Ran, refl, StopsAt, subst, sym, World, world_of, ℕ, ◌∙◌}
 use Rattle.tag_model.specs.declared.event.EventFault.{EventFault}
-use Rattle.tag_model.specs.World.{World, after, MayHappen, IsFirstFault}
-use Rattle.tag_model.specs.Runs.{after_all, MayRun, StopsAt}
-use Rattle.tag_model.specs.Kept.{KeptWorld, callers_of, world_of, Happens, Ran}
 use Rattle.tag_model.specs.Laws.{RunsJoin}
 
 module _ (l : Layout) where

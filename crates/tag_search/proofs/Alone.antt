@@ -1,15 +1,7 @@
 -- The effect of passes and visits if no other caller steps.
-use Rattle.std.proofs.Common.{◌≡◌, ℕ, ◌<◌, ◌≤◌, Bool, true, false, not, ◌&&◌, ◌||◌, nat_eq, eq-eqb, List, [], ◌∷◌, ◌++◌, get_or, Option, Some, None, arith, refl}
-use Rattle.std.proofs.Common.{sym, ap, ◌∙◌, subst}
-use Rattle.std.specs.Prelude.{All}
-use Rattle.std.specs.Int.{bit_at}
-use Rattle.tag_core.specs.declared.word_step.WordStep.{WordStep}
-use Rattle.tag_core.specs.Steps.{Words, Quiet, words_after, words_after_all}
-use Rattle.tag_search.specs.Choice.{IsFree, IsSet, IsAside, IsBusy, IsFirst}
-use Rattle.tag_search.specs.PlainLaws.{words_after-append}
-use Rattle.tag_search.specs.Pool.{Pool, pool_of, freed_in, taken_at}
-use Rattle.tag_search.specs.Search.{AllTaken, IsTries, none_left, wins, loses, IsPass, pass, IsSweep, IsRetry, no_turn}
-use Rattle.tag_search.specs.Search.{turn_won, turn_kept, turn_passed, IsVisit, at_once, retried}
+use Rattle.std.specs.Prelude.{◌&&◌, ◌++◌, ◌<◌, ◌||◌, ◌∷◌, ◌≡◌, ◌≤◌}
+use Rattle.tag_search.proofs.Uses.{[], All, AllTaken, ap, arith, at_once, bit_at, Bool, eq-eqb, false, freed_in, get_or, IsAside, IsBusy, IsFirst, IsFree, IsPass, IsRetry, IsSet, IsSweep, IsTries, IsVisit, List, loses, nat_eq, no_turn, None, none_left, not, Option, pass, Pool, pool_of, Quiet, refl}
+use Rattle.tag_search.proofs.Uses.{retried, Some, subst, sym, taken_at, true, turn_kept, turn_passed, turn_won, wins, Words, words_after, words_after-append, words_after_all, WordStep, ℕ, ◌∙◌}
 use Rattle.tag_search.proofs.Passes.{all_behind}
 use Rattle.tag_search.proofs.KeptPlaces.{kept_has, kept_pool, kept_aside, kept_first}
 use Rattle.tag_search.proofs.Pools.{free_here, aside_of_open, freed_twice}

@@ -1,29 +1,13 @@
 -- The only caller of a map: its own steps determine the words, so gets are choices.
-use Rattle.std.proofs.Common.{◌≡◌, ℕ, ◌<◌, ◌≤◌, ◌^◌, nat_eq}
-use Rattle.std.proofs.Common.{List, [], ◌∷◌, arith, refl, sym, ap, ◌∙◌, subst}
+use Rattle.std.specs.Prelude.{◌<◌, ◌^◌, ◌∷◌, ◌≡◌, ◌≤◌}
+use Rattle.tag_search.proofs.Uses.{[], Adds, AddsAll, ap, arith, Bell, Caller, Cells, cells_left, Claimed, EachFinds, Finds, FindsIn, free_at, Give, is_posted, IsAlone, Keep, Layout, LeavesPool, List, Look, LookAside, nat_eq, own_after, place_of, place_of-below, Pool, pool_left, pool_of, Post, Put}
+use Rattle.tag_search.proofs.Uses.{Quiet, Record, record_of, refl, set_aside, Shape, shape_after, Spill, Step, steps_by, subst, Swap, sym, Take, Word, word_bits-le, Words, words_after_all, words_left, WordStep, ℕ, ◌∙◌}
 use Rattle.std.proofs.Math.Logic.{∥∥₁_elim}
 use native.Mathlib.Nat.{ℕ_set}
-use Rattle.tag_layout.specs.Layout.{Layout, place_of}
-use Rattle.tag_layout.proofs.PlaceFacts.{place_of-below, word_bits-le}
-use Rattle.tag_core.specs.declared.shape.Shape.{Shape}
-use Rattle.tag_core.specs.declared.step.Step.{Step}
-use Rattle.tag_core.specs.declared.step.Step.TheVariants.{Word, Post, Take, Bell}
 use Rattle.tag_core.specs.declared.bell_step.BellStep.{BellStep}
 use Rattle.tag_core.specs.declared.bell_step.BellStep.TheVariants.{Enlist, Sight, Tell, GetUp}
-use Rattle.tag_core.specs.declared.word_step.WordStep.{WordStep}
-use Rattle.tag_core.specs.declared.word_step.WordStep.TheVariants.{Look, LookAside, Claimed, Give, Put, Swap, Keep, Spill}
-use Rattle.tag_core.specs.declared.record.Record.{Record}
-use Rattle.tag_core.specs.declared.caller.Caller.{Caller}
-use Rattle.tag_core.specs.Steps.{Words, Finds, Quiet, words_after_all}
 use Rattle.tag_core.specs.Lists.{FindsListed}
-use Rattle.tag_core.specs.Histories.{Cells, FindsIn, EachFinds, steps_by}
 use Rattle.tag_core.specs.Meeting.{HasHistory}
-use Rattle.tag_core.specs.Callers.{record_of, Adds}
-use Rattle.tag_search.specs.AloneLaws.{cells_left, words_left, own_after}
-use Rattle.tag_search.specs.Alone.{IsAlone, pool_left, is_posted, LeavesPool}
-use Rattle.tag_search.specs.Pool.{Pool, pool_of, set_aside, free_at}
-use Rattle.tag_search.specs.SharedLaws.{shape_after}
-use Rattle.tag_search.specs.Shared.{AddsAll}
 use Rattle.tag_search.proofs.AloneFacts.{EachFound, own_of_record, each_found, found_changes}
 use Rattle.tag_search.proofs.PlainPools.{put_pool, give_pool}
 

@@ -1,19 +1,8 @@
 -- The steps of a map's only caller are its whole history, so each finds what the caller's own earlier steps left.
-use Rattle.std.proofs.Common.{◌≡◌, ℕ, ◌<◌, Bool, cond, List, [], ◌∷◌, ◌++◌, arith, refl, sym, ap, ◌∙◌, subst}
+use Rattle.std.specs.Prelude.{◌++◌, ◌<◌, ◌∷◌, ◌≡◌}
+use Rattle.tag_search.proofs.Uses.{[], AloneBatchesChoose, AloneGetsChoose, ap, AreAlone, arith, batch_words, Bool, Cells, cells_after, cells_left, cells_of, cond, EachFinds, FindsIn, History, IsBatchChoice, IsChoice, List, own_after, Pool, pool_of, Quiet, Record, record_after, record_after_all}
+use Rattle.tag_search.proofs.Uses.{refl, Shape, Step, steps_by, subst, sym, Word, Words, words_after_all, words_left, WordStep, ℕ, ◌∙◌}
 use Rattle.std.proofs.lemmas.Bool.{eq-eqb}
-use Rattle.tag_core.specs.declared.record.Record.{Record}
-use Rattle.tag_core.specs.declared.shape.Shape.{Shape}
-use Rattle.tag_core.specs.declared.step.Step.{Step}
-use Rattle.tag_core.specs.declared.step.Step.TheVariants.{Word}
-use Rattle.tag_core.specs.declared.word_step.WordStep.{WordStep}
-use Rattle.tag_core.specs.Histories.{Cells, FindsIn, cells_after, History, cells_of, EachFinds, steps_by}
-use Rattle.tag_core.specs.Records.{record_after}
-use Rattle.tag_core.specs.Steps.{Words, Quiet, words_after_all}
-use Rattle.tag_search.specs.AloneLaws.{cells_left, words_left, own_after, AreAlone, AloneGetsChoose, AloneBatchesChoose}
-use Rattle.tag_search.specs.Batch.{batch_words}
-use Rattle.tag_search.specs.Choice.{IsChoice, IsBatchChoice}
-use Rattle.tag_search.specs.Pool.{Pool, pool_of}
-use Rattle.tag_search.specs.Shared.{record_after_all}
 
 -- the steps of a record after more steps on words
 pub own_of_record : {R : Type 0} (steps : List WordStep) (r : Record R) → (record_after_all steps r).steps

@@ -1,26 +1,8 @@
 -- If no other caller steps, a search for several tags answers the choice.
-use Rattle.std.proofs.Common.{◌≡◌, ◌≢◌, ◌↔◌, ℕ, ◌+◌, ◌-◌, ◌*◌, ◌^◌, ◌<◌, ◌≤◌, min, Bool, true, ◌&&◌, nat_eq, nat_lt}
-use Rattle.std.proofs.Common.{nat_le, List, [], ◌∷◌, ◌++◌, get_or, Option, Some, None, arith, sym, ap, ◌∙◌, subst}
-use mathlib.Core.Logic.{dite}
-use native.Mathlib.Decide.{dec_lt}
-use Rattle.std.specs.Prelude.{All}
-use Rattle.std.specs.Int.{bit_at}
-use Rattle.std.proofs.lemmas.Bool.{lt-ltb, le-ltb, le-leb, lt-leb}
-use Rattle.std.proofs.lemmas.List.Elements.{All-nil, All-cons}
-use Rattle.std.proofs.lemmas.Nat.{pow_pos}
-use Rattle.std.proofs.lemmas.Nat.Bits.{bit_at_and, bit_at-lt, bit_at-zero, bit_at_ones, bit_at_ones_above}
-use Rattle.std.proofs.lemmas.Nat.Bits.{bit_at_cat_low, bit_at_cat_high}
-use Rattle.tag_core.specs.declared.word_step.WordStep.{WordStep}
-use Rattle.tag_core.specs.declared.word_step.WordStep.TheVariants.{Look, Claimed}
-use Rattle.tag_core.specs.Steps.{Words, Quiet, words_after, words_after_all, without}
-use Rattle.tag_layout.specs.Bits.{IsFirstClear}
-use Rattle.tag_layout.specs.Layout.{Layout, word_bits, word_depth, tag_at}
-use Rattle.tag_layout.proofs.Scans.{bit_at-shr}
-use Rattle.tag_search.specs.Batch.{run_mask, run_won, IsSweptLook, swept_look, IsBatchVisit, no_run, run_lost}
-use Rattle.tag_search.specs.Batch.{run_taken, IsBatchSearch, batch_over, batch_won, batch_passed}
-use Rattle.tag_search.specs.Choice.{IsLeastAvailable, HasNoRun, IsAvailableRun, IsBatchChoice, no_batch, batch}
-use Rattle.tag_search.specs.PlainLaws.{words_after-append}
-use Rattle.tag_search.specs.Pool.{Pool, pool_of, is_available, freed_in, taken_from}
+use Rattle.std.specs.Prelude.{◌&&◌, ◌*◌, ◌++◌, ◌+◌, ◌-◌, ◌<◌, ◌^◌, ◌↔◌, ◌∷◌, ◌≡◌, ◌≢◌, ◌≤◌}
+use Rattle.tag_search.proofs.Uses.{[], All, All-cons, All-nil, ap, arith, batch, batch_over, batch_passed, batch_won, bit_at, bit_at-lt, bit_at-shr, bit_at-zero, bit_at_and, bit_at_cat_high, bit_at_cat_low, bit_at_ones, bit_at_ones_above, Bool, Claimed, dec_lt, dite, freed_in, get_or, HasNoRun}
+use Rattle.tag_search.proofs.Uses.{is_available, IsAvailableRun, IsBatchChoice, IsBatchSearch, IsBatchVisit, IsFirstClear, IsLeastAvailable, IsSweptLook, Layout, le-leb, le-ltb, List, Look, lt-leb, lt-ltb, min, nat_eq, nat_le, nat_lt, no_batch, no_run, None, Option, Pool, pool_of, pow_pos, Quiet}
+use Rattle.tag_search.proofs.Uses.{run_lost, run_mask, run_taken, run_won, Some, subst, swept_look, sym, tag_at, taken_from, true, without, word_bits, word_depth, Words, words_after, words_after-append, words_after_all, WordStep, ℕ, ◌∙◌}
 use Rattle.tag_search.proofs.Alone.{quiet-split}
 use Rattle.tag_search.proofs.Pools.{free_here, available_freed, least_same, freed_none, freed_before, freed_between}
 use Rattle.tag_search.proofs.Pools.{taken_same, and_false}

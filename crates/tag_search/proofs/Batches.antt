@@ -1,19 +1,7 @@
 -- What is known in the middle of a search for several tags.
-use Rattle.std.proofs.Common.{◌≡◌, ℕ, zero, suc, ◌+◌, ◌*◌, ◌/◌, ◌%◌, ◌^◌, ◌<◌, ◌≤◌, true, List, [], ◌∷◌}
-use Rattle.std.proofs.Common.{◌++◌, length, Option, Some, None, arith, refl, sym, ap, ◌∙◌, subst}
-use mathlib.Core.Logic.{dite}
-use native.Mathlib.Decide.{dec_lt}
-use Rattle.std.proofs.lemmas.List.{append_assoc, length-append}
-use Rattle.tag_core.specs.declared.word_step.WordStep.{WordStep}
-use Rattle.tag_core.specs.declared.word_step.WordStep.TheVariants.{Look, Claimed}
-use Rattle.tag_layout.specs.Bits.{AllSet, IsFirstClear}
-use Rattle.tag_layout.specs.Layout.{Layout, words, word_of, tag_at}
-use Rattle.tag_layout.proofs.PlaceFacts.{word_bits-le, word_of-below}
-use Rattle.std.proofs.lemmas.Nat.{mod_below, pow_pos}
-use Rattle.tag_search.specs.Hints.{reduced}
-use Rattle.tag_search.specs.Batch.{run_mask, IsSweptLook, swept_look, IsBatchVisit, no_run, run_lost, run_taken}
-use Rattle.tag_search.specs.Batch.{IsBatchSearch, batch_over, batch_won, batch_passed, IsBatchGet}
-use Rattle.tag_search.specs.Order.{numbers, scan_order}
+use Rattle.std.specs.Prelude.{◌%◌, ◌*◌, ◌++◌, ◌+◌, ◌/◌, ◌<◌, ◌^◌, ◌∷◌, ◌≡◌, ◌≤◌}
+use Rattle.tag_search.proofs.Uses.{[], AllSet, ap, append_assoc, arith, batch_over, batch_passed, batch_won, Claimed, dec_lt, dite, IsBatchGet, IsBatchSearch, IsBatchVisit, IsFirstClear, IsSweptLook, Layout, length, length-append, List, Look, mod_below, no_run, None, numbers, Option, pow_pos}
+use Rattle.tag_search.proofs.Uses.{reduced, refl, run_lost, run_mask, run_taken, scan_order, Some, subst, suc, swept_look, sym, tag_at, true, word_bits-le, word_of, word_of-below, words, WordStep, zero, ℕ, ◌∙◌}
 use Rattle.tag_search.proofs.BatchAlone.{batch_alone}
 use Rattle.tag_search.proofs.Bounds.{sweep_bound}
 use Rattle.tag_search.proofs.Orders.{length-numbers, order-split}

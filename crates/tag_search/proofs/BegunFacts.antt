@@ -1,30 +1,10 @@
 -- What a get has done before it is finished.
-use Rattle.std.proofs.Common.{◌≡◌, ℕ, ◌+◌, ◌^◌, ◌≤◌, List, [], ◌∷◌, ◌++◌, true, arith, refl, sym, ap, ◌∙◌, subst}
-use Rattle.std.proofs.lemmas.List.{append-nil}
-use Rattle.std.specs.Int.{bit_at}
-use Rattle.step_ledger.specs.History.{total}
-use Rattle.tag_layout.specs.Layout.{Layout, word_of, word_depth}
-use Rattle.tag_layout.specs.Bits.{IsFirstClear, AllSet}
-use Rattle.tag_core.specs.declared.word_step.WordStep.{WordStep}
-use Rattle.tag_core.specs.declared.word_step.WordStep.TheVariants.{Look, LookAside, Claimed, Give, Put, Swap, Keep, Spill}
-use Rattle.tag_core.specs.declared.caller.Caller.{Caller}
-use Rattle.tag_core.specs.declared.record.Record.{Record}
-use Rattle.tag_core.specs.declared.step.Step.TheVariants.{Word}
-use Rattle.tag_core.specs.Callers.{record_of}
-use Rattle.tag_core.specs.Records.{record_after}
-use Rattle.tag_search.specs.declared.hint.Hint.{Hint}
+use Rattle.std.specs.Prelude.{◌++◌, ◌+◌, ◌^◌, ◌∷◌, ◌≡◌, ◌≤◌}
+use Rattle.tag_search.proofs.Uses.{[], AllSet, AllTaken, ap, append-nil, arith, bit_at, Caller, Claimed, Completes, Full, Give, given, Hint, IsBegun, IsFirstClear, IsFirstInRank, IsGet, IsMissed, IsRestOfGet, IsTries, Keep, Layout, List, Look, LookAside, loses, Lost, Makes, MissesFirst, NotBegun}
+use Rattle.tag_search.proofs.Uses.{numbers, Option, pass, places_of, Put, Record, record_after, record_after_all, record_of, refl, scan_order, shape_after, Spill, subst, Swap, sym, total, true, Unfinished, visits_from, Word, word_depth, word_of, WordStep, ℕ, ◌∙◌}
 use Rattle.tag_search.specs.declared.pass.Missed.TheVariants.{Full as NoneClear, Lost as LostIn}
 use Rattle.tag_search.specs.declared.rank.Rank.{Rank}
-use Rattle.tag_search.specs.declared.search.Unfinished.{Unfinished}
-use Rattle.tag_search.specs.declared.search.Unfinished.TheVariants.{NotBegun, Full, Lost}
-use Rattle.tag_search.specs.Begun.{IsBegun}
 use Rattle.tag_search.specs.Freed.{spilled}
-use Rattle.tag_search.specs.Order.{numbers, scan_order}
-use Rattle.tag_search.specs.Places.{places_of}
-use Rattle.tag_search.specs.Search.{AllTaken, IsFirstInRank, IsTries, loses, pass}
-use Rattle.tag_search.specs.Shared.{Makes, record_after_all}
-use Rattle.tag_search.specs.SharedLaws.{shape_after}
-use Rattle.tag_search.specs.Tries.{IsMissed, given}
 use Rattle.tag_search.proofs.Passes.{full_pass}
 use Rattle.tag_search.proofs.Orders.{numbers-at, all_numbers, order-split}
 
@@ -33,14 +13,14 @@ pub begun_frees_none : (l : Layout) (hint : Hint) (rest : Unfinished) (steps : L
     → IsBegun l hint rest steps → total spilled steps ≡ 0
 begun_frees_none l hint NotBegun steps none = ap (λ (xs : List WordStep). total spilled xs) none
 begun_frees_none l hint Full steps tried = tried.freed
-begun_frees_none l hint (Lost from found) steps tried = tried.2.freed
+begun_frees_none l hint (Lost from found) steps tried = tried.missed.freed
 
 -- and none was given back
 pub begun_gives_none : (l : Layout) (hint : Hint) (rest : Unfinished) (steps : List WordStep)
     → IsBegun l hint rest steps → total given steps ≡ 0
 begun_gives_none l hint NotBegun steps none = ap (λ (xs : List WordStep). total given xs) none
 begun_gives_none l hint Full steps tried = tried.kept
-begun_gives_none l hint (Lost from found) steps tried = tried.2.kept
+begun_gives_none l hint (Lost from found) steps tried = tried.missed.kept
 
 -- the number of a caller stays, and what it gave back grows by what its steps give back
 number_after : {R : Type 0} (steps : List WordStep) (r : Record R) → (record_after_all steps r).number ≡ r.number
@@ -104,6 +84,22 @@ pub rank_places : (rest : Rank) → rest.then ≡ 0 → places_of rest ≡ numbe
 rank_places rest none = ap (λ (end : ℕ). numbers rest.from rest.limit ++ numbers 0 end) none
     ∙ append-nil (numbers rest.from rest.limit)
 
+-- steps that complete a first try over a rank complete it for any rank with the same places left
+pub rest_after_lost : (l : Layout) (hint : Hint) (from found : ℕ) (answer : Option ℕ) {rest : Rank}
+    (steps : List WordStep)
+    → Completes (MissesFirst l hint (LostIn rest found)) (IsGet l (visits_from l hint) answer) steps
+    → rest.then ≡ 0 → rest.from ≡ from → rest.limit ≡ word_depth l (word_of l hint.at)
+    → IsRestOfGet l hint (Lost from found) answer steps
+rest_after_lost l hint from found answer {rest} steps done none first most before lost = done before (record {
+  goes_on = λ more answer' tries. lost.missed.goes_on more answer'
+      (subst (λ (xs : List ℕ). IsTries (word_of l hint.at) xs found more answer') same tries);
+  freed = lost.missed.freed;
+  kept = lost.missed.kept;
+})
+  where
+    same : places_of rest ≡ places_of lost.rest
+    same = rank_places rest none ∙ (λ j. numbers (first j) (most j)) ∙ sym lost.left
+
 module _ (l : Layout) (hint : Hint) (word limit found : ℕ) (at : word ≡ word_of l hint.at)
     (most : limit ≡ word_depth l (word_of l hint.at)) where
   -- a get that has found its word full
@@ -120,15 +116,15 @@ module _ (l : Layout) (hint : Hint) (word limit found : ℕ) (at : word ≡ word
       → IsBegun l hint (Lost (place + 1) next) (Look word found ∷ Claimed word (2 ^ place) next ∷ [])
   begun_lost place next small is taken =
       let rest : Rank = record { from = place + 1; limit = limit; then = 0; ends = small; wraps = omega arith } in
-      let places : places_of rest ≡ numbers (place + 1) limit = rank_places rest refl in (
-        rest,
-        places ∙ ap (numbers (place + 1)) most,
-        subst (λ (x : ℕ × ℕ). IsMissed x.0 (scan_order 0 x.1 true) (LostIn rest next)
+      let places : places_of rest ≡ numbers (place + 1) limit = rank_places rest refl in record {
+        rest = rest;
+        left = places ∙ ap (numbers (place + 1)) most;
+        missed = subst (λ (x : ℕ × ℕ). IsMissed x.0 (scan_order 0 x.1 true) (LostIn rest next)
             (Look word found ∷ Claimed word (2 ^ place) next ∷ []))
             (λ z. (at z, most z)) (record {
               goes_on = λ more answer tries. pass (loses (first_whole found limit place is) taken
                   (subst (λ (xs : List ℕ). IsTries word xs next more answer) places tries));
               freed = refl;
               kept = refl;
-            }),
-      )
+            });
+      }

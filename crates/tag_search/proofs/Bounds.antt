@@ -1,16 +1,7 @@
 -- Bounds on the number of steps of a search.
-use Rattle.std.proofs.Common.{◌≡◌, ℕ, zero, suc, ◌+◌, ◌*◌, ◌<◌, ◌≤◌, Bool, true, false, cond, nat_eq, List, [], ◌∷◌, ◌++◌, length, map, Option, arith}
-use Rattle.std.proofs.Common.{ap, ◌∙◌}
-use Rattle.std.specs.Prelude.{All}
-use Rattle.std.proofs.lemmas.List.{length-append}
-use Rattle.std.proofs.lemmas.List.Elements.{All-head, All-tail}
-use Rattle.tag_core.specs.declared.word_step.WordStep.{WordStep}
-use Rattle.tag_layout.specs.Layout.{Layout, word_bits, words, word_depth}
-use Rattle.tag_search.specs.Order.{numbers}
-use Rattle.tag_search.specs.Search.{IsTries, none_left, wins, loses, IsPass, pass, IsSweep, unseen, empty, spilled}
-use Rattle.tag_search.specs.Search.{IsRetry, no_turn, turn_won, turn_kept, turn_passed, IsKeepingSweep, kept_alone, kept_one, IsVisit, at_once, retried, Visit}
-use Rattle.tag_search.specs.Search.{IsSearch, over, won, passed, most_turns}
-use Rattle.tag_search.specs.Visits.{Reach, visit_of, visits}
+use Rattle.std.specs.Prelude.{◌*◌, ◌++◌, ◌+◌, ◌<◌, ◌∷◌, ◌≡◌, ◌≤◌}
+use Rattle.tag_search.proofs.Uses.{[], All, All-head, All-tail, ap, arith, at_once, Bool, cond, empty, false, IsKeepingSweep, IsPass, IsRetry, IsSearch, IsSweep, IsTries, IsVisit, kept_alone, kept_one, Layout, length, length-append, List, loses, map, most_turns, nat_eq, no_turn, none_left, numbers}
+use Rattle.tag_search.proofs.Uses.{Option, over, pass, passed, Reach, retried, spilled, suc, true, turn_kept, turn_passed, turn_won, unseen, Visit, visit_of, visits, wins, won, word_bits, word_depth, words, WordStep, zero, ℕ, ◌∙◌}
 use Rattle.tag_search.proofs.Orders.{length-scan_order, all_numbers}
 use Rattle.tag_search.proofs.Passes.{fewer_left}
 use Rattle.tag_search.proofs.Searches.{visits-split}

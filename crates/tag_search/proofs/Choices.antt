@@ -1,19 +1,7 @@
 -- If no other caller steps, a search answers the choice.
-use Rattle.std.proofs.Common.{◌≢◌, ℕ, zero, suc, ◌+◌, ◌-◌, ◌<◌, ◌≤◌, List, [], ◌∷◌, ◌++◌}
-use Rattle.std.proofs.Common.{map, Option, Some, None, arith, sym, ap, ◌∙◌, subst}
-use Rattle.std.specs.Prelude.{All}
-use Rattle.std.proofs.lemmas.List.Elements.{All-nil, All-cons, All-head, All-tail, All-append, All-map, All-weaker}
-use Rattle.tag_core.specs.declared.word_step.WordStep.{WordStep}
-use Rattle.tag_core.specs.Steps.{Words, Quiet, words_after_all}
-use Rattle.tag_layout.specs.Layout.{Layout, words, word_bits, word_depth, tag_at}
-use Rattle.tag_layout.proofs.PlaceFacts.{word_bits-le}
-use Rattle.tag_search.specs.Choice.{IsSet, IsBusy, IsFirst, IsFull, words_in, IsChoice, nothing}
-use Rattle.tag_search.specs.Choice.{chosen_free, chosen_aside}
-use Rattle.tag_search.specs.Order.{numbers_from, numbers}
-use Rattle.tag_search.specs.PlainLaws.{words_after-append}
-use Rattle.tag_search.specs.Pool.{Pool, pool_of, freed_in, taken_at}
-use Rattle.tag_search.specs.Search.{Visit, IsSearch, over, won, passed}
-use Rattle.tag_search.specs.Visits.{Reach, visit_of, visits}
+use Rattle.std.specs.Prelude.{◌++◌, ◌+◌, ◌-◌, ◌<◌, ◌∷◌, ◌≢◌, ◌≤◌}
+use Rattle.tag_search.proofs.Uses.{[], All, All-append, All-cons, All-head, All-map, All-nil, All-tail, All-weaker, ap, arith, chosen_aside, chosen_free, freed_in, IsBusy, IsChoice, IsFirst, IsFull, IsSearch, IsSet, Layout, List, map, None, nothing, numbers, numbers_from, Option, over, passed, Pool}
+use Rattle.tag_search.proofs.Uses.{pool_of, Quiet, Reach, Some, subst, suc, sym, tag_at, taken_at, Visit, visit_of, visits, won, word_bits, word_bits-le, word_depth, Words, words, words_after-append, words_after_all, words_in, WordStep, zero, ℕ, ◌∙◌}
 use Rattle.tag_search.proofs.Alone.{quiet-split, Wins, wins_free, wins_aside, visit_alone}
 use Rattle.tag_search.proofs.Inside.{IsInside, inside_word, visits_inside}
 use Rattle.tag_search.proofs.Orders.{all_from, all_numbers, order-split}

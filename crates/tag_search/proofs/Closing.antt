@@ -1,22 +1,10 @@
 -- A search in vain: its steps show of each spot that no tag is free there, after any step of it that made one free.
-use Rattle.std.proofs.Common.{◌≡◌, ◌≢◌, ℕ, zero, suc, ◌^◌, ◌<◌, ◌≤◌, ◌⊎◌, List, [], ◌∷◌, ◌++◌, Option, None, arith, refl, sym, ◌∙◌, subst, inl, inr, ⊎_elim}
-use Rattle.std.specs.Prelude.{Contains}
-use Rattle.std.specs.List.{AllByRecursion}
-use mathlib.Core.Logic.{dite}
-use native.Mathlib.Decide.{ℕ_discrete}
-use Rattle.std.specs.Int.{bit_at}
-use Rattle.std.proofs.lemmas.List.Elements.{All-contains, Contains-append_cases}
-use Rattle.std.proofs.lemmas.Nat.Bits.{bit_at-zero}
-use Rattle.tag_layout.specs.Layout.{Layout, word_depth}
-use Rattle.tag_core.specs.declared.step.Step.{Step}
-use Rattle.tag_core.specs.declared.step.Step.TheVariants.{Word}
-use Rattle.tag_core.specs.declared.word_step.WordStep.{WordStep}
-use Rattle.tag_core.specs.declared.word_step.WordStep.TheVariants.{Look, LookAside, Claimed, Swap, Spill}
+use Rattle.std.specs.Prelude.{◌++◌, ◌<◌, ◌^◌, ◌∷◌, ◌≡◌, ◌≢◌, ◌≤◌, ◌⊎◌}
+use Rattle.tag_search.proofs.Uses.{[], All-contains, AllByRecursion, arith, at_once, bit_at, bit_at-zero, Claimed, Contains, Contains-append_cases, dite, empty, inl, inr, IsKeepingSweep, IsPass, IsRetry, IsSearch, IsSweep, IsTries, IsVisit, kept_alone, kept_one, Layout, List, Look, LookAside, loses}
+use Rattle.tag_search.proofs.Uses.{no_turn, None, none_left, Opens, Option, over, Owes, own_after, pass, passed, refl, retried, Shuts, Spill, spilled, Step, subst, suc, Swap, sym, Tried, turn_kept, turn_passed, turn_won, unseen, Visit, wins, won, Word, word_depth, WordStep, zero, ℕ, ℕ_discrete}
+use Rattle.tag_search.proofs.Uses.{⊎_elim, ◌∙◌}
 use Rattle.tag_bell.specs.declared.spot.Spot.{Spot}
 use Rattle.tag_bell.specs.declared.spot.Spot.TheVariants.{InWord, InAside}
-use Rattle.tag_bell.specs.Waiting.{Shuts, Opens, Tried, Owes}
-use Rattle.tag_search.specs.AloneLaws.{own_after}
-use Rattle.tag_search.specs.Search.{IsTries, none_left, wins, loses, IsPass, pass, IsSweep, unseen, empty, spilled, IsKeepingSweep, kept_alone, kept_one, IsRetry, no_turn, turn_won, turn_kept, turn_passed, IsVisit, at_once, retried, Visit, IsSearch, over, won, passed}
 
 -- it found no tag free at the spot, and has nothing to see to there
 abbrev pub IsClosed : {R : Type 0} → ℕ → List (Step R) → Spot → Type 0

@@ -1,25 +1,10 @@
 -- The tags that a caller's sweeps freed are those that its port counted.
-use Rattle.std.proofs.Common.{◌≡◌, ℕ, zero, suc, ◌+◌, ◌-◌, ◌*◌, ◌^◌, ◌<◌, ◌≤◌, ◌⊎◌, inl, inr, List, [], ◌∷◌, length, count_ones}
-use Rattle.std.proofs.Common.{arith, refl, sym, ap, ◌∙◌}
-use Rattle.std.specs.Int.{bit_at}
-use Rattle.std.specs.List.{AllByRecursion}
-use Rattle.std.proofs.Math.Nat.{div-le_self}
-use Rattle.std.proofs.lemmas.Nat.Bits.{bit_at-lt}
-use Rattle.step_ledger.specs.History.{total}
+use Rattle.std.specs.Prelude.{◌*◌, ◌+◌, ◌-◌, ◌<◌, ◌^◌, ◌∷◌, ◌≡◌, ◌≤◌, ◌⊎◌}
+use Rattle.tag_search.proofs.Uses.{[], AddsAll, AddsThrough, AllByRecursion, ap, arith, bit_at, bit_at-lt, Caller, Claimed, count_ones, div-le_self, FindsWord, freed_of, Give, held_of, inl, inr, Keep, latest_after_all, latest_in, latest_of, Layout, layout_of, left_free, length, List, Look}
+use Rattle.tag_search.proofs.Uses.{LookAside, Put, Record, record_after, record_after_all, record_of, refl, Shared, Spill, spilled_by, suc, Swap, sym, total, Word, word_bits, word_bits-le, words, WordStep, zero, ℕ, ◌∙◌}
 use Rattle.sums.proofs.Laws.{sum_below-bound}
-use Rattle.tag_layout.specs.Layout.{Layout, words, word_bits}
-use Rattle.tag_layout.proofs.PlaceFacts.{word_bits-le}
 use Rattle.tag_model.proofs.MaskFacts.{sum_below-bits}
-use Rattle.tag_core.specs.declared.caller.Caller.{Caller}
-use Rattle.tag_core.specs.declared.record.Record.{Record}
-use Rattle.tag_core.specs.declared.step.Step.TheVariants.{Word}
-use Rattle.tag_core.specs.declared.word_step.WordStep.{WordStep}
-use Rattle.tag_core.specs.declared.word_step.WordStep.TheVariants.{Look, LookAside, Claimed, Give, Put, Swap, Keep, Spill}
-use Rattle.tag_core.specs.Callers.{layout_of, record_of}
-use Rattle.tag_core.specs.Records.{record_after}
-use Rattle.tag_search.specs.declared.shared.Shared.{Shared}
-use Rattle.tag_search.specs.Freed.{spilled, spilled_by, freed_of, latest_in, held_of, left_free}
-use Rattle.tag_search.specs.Shared.{record_after_all, latest_after_all, latest_of, FindsWord, AddsAll, AddsThrough}
+use Rattle.tag_search.specs.Freed.{spilled}
 
 -- steps on words add what they spill to what their caller has freed
 total_after : {R : Type 0} (steps : List WordStep) (r : Record R)

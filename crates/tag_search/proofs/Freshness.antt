@@ -1,26 +1,8 @@
 -- A search wins no tag that its caller held, since each claim found the caller's own tags taken.
-use Rattle.std.proofs.Common.{◌≡◌, ℕ, ◌+◌, ◌^◌, ◌<◌, ◌≤◌, List, [], ◌∷◌, ◌++◌, Option, arith, sym, ap, ◌∙◌}
-use Rattle.std.specs.Prelude.{All, IfSome}
-use Rattle.std.specs.List.{AllByRecursion}
-use Rattle.std.specs.Int.{bit_at}
-use Rattle.std.proofs.lemmas.List.Elements.{All-head, All-tail}
-use Rattle.std.proofs.lemmas.Nat.Bits.{bit_at-pow_same}
-use Rattle.tag_layout.specs.Layout.{Layout, word_bits, word_of, place_of, word_depth, tag_at}
-use Rattle.tag_layout.proofs.PlaceFacts.{word_of-tag_at, place_of-tag_at}
-use Rattle.tag_layout.proofs.Scans.{bit_at-shr}
-use Rattle.tag_core.specs.declared.caller.Caller.{Caller}
-use Rattle.tag_core.specs.declared.record.Record.{Record}
-use Rattle.tag_core.specs.declared.word_step.WordStep.{WordStep}
-use Rattle.tag_core.specs.declared.word_step.WordStep.TheVariants.{Claimed}
-use Rattle.tag_core.specs.Callers.{Holds}
-use Rattle.tag_core.specs.Steps.{without}
-use Rattle.tag_core.proofs.Masks.{bit_minus}
-use Rattle.tag_search.specs.Batch.{run_mask, run_won, IsBatchVisit, no_run, run_lost, run_taken, IsBatchSearch}
-use Rattle.tag_search.specs.Batch.{batch_over, batch_won, batch_passed}
-use Rattle.tag_search.specs.Gains.{IsInRun}
-use Rattle.tag_search.specs.Search.{IsTries, none_left, wins, loses, IsPass, pass, IsKeepingSweep, kept_alone, kept_one, IsRetry, no_turn, turn_won, turn_kept}
-use Rattle.tag_search.specs.Search.{turn_passed, IsVisit, at_once, retried, Visit, IsSearch, over, won, passed}
-use Rattle.tag_search.specs.Shared.{FindsWord, FindsHeldBy}
+use Rattle.std.specs.Prelude.{◌++◌, ◌+◌, ◌<◌, ◌^◌, ◌∷◌, ◌≡◌, ◌≤◌}
+use Rattle.tag_search.proofs.Uses.{[], All, All-head, All-tail, AllByRecursion, ap, arith, at_once, batch_over, batch_passed, batch_won, bit_at, bit_at-pow_same, bit_at-shr, bit_minus, Caller, Claimed, FindsHeldBy, FindsWord, Holds, IfSome, IsBatchSearch, IsBatchVisit, IsInRun, IsKeepingSweep}
+use Rattle.tag_search.proofs.Uses.{IsPass, IsRetry, IsSearch, IsTries, IsVisit, kept_alone, kept_one, Layout, List, loses, no_run, no_turn, none_left, Option, over, pass, passed, place_of, place_of-tag_at, Record, retried, run_lost, run_mask, run_taken, run_won, sym, tag_at, turn_kept, turn_passed}
+use Rattle.tag_search.proofs.Uses.{turn_won, Visit, wins, without, won, word_bits, word_depth, word_of, word_of-tag_at, WordStep, ℕ, ◌∙◌}
 use Rattle.tag_search.proofs.RunFacts.{inside as won_inside}
 use Rattle.tag_search.proofs.Inside.{IsInside}
 use Rattle.tag_search.proofs.SharedFacts.{visit_wins, each-split}

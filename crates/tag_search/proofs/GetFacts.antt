@@ -1,20 +1,10 @@
 -- A search over all words is a get.
-use Rattle.std.proofs.Common.{◌≡◌, ℕ, zero, suc, ◌<◌, ◌≤◌, Bool, true, false, List, Option, arith}
-use Rattle.std.proofs.Common.{ap, refl, subst, sym, ◌∙◌}
-use Rattle.std.proofs.Math.Nat.{mod-eq_of_lt}
-use Rattle.tag_core.specs.declared.word_step.WordStep.{WordStep}
-use Rattle.tag_layout.specs.Layout.{Layout, words, word_of, word_depth}
-use Rattle.tag_layout.proofs.PlaceFacts.{word-start}
+use Rattle.std.specs.Prelude.{◌<◌, ◌≡◌, ◌≤◌}
+use Rattle.tag_search.proofs.Uses.{ap, arith, Bool, false, Hint, hint_after_get, IsGet, IsSearch, Layout, List, mod-eq_of_lt, Option, plain_reach, Reach, reach_of, reduced, refl, shallow_reach, subst, suc, sym, true, visits, visits_from, word-start, word_depth, word_of, words, WordStep, zero, ℕ}
+use Rattle.tag_search.proofs.Uses.{◌∙◌}
 use Rattle.tag_layout.proofs.ShareFacts.{shallow_limit-le}
-use Rattle.tag_search.specs.declared.hint.Hint.{Hint}
-use Rattle.tag_search.specs.Begun.{visits_from}
 use Rattle.tag_search.specs.Follows.{HintFollows}
-use Rattle.tag_search.specs.Gets.{IsGet}
-use Rattle.tag_search.specs.Hints.{reduced, hint_after_get}
 use Rattle.tag_search.specs.declared.scan.Scan.{Scan}
-use Rattle.tag_search.specs.Scans.{reach_of}
-use Rattle.tag_search.specs.Search.{IsSearch}
-use Rattle.tag_search.specs.Visits.{Reach, visits, plain_reach, shallow_reach}
 use Rattle.tag_search.proofs.Choices.{search_chooses}
 use Rattle.tag_search.proofs.Bounds.{search_bound, visits_bound}
 

@@ -1,21 +1,9 @@
 -- If no place is both free and set aside, the answer of a choice is held afterwards, and still no place is both.
-use Rattle.std.proofs.Common.{◌≡◌, ℕ, ◌+◌, ◌<◌, ◌≤◌, Bool, true, false, not, ◌&&◌, ◌||◌, nat_eq, nat_lt, nat_le}
-use Rattle.std.proofs.Common.{List, ◌∷◌, Option, IfSome, arith, refl, sym, ◌∙◌, subst, eq-eqb}
-use Rattle.std.specs.Prelude.{All}
-use Rattle.std.proofs.lemmas.Bool.{le-leb, lt-ltb}
-use Rattle.tag_core.specs.declared.word_step.WordStep.{WordStep}
-use Rattle.tag_core.specs.Steps.{Words, Quiet, words_after_all}
-use Rattle.tag_layout.specs.Layout.{Layout, words, word_bits, word_depth, tag_at}
-use Rattle.tag_layout.proofs.PlaceFacts.{word_of-tag_at, place_of-tag_at}
-use Rattle.tag_search.specs.Added.{AddsSteps}
-use Rattle.tag_search.specs.Batch.{IsBatchGet, batch_words}
-use Rattle.tag_search.specs.Choice.{IsAvailable, IsBusy, IsHeld, HoldsRun, words_in, IsChoice, nothing, chosen_free, chosen_aside}
-use Rattle.tag_search.specs.Choice.{IsBatchChoice, no_batch, batch}
-use Rattle.tag_search.specs.Gets.{IsGet}
-use Rattle.tag_search.specs.Plain.{Plain, plain_words, RunsAlone}
-use Rattle.tag_search.specs.Pool.{Pool, pool_of, is_available, IsApart, is_in, freed_in, taken_in, taken_at}
-use Rattle.tag_search.specs.Search.{Visit}
-use Rattle.tag_search.specs.Visits.{Reach, visits}
+use Rattle.std.specs.Prelude.{◌&&◌, ◌+◌, ◌<◌, ◌||◌, ◌∷◌, ◌≡◌, ◌≤◌}
+use Rattle.tag_search.proofs.Uses.{AddsSteps, All, arith, batch, batch_words, Bool, chosen_aside, chosen_free, eq-eqb, false, freed_in, HoldsRun, is_available, is_in, IsApart, IsAvailable, IsBatchChoice, IsBatchGet, IsBusy, IsChoice, IsGet, IsHeld, Layout, le-leb, List, lt-ltb, nat_eq, nat_le}
+use Rattle.tag_search.proofs.Uses.{nat_lt, no_batch, not, nothing, Option, place_of-tag_at, Plain, plain_words, Pool, pool_of, Quiet, Reach, refl, RunsAlone, subst, sym, tag_at, taken_at, taken_in, true, Visit, visits, word_bits, word_depth, word_of-tag_at, Words, words, words_after_all, words_in}
+use Rattle.tag_search.proofs.Uses.{WordStep, ℕ, ◌∙◌}
+use Rattle.std.proofs.Common.{IfSome}
 use Rattle.tag_search.proofs.Inside.{IsInside, place_inside, visits_inside}
 use Rattle.tag_search.proofs.Pools.{and_false}
 

@@ -1,21 +1,7 @@
 -- After a get its caller holds the tags that it held before and those answered.
-use Rattle.std.proofs.Common.{◌≡◌, ℕ, ◌+◌, ◌-◌, ◌*◌, ◌^◌, ◌<◌, ◌≤◌, ◌==◌, Option, Some, None, eqb-true, eq-eqb, arith}
-use Rattle.std.proofs.Common.{sym, ap, ◌∙◌, subst, inl}
-use Rattle.std.specs.Prelude.{IfSome}
-use mathlib.Core.Logic.{dite}
-use native.Mathlib.Decide.{dec_lt}
-use Rattle.std.specs.Int.{bit_at}
-use Rattle.std.proofs.lemmas.Nat.{pow_pos}
-use Rattle.std.proofs.lemmas.Nat.Bits.{bit_at-zero, bit_at_cat_low, bit_at_cat_high}
-use Rattle.std.proofs.Math.Nat.{mul-div_cancel}
-use Rattle.tag_layout.specs.Layout.{Layout, word_bits, word_of, place_of, word_depth, tag_at}
-use Rattle.tag_layout.proofs.PlaceFacts.{word_of-tag_at, place_of-tag_at, tag_at-below, tag_at-back, word_of-below}
-use Rattle.tag_layout.proofs.Scans.{bit_at-shr}
-use Rattle.tag_core.specs.declared.caller.Caller.{Caller}
-use Rattle.tag_core.specs.Callers.{record_of, slot_of, Holds}
-use Rattle.tag_core.specs.Holdings.{IsInMask, Acquires}
-use Rattle.tag_core.proofs.Holdings.{keeps_all, acquires, acquired_as, alone_named, named_alone}
-use Rattle.tag_search.specs.Gains.{IsAnswer, IsInRun}
+use Rattle.std.specs.Prelude.{◌*◌, ◌+◌, ◌-◌, ◌<◌, ◌==◌, ◌^◌, ◌≡◌, ◌≤◌}
+use Rattle.tag_search.proofs.Uses.{acquired_as, Acquires, acquires, alone_named, ap, arith, bit_at, bit_at-shr, bit_at-zero, bit_at_cat_high, bit_at_cat_low, Caller, dec_lt, dite, eq-eqb, eqb-true, Holds, IfSome, inl, IsAnswer, IsInMask, IsInRun, keeps_all, Layout, mul-div_cancel, named_alone, None}
+use Rattle.tag_search.proofs.Uses.{Option, place_of, place_of-tag_at, pow_pos, record_of, slot_of, Some, subst, sym, tag_at, tag_at-back, tag_at-below, word_bits, word_depth, word_of, word_of-below, word_of-tag_at, ℕ, ◌∙◌}
 use Rattle.tag_search.proofs.OneTag.{both_true, and_true}
 use Rattle.tag_search.proofs.RunFacts.{IsBelow, WonRun}
 use Rattle.tag_search.proofs.SharedFacts.{Won}

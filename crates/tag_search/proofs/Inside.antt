@@ -1,11 +1,6 @@
 -- The visits of a get try no place past the depth of their word.
-use Rattle.std.proofs.Common.{ℕ, ◌<◌, ◌≤◌, ◌≡◌, true, cond, nat_eq, List, ◌∷◌, ◌++◌, get_or, arith, subst}
-use Rattle.std.specs.Prelude.{All}
-use Rattle.std.proofs.lemmas.List.Elements.{All-map}
-use Rattle.tag_layout.specs.Layout.{Layout, words, word_bits, word_depth}
-use Rattle.tag_search.specs.Order.{scan_order}
-use Rattle.tag_search.specs.Search.{Visit}
-use Rattle.tag_search.specs.Visits.{Reach, visit_of, visits}
+use Rattle.std.specs.Prelude.{◌++◌, ◌<◌, ◌∷◌, ◌≡◌, ◌≤◌}
+use Rattle.tag_search.proofs.Uses.{All, All-map, arith, cond, get_or, Layout, List, nat_eq, Reach, scan_order, subst, true, Visit, visit_of, visits, word_bits, word_depth, words, ℕ}
 use Rattle.tag_search.proofs.Orders.{all_scan}
 use Rattle.tag_search.proofs.Passes.{all_behind}
 

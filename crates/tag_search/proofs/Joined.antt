@@ -1,8 +1,6 @@
 -- The steps of calls in a row.
-use Rattle.std.proofs.Common.{ℕ, List, [], ◌++◌, sym, subst}
-use Rattle.std.proofs.lemmas.List.{append_assoc, append-nil}
-use Rattle.tag_core.specs.declared.word_step.WordStep.{WordStep}
-use Rattle.tag_search.specs.Added.{AddsSteps, SameRoom}
+use Rattle.std.specs.Prelude.{◌++◌}
+use Rattle.tag_search.proofs.Uses.{[], AddsSteps, append-nil, append_assoc, List, SameRoom, subst, sym, WordStep, ℕ}
 
 -- these steps, followed by any that are the rest, are the whole, with the same answer
 abbrev pub Begins : {Answer : Type 0} → (List WordStep → Answer → Type 0) → (List WordStep → Answer → Type 0)

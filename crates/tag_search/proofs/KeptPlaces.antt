@@ -1,22 +1,9 @@
 -- A sweep that keeps a place: which place of a rank that is, and the pool after it.
-use Rattle.std.proofs.Common.{◌≡◌, ◌≢◌, ℕ, ◌+◌, ◌-◌, ◌^◌, ◌<◌, Bool, true, false, not, ◌&&◌, ◌||◌, cond, nat_eq, nat_lt}
-use Rattle.std.proofs.Common.{List, [], ◌∷◌, ◌++◌, get_or, arith, refl, sym, ap, ◌∙◌, subst, eq-eqb, ne_eqb, eqb-true, append_assoc}
-use mathlib.Core.Logic.{dite}
-use native.Mathlib.Decide.{ℕ_discrete}
-use Rattle.std.specs.Prelude.{All}
-use Rattle.std.specs.Int.{bit_at}
-use Rattle.std.proofs.lemmas.Bool.{lt-ltb, ltb-true}
-use Rattle.std.proofs.lemmas.List.Elements.{All-nil, All-cons, All-head, All-tail}
-use Rattle.std.proofs.lemmas.Nat.{and_le_l, pow_below}
-use Rattle.std.proofs.lemmas.Nat.Bits.{bit_at-zero, bit_at-pow_same, bit_at-pow_other}
-use Rattle.tag_core.specs.declared.word_step.WordStep.{WordStep}
-use Rattle.tag_core.specs.declared.word_step.WordStep.TheVariants.{LookAside, Swap, Keep, Spill}
-use Rattle.tag_core.specs.Keeping.{IsLeastIn}
-use Rattle.tag_core.specs.Steps.{Words, Quiet, words_after_all, without}
-use Rattle.tag_search.specs.Choice.{IsSet, IsAside, IsBusy, IsFirst}
-use Rattle.tag_search.specs.Order.{numbers, scan_order}
-use Rattle.tag_search.specs.Pool.{pool_of, freed_in, taken_at}
-use Rattle.tag_search.specs.Search.{IsKeepingSweep, kept_alone, kept_one, IsFirstSwept}
+use Rattle.std.specs.Prelude.{◌&&◌, ◌++◌, ◌+◌, ◌-◌, ◌<◌, ◌^◌, ◌||◌, ◌∷◌, ◌≡◌, ◌≢◌}
+use Rattle.tag_search.proofs.Uses.{[], All, All-cons, All-head, All-nil, All-tail, and_le_l, ap, arith, bit_at, bit_at-pow_other, bit_at-pow_same, bit_at-zero, Bool, cond, dite, eq-eqb, eqb-true, false, freed_in, get_or, IsAside, IsBusy, IsFirst, IsFirstSwept, IsKeepingSweep, IsLeastIn, IsSet, Keep}
+use Rattle.tag_search.proofs.Uses.{kept_alone, kept_one, List, LookAside, lt-ltb, ltb-true, nat_eq, nat_lt, ne_eqb, not, numbers, pool_of, pow_below, Quiet, refl, scan_order, Spill, subst, Swap, sym, taken_at, true, without, Words, words_after_all, WordStep, ℕ, ℕ_discrete}
+use Rattle.tag_search.proofs.Uses.{◌∙◌}
+use Rattle.std.proofs.Common.{append_assoc}
 use Rattle.tag_search.proofs.Orders.{numbers-at, order-split, all_numbers}
 use Rattle.tag_search.proofs.Passes.{all_behind}
 use Rattle.tag_search.proofs.Pools.{pool_ext, or_false, and_true, and_false}
@@ -51,11 +38,6 @@ pub mask_found : {i mask place : ℕ} {steps : List WordStep} → IsKeepingSweep
     → Quiet steps w → mask ≡ w.aside i
 mask_found (kept_alone some fits none) w quiet = quiet.1.0
 mask_found (kept_one some fits others) w quiet = quiet.1.0
-
--- it is a word of 64 bits
-pub mask_fits : {i mask place : ℕ} {steps : List WordStep} → IsKeepingSweep i mask place steps → mask < 2 ^ 64
-mask_fits (kept_alone some fits none) = fits
-mask_fits (kept_one some fits others) = fits
 
 -- the rest of a mask
 one_without : (mask place k : ℕ) → 2 ^ place < 2 ^ 64 → k ≢ place → is_one (without mask (2 ^ place)) k ≡ is_one mask k

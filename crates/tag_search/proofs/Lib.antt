@@ -1,3 +1,4 @@
+mod Uses
 pub mod Orders
 pub mod OneTag
 pub mod Claims

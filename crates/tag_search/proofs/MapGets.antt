@@ -1,32 +1,9 @@
 -- How a get through the port of a map's caller changes the caller.
-use Rattle.std.proofs.Common.{◌≡◌, ℕ, ◌<◌, ◌≤◌, Bool, List, ◌++◌, Option, Some, None, Result, Ok, arith, refl, sym, ap, subst, inl}
-use Rattle.std.proofs.Common.{◌∙◌}
-use Rattle.std.specs.Prelude.{IfOk}
-use Rattle.tag_layout.specs.Layout.{Layout, words, word_of, word_depth}
-use Rattle.tag_layout.proofs.PlaceFacts.{word_bits-le}
-use Rattle.tag_core.specs.declared.caller.Caller.{Caller}
-use Rattle.tag_core.specs.declared.map.Map.{Map}
-use Rattle.tag_core.specs.declared.record.Record.{Record}
-use Rattle.tag_core.specs.declared.shape.Shape.{Shape}
-use Rattle.tag_core.specs.declared.word_step.WordStep.{WordStep}
-use Rattle.tag_core.specs.declared.claim.Spent.{Spent}
-use Rattle.tag_core.specs.Callers.{layout_of, IsCallerOf, record_of, SameMap}
-use Rattle.tag_core.specs.Holdings.{Acquires}
-use Rattle.tag_search.specs.declared.shared.Shared.{Shared}
-use Rattle.tag_search.specs.Added.{AddsSteps as Ports}
-use Rattle.tag_search.specs.declared.hint.Hint.{Hint}
-use Rattle.tag_search.specs.declared.search.Unfinished.{Unfinished}
-use Rattle.tag_search.specs.Batch.{IsBatchGet, batch_words}
-use Rattle.tag_search.specs.Choice.{IsChoice, IsBatchChoice}
-use Rattle.tag_search.specs.Begun.{visits_from, IsBegun, IsRestOfGet, IsWonAtOnce}
-use Rattle.tag_search.specs.Gains.{IsAnswer, Gains, IsInRun, GainsRun}
-use Rattle.tag_search.specs.Gets.{IsGet}
-use Rattle.tag_search.specs.Hints.{reduced}
-use Rattle.tag_search.specs.Alone.{IsAlone, Chooses, ChoosesRun}
-use Rattle.tag_search.specs.Search.{Visit}
-use Rattle.tag_search.specs.Shared.{AddsAll, AddsThrough, Makes}
-use Rattle.tag_search.specs.SharedLaws.{adds_on}
-use Rattle.tag_search.specs.Visits.{Reach, visits, plain_visits, shallow_visits, plain_reach, shallow_reach}
+use Rattle.std.specs.Prelude.{◌++◌, ◌<◌, ◌≡◌, ◌≤◌}
+use Rattle.tag_search.proofs.Uses.{Acquires, adds_on, AddsAll, AddsThrough, ap, arith, batch_words, Bool, Caller, Chooses, ChoosesRun, Gains, GainsRun, Hint, IfOk, inl, IsAlone, IsAnswer, IsBatchChoice, IsBatchGet, IsBegun, IsCallerOf, IsChoice, IsGet, IsInRun, IsRestOfGet, IsWonAtOnce, Layout}
+use Rattle.tag_search.proofs.Uses.{layout_of, List, Makes, Map, None, Ok, Option, plain_reach, plain_visits, Ports, Reach, Record, record_of, reduced, refl, Result, SameMap, shallow_reach, shallow_visits, Shape, Shared, Some, subst, sym, Unfinished, Visit, visits, visits_from, word_bits-le}
+use Rattle.tag_search.proofs.Uses.{word_depth, word_of, words, WordStep, ℕ, ◌∙◌}
+use Rattle.tag_core.specs.declared.claims.Spent.{Spent}
 use Rattle.tag_search.proofs.Freshness.{search_new, batch_new}
 use Rattle.tag_search.proofs.GetFacts.{plain_within, shallow_within}
 use Rattle.tag_search.proofs.HeldFacts.{acquires_answer, acquires_run}

@@ -1,10 +1,7 @@
 -- Consecutive numbers: the parts of a list of them, and facts of each.
-use Rattle.std.proofs.Common.{◌≡◌, ℕ, zero, suc, ◌+◌, ◌-◌, ◌<◌, ◌≤◌, min, List, [], ◌∷◌, ◌++◌, length, arith, refl, sym}
-use Rattle.std.proofs.Common.{ap, ◌∙◌, append_assoc}
-use Rattle.std.specs.Prelude.{All, Bool, true, false}
-use Rattle.std.proofs.lemmas.List.Elements.{All-nil, All-cons, All-append}
-use Rattle.std.proofs.lemmas.List.{length-append}
-use Rattle.tag_search.specs.Order.{numbers_from, numbers, scan_order}
+use Rattle.tag_search.proofs.Uses.{[], All, All-append, All-cons, All-nil, ap, arith, length, length-append, List, min, numbers, numbers_from, refl, scan_order, suc, sym, zero, ℕ, ◌∙◌}
+use Rattle.std.proofs.Common.{append_assoc}
+use Rattle.std.specs.Prelude.{Bool, true, false, ◌++◌, ◌+◌, ◌-◌, ◌<◌, ◌∷◌, ◌≡◌, ◌≤◌}
 
 -- a list whose end is not above its start is empty
 pub numbers-none : (a b : ℕ) → b ≤ a → numbers a b ≡ []

@@ -1,12 +1,6 @@
 -- What is left of a pass after the first clear place of its rank.
-use Rattle.std.proofs.Common.{◌≡◌, ℕ, suc, ◌+◌, ◌<◌, List, [], ◌∷◌, ◌++◌, length, Option, None, arith, sym, ap, ◌∙◌}
-use Rattle.std.proofs.Common.{subst}
-use Rattle.std.specs.Prelude.{All}
-use Rattle.std.proofs.lemmas.List.{length-append}
-use Rattle.std.proofs.lemmas.List.Elements.{All-head, All-tail}
-use Rattle.tag_core.specs.declared.word_step.WordStep.{WordStep}
-use Rattle.tag_core.specs.declared.word_step.WordStep.TheVariants.{Look}
-use Rattle.tag_search.specs.Search.{AllTaken, IsFirstInRank, none_left, IsPass, pass}
+use Rattle.std.specs.Prelude.{◌++◌, ◌+◌, ◌<◌, ◌∷◌, ◌≡◌}
+use Rattle.tag_search.proofs.Uses.{[], All, All-head, All-tail, AllTaken, ap, arith, IsFirstInRank, IsPass, length, length-append, List, Look, None, none_left, Option, pass, subst, suc, sym, WordStep, ℕ, ◌∙◌}
 
 -- a fact of each element holds of one in the middle, and of those after it
 pub all_behind : {X : Type 0} (P : X → Type 0) (xs : List X) (y : X) (ys : List X) → All P (xs ++ y ∷ ys) → P y

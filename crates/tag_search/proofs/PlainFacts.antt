@@ -1,17 +1,7 @@
 -- All plain words after a write to one of them.
-use Rattle.std.proofs.Common.{◌≡◌, ◌≢◌, ℕ, ◌*◌, ◌^◌, ◌<◌, List, [], ◌∷◌, length, get_or, set, nat_eq, cond}
-use Rattle.std.proofs.Common.{Bool, true, false, bit_and, bit_or, arith, refl, sym, ap, ◌∙◌, subst, get_or-set_other}
-use Rattle.std.proofs.Common.{get_or-set_same, eq-eqb, ne_eqb, eqb-true, ◌↔◌, inl, inr}
-use mathlib.Core.Logic.{dite}
-use Rattle.std.specs.Prelude.{IsTrue, not}
-use native.Mathlib.Decide.{ℕ_discrete}
-use Rattle.std.proofs.lemmas.Nat.{pow_pos}
-use Rattle.std.proofs.lemmas.Nat.Bits.{and_pow}
-use Rattle.std.specs.Int.{bit_at}
-use Rattle.tag_core.specs.declared.word_step.WordStep.TheVariants.{LookAside, Claimed, Give, Put, Swap, Keep, Spill}
-use Rattle.tag_core.specs.Steps.{changed_at, without}
-use Rattle.tag_search.specs.Plain.{Plain, RunsAlone, IsTaken}
-use Rattle.tag_search.proofs.OneTag.{bit_is}
+use Rattle.tag_search.proofs.Uses.{[], AddsSteps, and_pow, ap, arith, bit_and, bit_at, bit_is, bit_or, Bool, changed_at, Claimed, cond, dite, eq-eqb, eqb-true, false, get_or, get_or-set_other, get_or-set_same, Give, inl, inr, IsSweep, IsTaken, IsTrue, Keep, length, List, LookAside, nat_eq, ne_eqb}
+use Rattle.tag_search.proofs.Uses.{Plain, pow_pos, Put, refl, RunsAlone, set, Spill, subst, Swap, sym, true, unseen, without, ℕ, ℕ_discrete, ◌∙◌}
+use Rattle.std.specs.Prelude.{not, ◌*◌, ◌<◌, ◌^◌, ◌↔◌, ◌∷◌, ◌≡◌, ◌≢◌}
 use Rattle.tag_search.proofs.Seen.{Reads}
 
 -- a list with one entry changed, as a function of the index
@@ -68,6 +58,10 @@ ran_put_at p i r place bit found e b has =
 -- a sweep that finds nothing writes nothing
 pub ran_empty : (p : Plain) (i : ℕ) → get_or p.aside i 0 ≡ 0 → RunsAlone p (LookAside i 0 ∷ []) p
 ran_empty p i e = record { layout = refl; quiet = (sym e, tt); leaves = refl }
+
+pub sweeps_none : (p : Plain) (i mask : ℕ) → Reads p.aside i mask → mask ≡ 0 → AddsSteps RunsAlone p p (IsSweep i 0)
+sweeps_none p i mask aside none =
+    record { steps = LookAside i 0 ∷ []; added = ran_empty p i (sym aside.is ∙ none); holds = unseen }
 
 -- a sweep that finds a mask writes both
 pub ran_sweep : (p : Plain) (i mask found : ℕ) → Reads p.word i found → Reads p.aside i mask

@@ -1,19 +1,7 @@
 -- The pool of plain words after a put, a give and an opening.
-use Rattle.std.proofs.Common.{◌≡◌, ◌≢◌, ◌↔◌, ℕ, zero, suc, ◌^◌, ◌<◌, ◌≤◌, max, length, replicate, Bool, true}
-use Rattle.std.proofs.Common.{false, ◌&&◌, ◌||◌, cond, nat_eq, nat_lt, List, [], ◌∷◌, get_or, bit_or, arith, refl, sym}
-use Rattle.std.proofs.Common.{ap, ◌∙◌, eq-eqb, ne_eqb, eqb-true}
-use Rattle.std.specs.Prelude.{IsTrue, not}
-use mathlib.Core.Logic.{dite}
-use native.Mathlib.Decide.{ℕ_discrete, dec_lt}
-use Rattle.std.specs.Int.{bit_at}
-use Rattle.std.proofs.lemmas.Bool.{lt-ltb}
-use Rattle.std.proofs.lemmas.List.{get_or-replicate, get_or_past, length-replicate}
-use Rattle.std.proofs.lemmas.Nat.Bits.{bit_at_or, bit_at-lt, bit_at-zero, bit_at-pow_same, bit_at-pow_other}
-use Rattle.tag_core.specs.declared.word_step.WordStep.TheVariants.{Give, Put}
-use Rattle.tag_core.specs.Steps.{Words, words_after, without}
-use Rattle.tag_search.specs.Plain.{Plain, plain_words, RunsAlone, IsTaken}
-use Rattle.tag_search.specs.Pool.{pool_of, is_busy, set_aside, free_at}
-use Rattle.tag_search.specs.Writes.{IsAllFree}
+use Rattle.tag_search.proofs.Uses.{[], ap, arith, bit_at, bit_at-lt, bit_at-pow_other, bit_at-pow_same, bit_at-zero, bit_at_or, bit_or, Bool, cond, dec_lt, dite, eq-eqb, eqb-true, false, free_at, get_or, get_or-replicate, get_or_past, Give, is_busy, IsAllFree, IsTaken, IsTrue, length}
+use Rattle.tag_search.proofs.Uses.{length-replicate, List, lt-ltb, max, nat_eq, nat_lt, ne_eqb, Plain, plain_words, pool_of, Put, refl, replicate, RunsAlone, set_aside, suc, sym, true, without, Words, words_after, zero, ℕ, ℕ_discrete, ◌∙◌}
+use Rattle.std.specs.Prelude.{not, ◌&&◌, ◌<◌, ◌^◌, ◌||◌, ◌↔◌, ◌∷◌, ◌≡◌, ◌≢◌, ◌≤◌}
 use Rattle.tag_search.proofs.Pools.{pool_ext, or_false}
 use Rattle.tag_search.proofs.Sweeps.{is_clear, is_one, clear_of, none_of, without_clear}
 

@@ -1,8 +1,6 @@
 -- Equal pools, and pools freed in several words.
-use Rattle.std.proofs.Common.{◌≡◌, ◌≢◌, ℕ, Bool, true, false, not, ◌&&◌, ◌||◌, nat_eq, List, [], ◌∷◌, refl, sym, ap}
-use Rattle.std.proofs.Common.{◌∙◌, eq-eqb, ne_eqb}
-use Rattle.tag_search.specs.Choice.{IsLeastAvailable}
-use Rattle.tag_search.specs.Pool.{Pool, is_available, is_in, freed_in, taken_in}
+use Rattle.std.specs.Prelude.{◌&&◌, ◌||◌, ◌∷◌, ◌≡◌, ◌≢◌}
+use Rattle.tag_search.proofs.Uses.{[], ap, Bool, eq-eqb, false, freed_in, is_available, is_in, IsLeastAvailable, List, nat_eq, ne_eqb, not, Pool, refl, sym, taken_in, true, ℕ, ◌∙◌}
 
 -- pools with the same places are equal
 pub pool_ext : (p q : Pool) → ((i k : ℕ) → p.free i k ≡ q.free i k) → ((i k : ℕ) → p.aside i k ≡ q.aside i k) → p ≡ q

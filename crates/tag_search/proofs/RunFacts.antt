@@ -1,28 +1,8 @@
 -- A batch get over a shared map adds the tags that it won to its caller's held set, and keeps the rest.
-use Rattle.std.proofs.Common.{◌≡◌, ℕ, ◌+◌, ◌-◌, ◌*◌, ◌%◌, ◌^◌, ◌<◌, ◌≤◌, List, [], ◌∷◌, Option, Some, None}
-use Rattle.std.proofs.Common.{bit_and, count_ones, arith, refl, sym, ap, ◌∙◌, subst, ⊎_elim}
-use Rattle.std.specs.Prelude.{IfSome}
-use Rattle.std.specs.Int.{bit_at}
-use Rattle.std.specs.Int.Bits.{and_zero_l}
-use Rattle.std.proofs.lemmas.Bool.{cases_lt}
-use Rattle.std.proofs.lemmas.Nat.{and_le_l, and_mod, ones_cat, pow_pos}
-use Rattle.std.proofs.lemmas.Nat.Bits.{bit_at_above}
-use Rattle.std.proofs.Math.Nat.{div-mul-le_self, mod-eq-sub-div-mul, mul-mod_left}
-use lib.Count.{ones}
-use Rattle.tag_layout.specs.Layout.{Layout, word_bits, word_of, place_of, word_depth, tag_at}
-use Rattle.tag_layout.proofs.PlaceFacts.{word_of-tag_at, place_of-tag_at}
-use Rattle.tag_layout.proofs.Scans.{bit_at-shr}
-use Rattle.tag_core.specs.declared.record.Record.{Record}
-use Rattle.tag_core.specs.declared.step.Step.TheVariants.{Word}
-use Rattle.tag_core.specs.declared.word_step.WordStep.{WordStep}
-use Rattle.tag_core.specs.declared.word_step.WordStep.TheVariants.{Look, Claimed}
-use Rattle.tag_core.specs.Records.{record_after, joined}
-use Rattle.tag_core.specs.Steps.{without}
-use Rattle.tag_search.specs.Batch.{run_mask, run_won, IsSweptLook, swept_look, IsBatchVisit, no_run, run_lost}
-use Rattle.tag_search.specs.Batch.{run_taken, IsBatchSearch, batch_over, batch_won, batch_passed}
-use Rattle.tag_search.specs.Gains.{held_with_run, count_of_run}
-use Rattle.tag_search.specs.Shared.{record_after_all}
-use Rattle.tag_search.proofs.Claims.{count_ones-zero}
+use Rattle.std.specs.Prelude.{◌%◌, ◌*◌, ◌+◌, ◌-◌, ◌<◌, ◌^◌, ◌∷◌, ◌≡◌, ◌≤◌}
+use Rattle.tag_search.proofs.Uses.{[], and_le_l, and_mod, and_zero_l, ap, arith, batch_over, batch_passed, batch_won, bit_and, bit_at, bit_at-shr, bit_at_above, cases_lt, Claimed, count_of_run, count_ones, count_ones-zero, div-mul-le_self, held_with_run, IfSome, IsBatchSearch, IsBatchVisit}
+use Rattle.tag_search.proofs.Uses.{IsSweptLook, joined, Layout, List, Look, mod-eq-sub-div-mul, mul-mod_left, no_run, None, ones, ones_cat, Option, place_of, place_of-tag_at, pow_pos, Record, record_after, record_after_all, refl, run_lost, run_mask, run_taken, run_won, Some, subst, swept_look, sym}
+use Rattle.tag_search.proofs.Uses.{tag_at, without, Word, word_bits, word_depth, word_of, word_of-tag_at, WordStep, ℕ, ⊎_elim, ◌∙◌}
 use Rattle.tag_search.proofs.Runs.{run_below}
 use Rattle.tag_search.proofs.SharedFacts.{Took, TookNone, took_more, took_none, took_look, sweep_took, took_lost}
 

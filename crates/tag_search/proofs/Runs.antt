@@ -1,11 +1,6 @@
 -- Masks of several adjacent bits.
-use Rattle.std.proofs.Common.{◌≡◌, ℕ, zero, suc, ◌+◌, ◌-◌, ◌*◌, ◌/◌, ◌%◌, ◌^◌, ◌<◌, ◌≤◌, count_ones, arith, ap}
-use Rattle.std.proofs.Common.{◌∙◌}
-use Rattle.std.proofs.lemmas.Nat.{ones_cat, pow_pos, shl_whole, shl_below}
-use Rattle.std.proofs.lemmas.Nat.Bits.{ones_shr}
-use Rattle.std.proofs.Math.Nat.{pow-suc, pow-le-pow_right}
-use Rattle.tag_search.specs.Batch.{run_mask}
-use Rattle.tag_search.proofs.Claims.{count_ones-pow, count_ones-zero}
+use Rattle.std.specs.Prelude.{◌%◌, ◌*◌, ◌+◌, ◌-◌, ◌/◌, ◌<◌, ◌^◌, ◌≡◌, ◌≤◌}
+use Rattle.tag_search.proofs.Uses.{ap, arith, count_ones, count_ones-pow, count_ones-zero, ones_cat, ones_shr, pow-le-pow_right, pow-suc, pow_pos, run_mask, shl_below, shl_whole, suc, zero, ℕ, ◌∙◌}
 
 ones-low : (n : ℕ) → count_ones (2 ^ n - 1) ≡ n
 ones-low zero = count_ones-zero

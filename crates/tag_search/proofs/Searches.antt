@@ -1,12 +1,6 @@
 -- Searches of some visits, and then of further ones.
-use Rattle.std.proofs.Common.{◌≡◌, ℕ, ◌≤◌, List, ◌∷◌, ◌++◌, map, Option, Some, None, sym, ap, ◌∙◌}
-use Rattle.std.proofs.Common.{subst}
-use Rattle.std.proofs.lemmas.List.{append_assoc, map-append}
-use Rattle.tag_core.specs.declared.word_step.WordStep.{WordStep}
-use Rattle.tag_layout.specs.Layout.{Layout, words}
-use Rattle.tag_search.specs.Order.{numbers}
-use Rattle.tag_search.specs.Visits.{Reach, visit_of, visits}
-use Rattle.tag_search.specs.Search.{Visit, IsSearch, over, won, passed}
+use Rattle.std.specs.Prelude.{◌++◌, ◌∷◌, ◌≡◌, ◌≤◌}
+use Rattle.tag_search.proofs.Uses.{ap, append_assoc, IsSearch, Layout, List, map, map-append, None, numbers, Option, over, passed, Reach, Some, subst, sym, Visit, visit_of, visits, won, words, WordStep, ℕ, ◌∙◌}
 use Rattle.tag_search.proofs.Orders.{order-split}
 
 -- a search that has an answer makes no further visits

@@ -1,10 +1,7 @@
 -- The fields of a plain port as contracts see them, and what a call reads in them.
-use Rattle.std.proofs.Common.{◌≡◌, ℕ, ◌<◌, List, length, get_or, sym, subst}
-use Rattle.std.proofs.lemmas.List.{get_or_read}
-use Rattle.tag_layout.specs.Layout.{words}
+use Rattle.std.specs.Prelude.{◌<◌, ◌≡◌}
+use Rattle.tag_search.proofs.Uses.{get_or, get_or_read, IsTidy, length, List, Plain, subst, sym, words, ℕ}
 use Rattle.tag_search.specs.declared.plain.PlainPort.TheInside.{Inside}
-use Rattle.tag_search.specs.Plain.{Plain}
-use Rattle.tag_search.specs.Writes.{IsTidy}
 
 -- what contracts see of a port
 abbrev pub seen : Inside → Plain

@@ -1,37 +1,11 @@
 -- The steps that calls on a shared map add, in the form of the port's clauses.
-use Rattle.std.proofs.Common.{◌≡◌, ℕ, ◌≢◌, ◌+◌, ◌^◌, ◌<◌, List, [], ◌∷◌, length, get_or, bit_or, count_ones, Result, Ok, Err, inl, inr}
-use Rattle.std.proofs.Common.{get_or-set_same, get_or-set_other, arith, sym, ap, ◌∙◌, subst}
-use Rattle.std.specs.Prelude.{IfOk, IfErr}
-use mathlib.Core.Logic.{dite}
-use native.Mathlib.Decide.{ℕ_discrete}
-use Rattle.std.specs.Int.{bit_at}
-use Rattle.std.proofs.lemmas.Nat.Bits.{bit_at_or, bit_at-lt}
-use Rattle.step_ledger.specs.History.{total}
-use Rattle.tag_layout.specs.Layout.{Layout, word_of, place_of, tag_at, words}
-use Rattle.tag_layout.proofs.PlaceFacts.{tag_at-back}
-use Rattle.tag_core.specs.declared.caller.Caller.{Caller}
-use Rattle.tag_core.specs.declared.record.Record.{Record}
-use Rattle.tag_core.specs.declared.shape.Shape.{Shape}
-use Rattle.tag_core.specs.declared.step.Step.TheVariants.{Word}
-use Rattle.tag_core.specs.declared.word_step.WordStep.{WordStep}
-use Rattle.tag_core.specs.declared.word_step.WordStep.TheVariants.{LookAside, Claimed, Swap, Keep, Spill}
-use Rattle.tag_core.specs.declared.map.Map.{Map}
-use Rattle.tag_core.specs.Callers.{layout_of, IsCallerOf, Holds, Adds, AddsTwo}
-use Rattle.tag_core.specs.Holdings.{Acquires}
-use Rattle.tag_core.specs.Keeping.{KeepsLeast}
-use Rattle.tag_core.specs.Records.{joined, held_after_word, tag_bit}
-use Rattle.tag_core.specs.Steps.{without}
-use Rattle.tag_core.proofs.Masks.{minus_le}
+use Rattle.std.specs.Prelude.{◌+◌, ◌<◌, ◌^◌, ◌∷◌, ◌≡◌, ◌≢◌}
+use Rattle.tag_search.proofs.Uses.{[], Acquires, Adds, adds_on, AddsAll, AddsThrough, AddsTwo, ap, arith, bit_at, bit_at-lt, bit_at_or, bit_is, bit_or, Caller, Claimed, count_ones, count_ones-zero, dite, Err, FindsHeldBy, FindsWord, freed_by, get_or, get_or-set_other, get_or-set_same, HasRoom}
+use Rattle.tag_search.proofs.Uses.{held_after_word, Holds, IfErr, IfOk, inl, inr, IsCallerOf, IsKeepingSweep, IsLeastKept, IsSweep, joined, Keep, KeepsLeast, kept_alone, kept_one, latest_after_all, latest_of, Layout, layout_of, length, List, LookAside, Map, minus_le, none_where_taken, Ok, place_of}
+use Rattle.tag_search.proofs.Uses.{Ports, Record, Result, SameRoom, Shape, Shared, Spill, subst, Swap, sym, tag_at, tag_at-back, tag_bit, total, without, Word, word_of, words, WordStep, ℕ, ℕ_discrete, ◌∙◌}
 use Rattle.tag_core.proofs.TagBits.{small_word}
-use Rattle.tag_search.proofs.OneTag.{bit_is, one_place}
+use Rattle.tag_search.proofs.OneTag.{one_place}
 use Rattle.tag_core.specs.Claims.{ClaimsPlace}
-use Rattle.tag_core.proofs.OnePlace.{none_where_taken, count_ones-zero}
-use Rattle.tag_search.specs.declared.shared.Shared.{Shared}
-use Rattle.tag_search.specs.Added.{AddsSteps as Ports, SameRoom}
-use Rattle.tag_search.specs.Freed.{spilled as freed_by}
-use Rattle.tag_search.specs.Search.{IsSweep, IsKeepingSweep, kept_alone, kept_one, IsLeastKept}
-use Rattle.tag_search.specs.SharedLaws.{adds_on}
-use Rattle.tag_search.specs.Shared.{HasRoom, FindsWord, FindsHeldBy, AddsAll, AddsThrough, latest_of, latest_after_all}
 
 -- adding bits to a word keeps the bit of a tag
 pub bit_kept : (l : Layout) (held : List ℕ) (i mask tag : ℕ) → i < length held → tag_bit l held tag ≡ 1

@@ -1,29 +1,9 @@
 -- A get over a shared map adds the tag that it won to its caller's held set, and keeps the rest.
-use Rattle.std.proofs.Common.{◌≡◌, ℕ, ◌+◌, ◌^◌, ◌<◌, ◌≤◌, List, [], ◌∷◌, ◌++◌, Option}
-use Rattle.std.proofs.Common.{Some, None, get_or, set, count_ones, arith, refl, sym, ap, ◌∙◌, subst}
-use Rattle.std.specs.Prelude.{All, IfSome}
-use Rattle.std.specs.List.{AllByRecursion}
-use Rattle.std.specs.Int.{bit_at}
-use Rattle.std.specs.Int.Bits.{or_zero_r}
-use Rattle.std.proofs.lemmas.List.{set-get_or}
-use Rattle.std.proofs.lemmas.List.Elements.{All-head, All-tail}
-use lib.Count.{ones}
-use Rattle.tag_layout.specs.Layout.{Layout, word_bits, word_depth, tag_at}
-use Rattle.tag_layout.proofs.PlaceFacts.{word_of-tag_at, place_of-tag_at, tag_at-below}
-use Rattle.tag_core.specs.declared.record.Record.{Record}
-use Rattle.tag_core.specs.declared.step.Step.TheVariants.{Word}
-use Rattle.tag_core.specs.declared.word_step.WordStep.{WordStep}
-use Rattle.tag_core.specs.declared.word_step.WordStep.TheVariants.{Look, Claimed}
-use Rattle.tag_core.specs.Records.{record_after, joined}
-use Rattle.tag_core.specs.Steps.{without}
-use Rattle.tag_search.specs.Gains.{held_with, count_of}
-use Rattle.tag_search.specs.Search.{IsTries, none_left, wins, loses, IsPass, pass, IsSweep, unseen, empty, spilled}
-use Rattle.tag_search.specs.Search.{IsKeepingSweep, kept_alone, kept_one, IsRetry, no_turn, turn_won, turn_kept, turn_passed, IsVisit, at_once, retried, Visit}
-use Rattle.tag_search.specs.Search.{IsSearch, over, won, passed}
-use Rattle.tag_search.specs.Shared.{record_after_all, FindsWord}
-use Rattle.tag_search.specs.SharedLaws.{record_after-append}
-pub use Rattle.tag_search.proofs.Claims.{count_ones-zero}
-use Rattle.tag_search.proofs.Claims.{count_ones-pow, won_where_clear, none_where_taken}
+use Rattle.std.specs.Prelude.{◌++◌, ◌+◌, ◌<◌, ◌^◌, ◌∷◌, ◌≡◌, ◌≤◌}
+use Rattle.tag_search.proofs.Uses.{[], All, All-head, All-tail, AllByRecursion, ap, arith, at_once, bit_at, Claimed, count_of, count_ones, count_ones-pow, empty, FindsWord, get_or, held_with, IfSome, IsKeepingSweep, IsPass, IsRetry, IsSearch, IsSweep, IsTries, IsVisit, joined, kept_alone, kept_one}
+use Rattle.tag_search.proofs.Uses.{Layout, List, Look, loses, no_turn, None, none_left, none_where_taken, ones, Option, or_zero_r, over, pass, passed, place_of-tag_at, Record, record_after, record_after-append, record_after_all, refl, retried, set, set-get_or, Some, spilled, subst, sym, tag_at}
+use Rattle.tag_search.proofs.Uses.{tag_at-below, turn_kept, turn_passed, turn_won, unseen, Visit, wins, without, won, won_where_clear, Word, word_bits, word_depth, word_of-tag_at, WordStep, ℕ, ◌∙◌}
+pub use Rattle.tag_core.proofs.OneBit.{count_ones-zero}
 use Rattle.tag_search.proofs.Inside.{IsInside}
 use Rattle.tag_search.proofs.KeptPlaces.{kept_has}
 use Rattle.tag_search.proofs.Passes.{all_left}

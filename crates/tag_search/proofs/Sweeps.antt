@@ -1,19 +1,8 @@
 -- The pool of the words after claims and sweeps.
-use Rattle.std.proofs.Common.{◌≡◌, ℕ, zero, suc, ◌-◌, ◌^◌, ◌<◌, min, max, Bool, true, false, not, ◌&&◌, ◌||◌, cond}
-use Rattle.std.proofs.Common.{nat_eq, nat_lt, List, [], ◌∷◌, bit_or, arith, refl, sym, ap, ◌∙◌, eq-eqb, ne_eqb}
-use Rattle.std.proofs.Common.{eqb-true, inl, inr}
-use mathlib.Core.Logic.{dite}
-use native.Mathlib.Decide.{ℕ_discrete}
-use Rattle.std.specs.Int.{bit_at, w64}
-use Rattle.std.proofs.lemmas.Bool.{lt-ltb, ltb-true}
-use Rattle.std.proofs.lemmas.Nat.Bits.{bit_at_and, bit_at_or, bit_at_not, bit_at-lt, bit_at-zero, bit_at-pow_same}
-use Rattle.std.proofs.lemmas.Nat.Bits.{bit_at-pow_other}
-use Rattle.tag_core.specs.declared.word_step.WordStep.{WordStep}
-use Rattle.tag_core.specs.declared.word_step.WordStep.TheVariants.{LookAside, Claimed, Swap, Spill}
-use Rattle.tag_core.specs.Steps.{Words, Quiet, words_after, words_after_all, without}
-use Rattle.tag_search.specs.Pool.{pool_of, freed_in, taken_in, taken_at}
-use Rattle.tag_search.specs.Search.{IsSweep, unseen, empty, spilled}
-use Rattle.tag_search.proofs.OneTag.{bit_is, both_true}
+use Rattle.std.specs.Prelude.{◌&&◌, ◌-◌, ◌<◌, ◌^◌, ◌||◌, ◌∷◌, ◌≡◌}
+use Rattle.tag_search.proofs.Uses.{[], ap, arith, bit_at, bit_at-lt, bit_at-pow_other, bit_at-pow_same, bit_at-zero, bit_at_and, bit_at_not, bit_at_or, bit_is, bit_or, Bool, Claimed, cond, dite, empty, eq-eqb, eqb-true, false, freed_in, inl, inr, IsSweep, List, LookAside, lt-ltb, ltb-true, max, min}
+use Rattle.tag_search.proofs.Uses.{nat_eq, nat_lt, ne_eqb, not, pool_of, Quiet, refl, Spill, spilled, suc, Swap, sym, taken_at, taken_in, true, unseen, w64, without, Words, words_after, words_after_all, WordStep, zero, ℕ, ℕ_discrete, ◌∙◌}
+use Rattle.tag_search.proofs.OneTag.{both_true}
 use Rattle.tag_search.proofs.Pools.{pool_ext, or_false, and_true, and_false, taken_same}
 
 -- the place is below 64, and its bit is 0 (or 1)

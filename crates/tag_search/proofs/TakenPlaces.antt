@@ -1,15 +1,7 @@
 -- The places of a word that are taken and not set aside.
-use Rattle.std.proofs.Common.{◌≡◌, ℕ, ◌+◌, ◌-◌, ◌*◌, ◌/◌, ◌%◌, ◌^◌, ◌<◌, get_or, bit_and, arith, sym, ap, ◌∙◌, inl, inr}
-use mathlib.Core.Logic.{dite}
-use native.Mathlib.Decide.{dec_lt}
-use Rattle.std.specs.Int.{bit_at, w64}
-use Rattle.std.proofs.lemmas.Nat.{pow_pos, mod_below, div-add-mod'}
-use Rattle.std.proofs.lemmas.Nat.Bits.{bit_at_and, bit_at_not, bit_at-lt, bit_at-zero, bit_at_above, same_from_bits}
-use Rattle.tag_layout.specs.Layout.{IsWithin, word_depth}
-use Rattle.tag_layout.proofs.Scans.{bit_at-shr}
-use Rattle.tag_search.specs.Plain.{Plain, IsTaken}
-use Rattle.tag_search.specs.Writes.{IsTidy}
-use Rattle.tag_search.proofs.OneTag.{bit_is}
+use Rattle.std.specs.Prelude.{◌%◌, ◌*◌, ◌+◌, ◌-◌, ◌/◌, ◌<◌, ◌^◌, ◌≡◌}
+use Rattle.tag_search.proofs.Uses.{ap, arith, bit_and, bit_at, bit_at-lt, bit_at-shr, bit_at-zero, bit_at_above, bit_at_and, bit_at_not, bit_is, dec_lt, dite, div-add-mod', get_or, inl, inr, IsTaken, IsTidy, IsWithin, mod_below, Plain, pow_pos, same_from_bits, sym, w64, word_depth, ℕ}
+use Rattle.tag_search.proofs.Uses.{◌∙◌}
 
 -- a number whose bits are all below a place is below that power of two
 pub below_of_bits : (n w : ℕ) → ((k : ℕ) → bit_at n k ≡ 1 → k < w) → n < 2 ^ w

@@ -1,11 +1,7 @@
 -- Sums over the words of a list, in the order in which a search visits them.
-use Rattle.std.proofs.Common.{◌≡◌, ℕ, zero, suc, ◌+◌, ◌-◌, ◌*◌, ◌≤◌, Bool, true, false, cond, nat_eq, ne_eqb, List, [], ◌∷◌, arith, refl, ap, ◌∙◌}
-use mathlib.Core.Logic.{dite}
-use native.Mathlib.Decide.{ℕ_discrete}
+use Rattle.std.specs.Prelude.{◌*◌, ◌+◌, ◌-◌, ◌∷◌, ◌≡◌, ◌≤◌}
+use Rattle.tag_search.proofs.Uses.{[], ap, arith, Bool, cond, dite, false, Layout, List, nat_eq, ne_eqb, numbers, numbers_from, refl, suc, true, word_depth, word_depths-sum, words, zero, ℕ, ℕ_discrete, ◌∙◌}
 use Rattle.sums.specs.Below.{sum_below}
-use Rattle.tag_layout.specs.Layout.{Layout, words, word_depth}
-use Rattle.tag_layout.proofs.PlaceFacts.{word_depths-sum}
-use Rattle.tag_search.specs.Order.{numbers_from, numbers}
 
 -- the sum of f over a list
 abbrev pub tally : (ℕ → ℕ) → List ℕ → ℕ

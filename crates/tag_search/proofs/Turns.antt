@@ -1,9 +1,6 @@
 -- The state between the turns of a visit.
-use Rattle.std.proofs.Common.{◌≡◌, ℕ, suc, ◌<◌, true, List, [], ◌++◌, Some, None, sym, subst}
-use Rattle.tag_core.specs.declared.word_step.WordStep.{WordStep}
-use Rattle.tag_search.specs.Added.{AddsSteps}
-use Rattle.tag_search.specs.Order.{scan_order}
-use Rattle.tag_search.specs.Search.{IsPass, IsSweep, IsLeastKept, IsFirstSwept, IsRetry, no_turn, turn_won, turn_kept, turn_passed}
+use Rattle.std.specs.Prelude.{◌++◌, ◌<◌, ◌≡◌}
+use Rattle.tag_search.proofs.Uses.{[], AddsSteps, IsFirstSwept, IsLeastKept, IsPass, IsRetry, IsSweep, List, no_turn, None, scan_order, Some, subst, suc, sym, true, turn_kept, turn_passed, turn_won, WordStep, ℕ}
 use Rattle.tag_search.proofs.KeptPlaces.{first_swept}
 use Rattle.tag_search.proofs.Joined.{Begins, adds_weaker, adds_joined, adds_further, adds_ended, adds_over}
 

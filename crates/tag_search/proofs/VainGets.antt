@@ -1,27 +1,8 @@
 -- A get that finds no tag has tried each one, and so its caller has to see to none.
-use Rattle.std.proofs.Common.{◌≡◌, ℕ, zero, suc, ◌+◌, ◌<◌, ◌≤◌, ◌⊎◌, min, nat_eq, cond, Bool, true, false, List, [], ◌∷◌, map, None, arith, refl, sym, ap, ◌∙◌, subst, inl, inr, ⊎_elim}
-use Rattle.std.specs.Prelude.{Contains, Option, Some, IfNone}
-use Rattle.std.proofs.lemmas.List.Elements.{Contains-append_left, Contains-append_right}
-use mathlib.Core.Logic.{dite}
-use native.Mathlib.Decide.{dec_le}
-use Rattle.tag_layout.specs.Layout.{Layout, words, word_depth, word_of, place_of}
-use Rattle.tag_layout.proofs.PlaceFacts.{word_of-below, place_of-below}
-use Rattle.tag_core.specs.declared.caller.Caller.{Caller}
-use Rattle.tag_core.specs.declared.record.Record.{Record}
-use Rattle.tag_core.specs.declared.step.Step.{Step}
-use Rattle.tag_core.specs.declared.shape.Shape.{Shape}
-use Rattle.tag_core.specs.declared.map.Map.{Map}
-use Rattle.tag_core.specs.Callers.{layout_of, IsCallerOf, record_of}
-use Rattle.tag_bell.specs.Waiting.{TriedAll, OwesNothing, in_word, in_aside}
-use Rattle.tag_search.specs.declared.hint.Hint.{Hint}
-use Rattle.tag_search.specs.AloneLaws.{own_after}
-use Rattle.tag_search.specs.Gets.{IsGet}
-use Rattle.tag_search.specs.Hints.{reduced}
-use Rattle.tag_search.specs.Order.{numbers, scan_order}
-use Rattle.tag_search.specs.Shared.{Makes}
-use Rattle.tag_search.specs.SharedLaws.{shape_after}
+use Rattle.tag_search.proofs.Uses.{[], ap, arith, Bool, Caller, cond, Contains, Contains-append_left, Contains-append_right, dec_le, dite, false, Hint, IfNone, in_aside, in_word, inl, inr, IsCallerOf, IsGet, Layout, layout_of, List, Makes, Map, map, min, nat_eq, None, numbers, OwesNothing}
+use Rattle.tag_search.proofs.Uses.{own_after, place_of, place_of-below, plain_reach, plain_visits, Reach, Record, record_of, reduced, refl, scan_order, Shape, shape_after, Step, subst, suc, sym, TriedAll, true, visit_of, word_depth, word_of, word_of-below, words, zero, ℕ, ⊎_elim, ◌∙◌}
+use Rattle.std.specs.Prelude.{Option, Some, ◌+◌, ◌<◌, ◌∷◌, ◌≡◌, ◌≤◌, ◌⊎◌}
 use Rattle.tag_search.specs.Vain.{TriesAll, MaySleep}
-use Rattle.tag_search.specs.Visits.{Reach, visit_of, plain_reach, plain_visits}
 use Rattle.tag_search.proofs.AloneFacts.{own_of_record}
 use Rattle.tag_search.proofs.Closing.{AreFull, IsVisited, IsClosed, search_closes}
 use Rattle.tag_search.proofs.Orders.{numbers-at}

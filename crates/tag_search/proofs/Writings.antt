@@ -1,17 +1,8 @@
 -- The bits of a list of words after one write, and that the words stay tidy.
-use Rattle.std.proofs.Common.{◌≡◌, ◌≢◌, ℕ, ◌-◌, ◌^◌, ◌<◌, min, List, length, get_or, set, bit_or, arith}
-use Rattle.std.proofs.Common.{sym, ap, ◌∙◌, subst, inl, inr, get_or-set_other, get_or-set_same}
-use mathlib.Core.Logic.{dite}
-use native.Mathlib.Decide.{ℕ_discrete, dec_lt}
-use Rattle.std.specs.Int.{bit_at}
-use Rattle.std.proofs.Math.ListN.{length-set}
-use Rattle.std.proofs.lemmas.Nat.Bits.{bit_at_and, bit_at_or, bit_at-lt, bit_at-zero, bit_at_above}
-use Rattle.std.proofs.lemmas.Nat.Bits.{bit_at-pow_same}
-use Rattle.tag_core.specs.Steps.{without}
-use Rattle.tag_layout.specs.Layout.{word_depth, IsWithin}
-use Rattle.tag_search.specs.Plain.{Plain}
-use Rattle.tag_search.specs.Writes.{WritesBits, IsIn, IsTidy}
-use Rattle.tag_search.proofs.OneTag.{bit_is, one_place}
+use Rattle.std.specs.Prelude.{◌-◌, ◌<◌, ◌^◌, ◌≡◌, ◌≢◌}
+use Rattle.tag_search.proofs.Uses.{ap, arith, bit_at, bit_at-lt, bit_at-pow_same, bit_at-zero, bit_at_above, bit_at_and, bit_at_or, bit_is, bit_or, dec_lt, dite, get_or, get_or-set_other, get_or-set_same, inl, inr, IsIn, IsTidy, IsWithin, length, length-set, List, min, Plain, set, subst, sym}
+use Rattle.tag_search.proofs.Uses.{without, word_depth, WritesBits, ℕ, ℕ_discrete, ◌∙◌}
+use Rattle.tag_search.proofs.OneTag.{one_place}
 use Rattle.tag_search.proofs.Seen.{Reads}
 use Rattle.tag_search.proofs.Sweeps.{bit_without}
 

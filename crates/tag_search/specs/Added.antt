@@ -1,6 +1,6 @@
 -- The steps that a call adds through a port.
-use Rattle.std.specs.Prelude.{ℕ, List, ◌↔◌}
-use Rattle.tag_core.specs.declared.word_step.WordStep.{WordStep}
+use Rattle.std.specs.Prelude.{◌↔◌}
+use Rattle.tag_search.specs.Uses.{List, WordStep, ℕ}
 
 -- the port made some steps between the two states, and the fact holds of them
 pub record AddsSteps {Port : Type 0} (adds : Port → List WordStep → Port → Type 0) (old new : Port) (fact : List WordStep

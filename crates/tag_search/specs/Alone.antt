@@ -1,8 +1,6 @@
 -- What the only caller of a map knows of it from its own steps.
-use Rattle.std.specs.Prelude.{◌≡◌, ℕ, Bool, nat_eq, List, Option}
-use Rattle.tag_layout.specs.Layout.{Layout}
-use Rattle.tag_core.specs.declared.caller.Caller.{Caller}
-use Rattle.tag_core.specs.Callers.{record_of}
+use Rattle.std.specs.Prelude.{◌≡◌}
+use Rattle.tag_search.specs.Uses.{Bool, Caller, Layout, List, nat_eq, Option, record_of, ℕ}
 use Rattle.tag_search.specs.AloneLaws.{cells_left, words_left}
 use Rattle.tag_search.specs.Pool.{Pool, pool_of}
 use Rattle.tag_search.specs.Search.{Visit}

@@ -1,13 +1,8 @@
 -- Laws of gets on a map of one caller: no other caller steps, so each get is the choice over what the caller's earlier
 -- steps left.
-use Rattle.std.specs.Prelude.{◌≡◌, ℕ, List, [], ◌∷◌, ◌++◌, map, Option}
-use Rattle.tag_layout.specs.Layout.{Layout}
-use Rattle.tag_core.specs.declared.shape.Shape.{Shape}
-use Rattle.tag_core.specs.declared.step.Step.{Step}
-use Rattle.tag_core.specs.declared.step.Step.TheVariants.{Word}
-use Rattle.tag_core.specs.declared.word_step.WordStep.{WordStep}
+use Rattle.std.specs.Prelude.{◌++◌, ◌∷◌, ◌≡◌}
+use Rattle.tag_search.specs.Uses.{[], Layout, List, map, Option, Shape, Step, Word, Words, WordStep, ℕ}
 use Rattle.tag_core.specs.Histories.{Cells, History, cells_of, IsLawful, steps_by}
-use Rattle.tag_core.specs.Steps.{Words}
 use Rattle.tag_search.specs.Batch.{IsBatchGet, batch_words}
 use Rattle.tag_search.specs.Choice.{IsChoice, IsBatchChoice}
 use Rattle.tag_search.specs.Gets.{IsGet}

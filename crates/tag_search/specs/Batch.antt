@@ -1,10 +1,7 @@
 -- Which steps are a search for several adjacent tags in one word.
-use Rattle.std.specs.Prelude.{◌≡◌, ◌≢◌, ℕ, ◌+◌, ◌-◌, ◌*◌, ◌/◌, ◌^◌, ◌<◌, ◌≤◌, true, List, [], ◌∷◌, ◌++◌, Option, Some, None, length}
-use Rattle.tag_core.specs.declared.word_step.WordStep.{WordStep}
-use Rattle.tag_core.specs.declared.word_step.WordStep.TheVariants.{Look, Claimed}
-use Rattle.tag_core.specs.Steps.{Words, Quiet, words_after_all, without}
+use Rattle.std.specs.Prelude.{◌*◌, ◌++◌, ◌+◌, ◌-◌, ◌/◌, ◌<◌, ◌^◌, ◌∷◌, ◌≡◌, ◌≢◌, ◌≤◌}
+use Rattle.tag_search.specs.Uses.{[], Claimed, Layout, length, List, Look, None, Option, Quiet, Some, tag_at, true, without, word_bits, word_depth, Words, words, words_after_all, WordStep, ℕ}
 use Rattle.tag_layout.specs.Bits.{IsFirstClear}
-use Rattle.tag_layout.specs.Layout.{Layout, word_bits, words, word_depth, tag_at}
 use Rattle.tag_search.specs.Pool.{pool_of}
 use Rattle.tag_search.specs.Choice.{IsBatchChoice}
 use Rattle.tag_search.specs.Order.{scan_order}

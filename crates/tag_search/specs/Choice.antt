@@ -1,7 +1,6 @@
 -- The answer of a search if no other caller steps, and the pool after it: a choice over free and aside places.
-use Rattle.std.specs.Prelude.{◌≡◌, ◌↔◌, ℕ, ◌+◌, ◌<◌, ◌≤◌, true, false, List, ◌∷◌, ◌++◌, map, All, Option, Some, None}
-use Rattle.std.specs.Int.{bit_at}
-use Rattle.tag_layout.specs.Layout.{Layout, word_of, place_of, word_depth, tag_at}
+use Rattle.std.specs.Prelude.{◌++◌, ◌+◌, ◌<◌, ◌↔◌, ◌∷◌, ◌≡◌, ◌≤◌}
+use Rattle.tag_search.specs.Uses.{All, bit_at, false, Layout, List, map, None, Option, place_of, Some, tag_at, true, word_depth, word_of, ℕ}
 use Rattle.tag_search.specs.Pool.{Pool, is_available, freed_in, taken_at, taken_from}
 use Rattle.tag_search.specs.Search.{Visit}
 

@@ -1,12 +1,6 @@
 -- How many tags the sweeps of a caller freed, and how many of them it left free.
-use Rattle.std.specs.Prelude.{ℕ, ◌-◌, List, [], ◌∷◌, bit_and, count_ones, slice_index_or}
-use Rattle.step_ledger.specs.History.{total}
-use Rattle.tag_core.specs.declared.caller.Caller.{Caller}
-use Rattle.tag_core.specs.declared.step.Step.{Step}
-use Rattle.tag_core.specs.declared.step.Step.TheVariants.{Word}
-use Rattle.tag_core.specs.declared.word_step.WordStep.{WordStep}
-use Rattle.tag_core.specs.declared.word_step.WordStep.TheVariants.{Spill}
-use Rattle.tag_core.specs.Callers.{record_of}
+use Rattle.std.specs.Prelude.{◌-◌, ◌∷◌}
+use Rattle.tag_search.specs.Uses.{[], bit_and, Caller, count_ones, List, record_of, slice_index_or, Spill, Step, total, Word, WordStep, ℕ}
 
 -- the tags that a step on a word freed for a sweep
 abbrev pub spilled : WordStep → ℕ

@@ -1,11 +1,7 @@
 -- What a get over a shared map changes of its caller.
-use Rattle.std.specs.Prelude.{◌≡◌, ℕ, ◌+◌, ◌*◌, ◌^◌, List, Option, Some, None, count_ones}
-use Rattle.std.specs.Int.{bit_at}
-use Rattle.tag_layout.specs.Layout.{Layout, word_of, place_of}
-use Rattle.tag_core.specs.declared.caller.Caller.{Caller}
-use Rattle.tag_core.specs.Callers.{record_of, SameMap}
+use Rattle.std.specs.Prelude.{◌*◌, ◌+◌, ◌^◌, ◌≡◌}
+use Rattle.tag_search.specs.Uses.{bit_at, Caller, count_ones, joined, Layout, List, None, Option, place_of, record_of, SameMap, Some, word_of, ℕ}
 use Rattle.tag_core.specs.Holdings.{Acquires}
-use Rattle.tag_core.specs.Records.{joined}
 
 -- the held set with the tag won, if there is one
 abbrev pub held_with : Layout → Option ℕ → List ℕ → List ℕ

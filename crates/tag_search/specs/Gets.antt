@@ -1,8 +1,6 @@
 -- The steps of a get, and its answer.
-use Rattle.std.specs.Prelude.{ℕ, ◌+◌, ◌*◌, ◌≤◌, List, length, Option}
-use Rattle.tag_layout.specs.Layout.{Layout, word_bits, words}
-use Rattle.tag_core.specs.declared.word_step.WordStep.{WordStep}
-use Rattle.tag_core.specs.Steps.{Words, Quiet, words_after_all}
+use Rattle.std.specs.Prelude.{◌*◌, ◌+◌, ◌≤◌}
+use Rattle.tag_search.specs.Uses.{Layout, length, List, Option, Quiet, word_bits, Words, words, words_after_all, WordStep, ℕ}
 use Rattle.tag_search.specs.Pool.{pool_of}
 use Rattle.tag_search.specs.Choice.{IsChoice}
 use Rattle.tag_search.specs.Search.{Visit, IsSearch}

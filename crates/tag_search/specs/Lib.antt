@@ -1,3 +1,4 @@
+mod Uses
 pub mod Order
 pub mod Search
 pub mod Visits

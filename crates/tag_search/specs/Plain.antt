@@ -1,9 +1,6 @@
 -- What a contract sees of a `PlainPort`, and the effect of its steps.
-use Rattle.std.specs.Prelude.{◌≡◌, ℕ, List, Bool, slice_index}
-use Rattle.std.specs.Int.{bit_at}
-use Rattle.tag_core.specs.declared.word_step.WordStep.{WordStep}
-use Rattle.tag_core.specs.Steps.{Words, Quiet, words_after_all}
-use Rattle.tag_layout.specs.Layout.{Layout, word_of, place_of}
+use Rattle.std.specs.Prelude.{◌≡◌}
+use Rattle.tag_search.specs.Uses.{bit_at, Bool, Layout, List, place_of, Quiet, slice_index, word_of, Words, words_after_all, WordStep, ℕ}
 use Rattle.tag_search.specs.Pool.{pool_of, is_busy}
 
 -- the layout, each word, and the cleared set of each word, in order

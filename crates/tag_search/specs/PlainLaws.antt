@@ -1,8 +1,6 @@
 -- Lists of steps by one caller alone, one after the other.
-use Rattle.std.specs.Prelude.{◌≡◌, List, [], ◌∷◌, ◌++◌, refl}
-use Rattle.std.proofs.Common.{sym, ap, ◌∙◌, subst}
-use Rattle.tag_core.specs.declared.word_step.WordStep.{WordStep}
-use Rattle.tag_core.specs.Steps.{Words, Quiet, words_after, words_after_all}
+use Rattle.std.specs.Prelude.{◌++◌, ◌∷◌, ◌≡◌}
+use Rattle.tag_search.specs.Uses.{[], ap, List, Quiet, refl, subst, sym, Words, words_after, words_after_all, WordStep, ◌∙◌}
 use Rattle.tag_search.specs.Plain.{Plain, plain_words, RunsAlone}
 
 -- the words after a concatenation are those after the second list, from those after the first

@@ -1,8 +1,6 @@
 -- The tags of a map as two sets of places: those that are free, and those that are set aside.
-use Rattle.std.specs.Prelude.{◌≡◌, ℕ, ◌+◌, Bool, false, not, ◌&&◌, ◌||◌, nat_eq, nat_lt, nat_le, List}
-use Rattle.std.specs.List.{list_any}
-use Rattle.std.specs.Int.{bit_at}
-use Rattle.tag_core.specs.Steps.{Words}
+use Rattle.std.specs.Prelude.{◌&&◌, ◌+◌, ◌||◌, ◌≡◌}
+use Rattle.tag_search.specs.Uses.{bit_at, Bool, false, List, list_any, nat_eq, nat_le, nat_lt, not, Words, ℕ}
 
 -- the places that are free, and those that were given back for a sweep to free
 pub record Pool : Type 0 where

@@ -1,6 +1,5 @@
 -- The scan of the code in terms of the specification.
-use Rattle.std.specs.Prelude.{ℕ, Option, Some, None}
-use Rattle.tag_layout.specs.Layout.{Layout, word_depth, shallow_limit}
+use Rattle.tag_search.specs.Uses.{Layout, None, Option, shallow_limit, Some, word_depth, ℕ}
 use Rattle.tag_search.specs.declared.scan.Scan.{Scan}
 use Rattle.tag_search.specs.Visits.{Reach}
 

@@ -1,10 +1,6 @@
 -- Which steps are a search: passes over the places of a word, visits of words, and their answers.
-use Rattle.std.specs.Prelude.{◌≡◌, ◌≢◌, ℕ, suc, ◌^◌, ◌<◌, ◌≤◌, List, [], ◌∷◌, ◌++◌, All, Option, Some, None}
-use Rattle.std.specs.Int.{bit_at}
-use Rattle.tag_layout.specs.Layout.{Layout, tag_at}
-use Rattle.tag_core.specs.declared.word_step.WordStep.{WordStep}
-use Rattle.tag_core.specs.declared.word_step.WordStep.TheVariants.{Look, LookAside, Claimed, Swap, Keep, Spill}
-use Rattle.tag_core.specs.Steps.{without}
+use Rattle.std.specs.Prelude.{◌++◌, ◌<◌, ◌^◌, ◌∷◌, ◌≡◌, ◌≢◌, ◌≤◌}
+use Rattle.tag_search.specs.Uses.{[], All, bit_at, Claimed, Keep, Layout, List, Look, LookAside, None, Option, Some, Spill, suc, Swap, tag_at, without, WordStep, ℕ}
 use Rattle.tag_core.specs.Keeping.{IsLeastIn}
 
 -- each of the places is taken in the word

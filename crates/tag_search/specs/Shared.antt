@@ -1,16 +1,6 @@
 -- What steps through a port on a shared map change of the caller that makes them.
-use Rattle.std.specs.Prelude.{◌≡◌, ℕ, ◌+◌, ◌^◌, ◌<◌, ◌≤◌, List, [], ◌∷◌}
-use Rattle.std.specs.List.{AllByRecursion}
-use Rattle.std.specs.Int.{bit_at}
-use Rattle.step_ledger.specs.History.{total}
-use Rattle.tag_layout.specs.Layout.{word_of, place_of}
-use Rattle.tag_core.specs.declared.caller.Caller.{Caller}
-use Rattle.tag_core.specs.declared.record.Record.{Record}
-use Rattle.tag_core.specs.declared.step.Step.TheVariants.{Word}
-use Rattle.tag_core.specs.declared.word_step.WordStep.{WordStep}
-use Rattle.tag_core.specs.declared.word_step.WordStep.TheVariants.{Claimed, Keep, Spill}
-use Rattle.tag_core.specs.Callers.{record_of, slot_of, Holds, SameMap}
-use Rattle.tag_core.specs.Records.{record_after}
+use Rattle.std.specs.Prelude.{◌+◌, ◌<◌, ◌^◌, ◌∷◌, ◌≡◌, ◌≤◌}
+use Rattle.tag_search.specs.Uses.{[], AllByRecursion, bit_at, Caller, Claimed, Holds, Keep, List, place_of, Record, record_after, record_of, SameMap, slot_of, Spill, total, Word, word_of, WordStep, ℕ}
 use Rattle.tag_search.specs.declared.shared.Shared.{Shared}
 use Rattle.tag_search.specs.Added.{AddsSteps}
 use Rattle.tag_search.specs.Freed.{spilled, latest_after}

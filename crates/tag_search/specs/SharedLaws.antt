@@ -1,19 +1,7 @@
 -- Lists of steps by one caller of a shared map, one after the other.
-use Rattle.std.specs.Prelude.{◌≡◌, ℕ, ◌+◌, List, [], ◌∷◌, ◌++◌, refl}
-use Rattle.std.specs.List.{AllByRecursion}
-use Rattle.std.proofs.Common.{arith, sym, ap, ◌∙◌}
-use Rattle.step_ledger.specs.History.{total}
-use Rattle.tag_core.specs.declared.caller.Caller.{Caller}
-use Rattle.tag_core.specs.declared.record.Record.{Record}
-use Rattle.tag_core.specs.declared.step.Step.TheVariants.{Word}
-use Rattle.tag_core.specs.declared.word_step.WordStep.{WordStep}
-use Rattle.tag_core.specs.Callers.{record_of, Holds}
-use Rattle.tag_core.specs.Records.{record_after}
+use Rattle.std.specs.Prelude.{◌++◌, ◌+◌, ◌∷◌, ◌≡◌}
+use Rattle.tag_search.specs.Uses.{[], AllByRecursion, ap, arith, bit_at, Caller, Claimed, Give, Holds, Keep, List, Look, LookAside, place_of, Put, Record, record_after, record_of, refl, Shape, Spill, Swap, sym, total, Word, word_of, WordStep, ℕ, ◌∙◌}
 use Rattle.tag_search.specs.declared.shared.Shared.{Shared}
-use Rattle.std.specs.Int.{bit_at}
-use Rattle.tag_layout.specs.Layout.{word_of, place_of}
-use Rattle.tag_core.specs.declared.shape.Shape.{Shape}
-use Rattle.tag_core.specs.declared.word_step.WordStep.TheVariants.{Look, LookAside, Claimed, Give, Put, Swap, Keep, Spill}
 use Rattle.tag_search.specs.Freed.{spilled, latest_after}
 use Rattle.tag_search.specs.Shared.{record_after_all, latest_after_all, latest_of, FindsWord, FindsHeldBy, AddsAll, AddsThrough}
 

@@ -1,8 +1,6 @@
 -- A pass that is left after its first try.
-use Rattle.std.specs.Prelude.{◌≡◌, ℕ, List, [], ◌++◌, Option, Some, None, count_ones}
-use Rattle.step_ledger.specs.History.{total}
-use Rattle.tag_core.specs.declared.word_step.WordStep.{WordStep}
-use Rattle.tag_core.specs.declared.word_step.WordStep.TheVariants.{Give, Put}
+use Rattle.std.specs.Prelude.{◌++◌, ◌≡◌}
+use Rattle.tag_search.specs.Uses.{[], count_ones, Give, List, None, Option, Put, Some, total, WordStep, ℕ}
 use Rattle.tag_search.specs.declared.pass.Missed.{Missed}
 use Rattle.tag_search.specs.declared.pass.Missed.TheVariants.{Full, Lost}
 use Rattle.tag_search.specs.Freed.{spilled}
@@ -18,6 +16,10 @@ left_to_try (Lost rest found) = places_of rest
 abbrev pub IsRestOfPass : ℕ → Missed → List WordStep → Option ℕ → Type 0
 IsRestOfPass word Full steps answer = (steps ≡ []) × (answer ≡ None)
 IsRestOfPass word (Lost rest found) steps answer = IsTries word (places_of rest) found steps answer
+
+-- these steps complete any by which the first thing was done to some by which the second one is
+abbrev pub Completes : (List WordStep → Type 0) → (List WordStep → Type 0) → List WordStep → Type 0
+Completes Begun Done steps = (before : List WordStep) → Begun before → Done (before ++ steps)
 
 -- how many tags the caller gives back by a step
 abbrev pub given : WordStep → ℕ

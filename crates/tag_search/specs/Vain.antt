@@ -1,7 +1,6 @@
 -- Gets that find no tag: they tried each one.
-use Rattle.std.specs.Prelude.{◌≡◌, ℕ, ◌⊎◌, false}
-use Rattle.tag_layout.specs.Layout.{Layout, place_of}
-use Rattle.tag_core.specs.declared.caller.Caller.{Caller}
+use Rattle.std.specs.Prelude.{◌≡◌, ◌⊎◌}
+use Rattle.tag_search.specs.Uses.{Caller, false, Layout, place_of, ℕ}
 use Rattle.tag_bell.specs.Callers.{HasTriedAll, OwesNothing}
 use Rattle.tag_search.specs.declared.hint.Hint.{Hint}
 use Rattle.tag_search.specs.Hints.{reduced}

@@ -1,8 +1,7 @@
 -- The visits of a search: the order of the words, and the order of the places of each word.
-use Rattle.std.specs.Prelude.{ℕ, Bool, true, false, cond, nat_eq, List, map}
-use Rattle.tag_layout.specs.Layout.{Layout, words, word_of, place_of, word_depth, shallow_limit}
+use Rattle.tag_search.specs.Uses.{Bool, cond, false, Layout, List, map, nat_eq, Option, place_of, shallow_limit, true, word_depth, word_of, words, WordStep, ℕ}
 use Rattle.tag_search.specs.Order.{scan_order}
-use Rattle.tag_search.specs.Search.{Visit, most_turns}
+use Rattle.tag_search.specs.Search.{Visit, IsSearch, most_turns}
 
 -- the first place of the first word, the number of places of each word that may be taken, and whether the places before
 -- the start follow
@@ -32,6 +31,14 @@ visit_of first reach i = record {
 -- a visit of each word, in cyclic order from the first
 abbrev pub visits : Layout → ℕ → Reach → List Visit
 visits l first reach = map (visit_of first reach) (scan_order first (words l) true)
+
+-- all places of a word, in order
+abbrev pub places_in : Layout → ℕ → List ℕ
+places_in l word = scan_order 0 (word_depth l word) true
+
+-- the steps of a search of all places of each word, from this word on, and its answer
+abbrev pub IsPlainSearch : Layout → ℕ → Option ℕ → List WordStep → Type 0
+IsPlainSearch l first answer steps = IsSearch l (visits l first (plain_reach l false 0)) steps answer
 
 -- the visits of a plain search from this hint
 abbrev pub plain_visits : Layout → Bool → ℕ → List Visit

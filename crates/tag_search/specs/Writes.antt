@@ -1,7 +1,6 @@
 -- How a call changes plain words, bit by bit, and the invariant of plain words.
-use Rattle.std.specs.Prelude.{◌≡◌, ◌≢◌, ℕ, ◌<◌, true, false, List, length, slice_index}
-use Rattle.std.specs.Int.{bit_at}
-use Rattle.tag_layout.specs.Layout.{words, word_depth}
+use Rattle.std.specs.Prelude.{◌<◌, ◌≡◌, ◌≢◌}
+use Rattle.tag_search.specs.Uses.{bit_at, false, length, List, slice_index, true, word_depth, words, ℕ}
 use Rattle.tag_search.specs.Plain.{Plain}
 use Rattle.tag_search.specs.Pool.{Pool}
 

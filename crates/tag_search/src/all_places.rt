@@ -1,13 +1,12 @@
 //! The plain search without round robin, in which every place of each word is allowed.
-ghost use Rattle.std.specs.Prelude.{◌≡◌, ℕ, ◌+◌, ◌<◌, ◌≤◌, List, ◌++◌, map, All, IfSome, false, true, None};
-ghost use Rattle.tag_core.specs.declared.word_step.WordStep.{WordStep};
+ghost use Rattle.std.specs.Prelude.{◌≡◌, ◌+◌, ◌<◌, ◌≤◌, ◌++◌, map, All, IfSome, false, None};
 ghost use Rattle.tag_layout.specs.Layout.{words, word_depth};
 ghost use Rattle.tag_search.specs.Added.{AddsSteps};
-ghost use Rattle.tag_search.specs.Order.{numbers, scan_order};
+ghost use Rattle.tag_search.specs.Order.{numbers};
 ghost use Rattle.tag_search.specs.Places.{places_of};
 ghost use Rattle.tag_search.specs.Search.{IsPass, IsSearch};
-ghost use Rattle.tag_search.specs.Tries.{left_to_try, IsMissed};
-ghost use Rattle.tag_search.specs.Visits.{visit_of, visits, plain_reach};
+ghost use Rattle.tag_search.specs.Tries.{left_to_try, IsMissed, Completes};
+ghost use Rattle.tag_search.specs.Visits.{places_in, visit_of, plain_reach, IsPlainSearch};
 
 use crate::pass::{Missed, TURNS, pass_after, retry_keeping};
 use crate::port::Port;
@@ -19,7 +18,7 @@ use tag_layout::Layout;
 #[inline]
 pub fn all_places(layout: Layout, word: u32) -> Rank
     requires { word < words layout }
-    ensures rank { places_of result ≡ scan_order 0 (word_depth layout word) true }
+    ensures rank { places_of result ≡ places_in layout word }
     ensures within { All (λ place. place < word_depth layout word) (places_of result) }
     ensures shift { layout.shift ≤ 6 }
 {
@@ -43,9 +42,8 @@ pub fn search_after<P: Port>(
     ensures sizes { P.sizes port.new ≡ P.sizes port.old }
     ensures shift { layout.shift ≤ 6 }
     ensures tag { IfSome result (λ tag. tag < layout.depth) }
-    ensures search { AddsSteps P.adds port.old port.new (λ steps.
-        (tried : List WordStep) → IsMissed first (scan_order 0 (word_depth layout first) true) missed tried
-        → IsSearch layout (visits layout first (plain_reach layout false 0)) (tried ++ steps) result) }
+    ensures search { AddsSteps P.adds port.old port.new
+        (Completes (IsMissed first (places_in layout first) missed) (IsPlainSearch layout first result)) }
 {
     match pass_after(port, first, missed) {
         Some(place) => Some(layout.tag_at(first, place)),
@@ -63,9 +61,8 @@ fn search_on<P: Port>(port: &mut P, layout: Layout, first: u32) -> Option<u32>
     ensures port { P.ready port.new }
     ensures sizes { P.sizes port.new ≡ P.sizes port.old }
     ensures tag { IfSome result (λ tag. tag < layout.depth) }
-    ensures search { AddsSteps P.adds port.old port.new (λ steps.
-        (seen : List WordStep) → IsPass first (scan_order 0 (word_depth layout first) true) seen None
-        → IsSearch layout (visits layout first (plain_reach layout false 0)) (seen ++ steps) result) }
+    ensures search { AddsSteps P.adds port.old port.new
+        (Completes (λ seen. IsPass first (places_in layout first) seen None) (IsPlainSearch layout first result)) }
 {
     match retry_keeping(port, first, all_places(layout, first), TURNS) {
         Some(place) => Some(layout.tag_at(first, place)),

@@ -1,11 +1,12 @@
 //! Passes over the places of one word, and visits of a word.
-ghost use Rattle.std.specs.Prelude.{◌≡◌, ◌<◌, ◌≤◌, ◌++◌, true, All, IfSome, IfNone, IfOk, IfErr, OnErr};
+ghost use Rattle.std.specs.Prelude.{◌≡◌, ◌<◌, ◌≤◌, ◌++◌, All, IfSome, IfNone, IfOk, IfErr, OnErr};
 ghost use Rattle.tag_layout.specs.Layout.{words, word_depth};
 ghost use Rattle.tag_search.specs.Search.{IsTries, IsPass, IsRetry, IsVisit};
 ghost use Rattle.tag_search.specs.Added.{AddsSteps, SameRoom};
-ghost use Rattle.tag_search.specs.Order.{numbers, scan_order};
+ghost use Rattle.tag_search.specs.Order.{numbers};
 ghost use Rattle.tag_search.specs.Places.{places_of};
 ghost use Rattle.tag_search.specs.Tries.{left_to_try, IsRestOfPass, IsMissed, IsFirstWin};
+ghost use Rattle.tag_search.specs.Visits.{places_in};
 
 use crate::port::Port;
 use crate::rank::Rank;
@@ -173,7 +174,7 @@ pub fn retry_keeping<P: Port>(port: &mut P, word: u32, rank: Rank, turns: u32) -
     requires word { word < words (P.sizes port.old) }
     requires room { P.has_room port.old 1 }
     requires places { All (λ place. place < word_depth (P.sizes port.old) word) (places_of rank) }
-    requires whole { places_of rank ≡ scan_order 0 (word_depth (P.sizes port.old) word) true }
+    requires whole { places_of rank ≡ places_in (P.sizes port.old) word }
     ensures port { P.ready port.new }
     ensures sizes { P.sizes port.new ≡ P.sizes port.old }
     ensures room { IfNone result (SameRoom P.has_room port.old port.new) }

@@ -35,18 +35,18 @@ impl Rank {
         }
     }
 
-    /// Advances to the next place whose bit is 0 in `word`, and returns it. `None` if all the rest are taken.
+    /// Advances to the next place whose bit is 0 in `taken`, and returns it. `None` if all the rest are taken.
     #[inline]
-    pub fn next(&mut self, word: u64) -> Option<u32>
-        ensures next { MatchOption result (AllTaken word (places_of self.old)) (λ place.
-            IsFirstInRank word (places_of self.old) place (places_of self.new)) }
+    pub fn next(&mut self, taken: u64) -> Option<u32>
+        ensures next { MatchOption result (AllTaken taken (places_of self.old)) (λ place.
+            IsFirstInRank taken (places_of self.old) place (places_of self.new)) }
         ensures within { IfSome result (λ place. place < 64) }
     {
-        if let Some(place) = first_clear(word, self.from, self.limit) {
+        if let Some(place) = first_clear(taken, self.from, self.limit) {
             self.from = place + 1;
             return Some(place);
         }
-        let place = first_clear(word, 0, self.then)?;
+        let place = first_clear(taken, 0, self.then)?;
         *self = Rank {
             from: place + 1,
             limit: self.then,

@@ -1,12 +1,10 @@
 //! Gets: the search for a free tag, from a caller's hint.
-ghost use Rattle.std.specs.Prelude.{◌≡◌, ℕ, ◌↔◌, ◌⊎◌, ◌<◌, ◌≤◌, ◌+◌, ◌-◌, ◌≢◌, List, ◌++◌, All, false, IsTrue, IsOk, IfOk, IfErr, IfSome, OnErr, Some, Err};
-ghost use Rattle.tag_layout.specs.Layout.{Layout as Sizes, word_bits, word_depth, word_of, words};
-ghost use Rattle.tag_search.specs.Search.{IsSearch};
+ghost use Rattle.std.specs.Prelude.{◌≡◌, ◌↔◌, ◌⊎◌, ◌<◌, ◌≤◌, ◌+◌, ◌-◌, ◌≢◌, All, false, IsTrue, IsOk, IfOk, IfErr, IfSome, OnErr, Some, Err};
+ghost use Rattle.tag_layout.specs.Layout.{word_bits, word_depth, word_of, words};
 ghost use Rattle.tag_search.specs.Added.{AddsSteps, SameRoom};
-ghost use Rattle.tag_core.specs.declared.word_step.WordStep.{WordStep};
 ghost use Rattle.tag_search.specs.declared.search.Unfinished.TheVariants.{NotBegun};
-ghost use Rattle.tag_search.specs.Begun.{visits_from, all_places_of, CanTry, CanFinish, IsBegun, IsRestOfGet, IsWonAtOnce};
-ghost use Rattle.tag_search.specs.Tries.{left_to_try, IsMissed};
+ghost use Rattle.tag_search.specs.Begun.{visits_from, CanTry, CanFinish, MissesFirst, IsBegun, IsRestOfGet, IsWonAtOnce};
+ghost use Rattle.tag_search.specs.Tries.{left_to_try, Completes};
 ghost use Rattle.tag_search.specs.Gets.{IsGet};
 ghost use Rattle.tag_search.specs.Batch.{IsBatchGet};
 ghost use Rattle.tag_search.specs.Hints.{reduced};
@@ -135,9 +133,8 @@ fn finish_try<P: Port>(port: &mut P, hint: &mut Hint, layout: Layout, missed: Mi
     ensures port { P.ready port.new }
     ensures sizes { P.sizes port.new ≡ P.sizes port.old }
     ensures tag { IfSome result (λ tag. tag < layout.depth) }
-    ensures steps { AddsSteps P.adds port.old port.new (λ steps. (tried : List WordStep)
-        → IsMissed (word_of layout hint.old.at) (all_places_of layout hint.old) missed tried
-        → IsGet layout (visits_from layout hint.old) result (tried ++ steps)) }
+    ensures steps { AddsSteps P.adds port.old port.new
+        (Completes (MissesFirst layout hint.old missed) (IsGet layout (visits_from layout hint.old) result)) }
     ensures hint { HintFollows layout.depth hint.old hint.new result }
 {
     let before = *hint;

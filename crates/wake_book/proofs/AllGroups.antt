@@ -1,16 +1,7 @@
 -- Sums over all groups and all waiters of a lawful history.
-use Rattle.std.proofs.Common.{◌≡◌, ℕ, ◌+◌, ◌^◌, ◌≤◌, [], ◌∷◌}
-use Rattle.std.proofs.Common.{nat_eq, cond, arith, refl, sym, ◌∙◌}
-use mathlib.Core.Logic.{dite}
-use native.Mathlib.Decide.{ℕ_discrete}
-use Rattle.sums.specs.Below.{sum_below}
-use Rattle.sums.proofs.Laws.{sum_below-same, sum_below-add, sum_below-only, sum_below-zero}
-use Rattle.wake_book.specs.declared.steps.GroupStep.{GroupStep}
-use Rattle.wake_book.specs.declared.steps.GroupStep.TheVariants.{Look, Raise, Lower, Enter, Grant, Use, Withdraw, Store}
-use Rattle.step_ledger.specs.History.{own_steps, total, total_all}
-use Rattle.wake_book.specs.Waits.{words_in, word}
-use Rattle.wake_book.specs.Waits.{granted, raised, stand}
-use Rattle.wake_book.specs.Waits.{moved_by, used_by, MayStep}
+use Rattle.std.specs.Prelude.{◌+◌, ◌^◌, ◌∷◌, ◌≡◌, ◌≤◌}
+use Rattle.wake_book.proofs.Uses.{[], arith, cond, dite, Enter, Grant, granted, GroupStep, Look, Lower, MayStep, moved_by, nat_eq, own_steps, Raise, raised, refl, stand, Store, sum_below, sum_below-add, sum_below-only, sum_below-same, sum_below-zero, sym, total, total_all, Use, used_by, Withdraw}
+use Rattle.wake_book.proofs.Uses.{word, words_in, ℕ, ℕ_discrete, ◌∙◌}
 use Rattle.wake_book.proofs.GroupSteps.{Hist, at_group, issued, used, yes_of, no_of}
 use Rattle.wake_book.proofs.Standing.{Ok, each, balanced}
 

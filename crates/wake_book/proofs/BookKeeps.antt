@@ -1,23 +1,9 @@
 -- Each kind of step on the book preserves its rule, and the teller learns from it what its play says.
-use Rattle.std.proofs.Common.{◌≡◌, ℕ, ◌+◌, ◌*◌, ◌%◌, ◌^◌, ◌<◌, ◌≤◌, List, ◌∷◌, set, eqb, arith, refl, sym, ap, ◌∙◌}
-use Rattle.std.proofs.Common.{subst}
-use mathlib.Core.Option.{none}
-use lib.Seq.{set-get_or}
-use prog.Atomic.{either}
-use Rattle.atomic_table.specs.Table.{Me, step, Allows}
-use Rattle.atomic_table.proofs.Lists.{exchanged}
-use Rattle.sums.proofs.Laws.{sum_below-bound}
-use Rattle.step_ledger.specs.Records.{Records, steps_of}
-use Rattle.step_ledger.specs.declared.record.Record.{Record}
-use Rattle.step_ledger.specs.Views.{own_view}
-use Rattle.step_ledger.specs.History.{own_steps, total, Lawful}
-use Rattle.step_ledger.proofs.Members.{allows}
-use Rattle.wake_book.specs.declared.book.Limits.{Limits}
-use Rattle.wake_book.specs.declared.steps.BookStep.{BookStep}
-use Rattle.wake_book.specs.declared.steps.BookStep.TheVariants.{LookCompletions, LookWakeups, Add, Advance}
-use Rattle.wake_book.specs.Charges.{completions_at, wakeups_at, opening_words, words_after, words_in, completions_in}
-use Rattle.wake_book.specs.Charges.{wakeups_in, added, MayStep}
-use Rattle.wake_book.specs.Charges.{BookRule, looked_completions, looked_wakeups, adding, advancing, exchange_to}
+use Rattle.std.specs.Prelude.{◌%◌, ◌*◌, ◌+◌, ◌<◌, ◌^◌, ◌∷◌, ◌≡◌, ◌≤◌}
+use Rattle.wake_book.proofs.Uses.{Add, added, adding, Advance, advancing, Allows, allows, ap, arith, BookRule, BookStep, completions_at, completions_in, either, eqb, exchange_to, exchanged, Lawful, Limits, List, LookCompletions, looked_completions, looked_wakeups, LookWakeups, Me, none}
+use Rattle.wake_book.proofs.Uses.{opening_words, own_steps, own_view, Record, Records, refl, set, set-get_or, step, steps_of, subst, sum_below-bound, sym, total, wakeups_at, wakeups_in, ℕ, ◌∙◌}
+use Rattle.wake_book.specs.Charges.{words_after, words_in}
+use Rattle.wake_book.specs.Charges.{MayStep}
 use Rattle.wake_book.proofs.Counting.{capped, counted, charged_le, saw, saw_wakeups, own_le, moves, misses}
 
 module _ {S : Type 0} (k : Limits) (few : k.tellers ≤ 64) (low : k.cap ≤ 2 ^ 56) (slots id : ℕ)

@@ -1,23 +1,9 @@
 -- Facts about the lawful histories of a book.
-use Rattle.std.proofs.Common.{◌≡◌, ◌≢◌, ℕ, zero, suc, ◌+◌, ◌-◌, ◌*◌, ◌<◌, ◌≤◌, List, [], ◌∷◌, length, get_or, Bool}
-use Rattle.std.proofs.Common.{cond, min, arith, refl, sym, ap, ◌∙◌, subst, eq-eqb, ne_eqb, length-set, get_or-set_same}
-use Rattle.std.proofs.Common.{get_or-set_other}
-use mathlib.Core.Logic.{dite}
-use mathlib.Core.Option.{some-injective}
-use lib.ListN.{get_elem?}
-use native.Mathlib.Decide.{ℕ_discrete}
-use Rattle.sums.specs.Below.{sum_below, one_if}
-use Rattle.sums.proofs.Laws.{sum_below-bound, le-sum_below}
-use Rattle.wake_book.specs.declared.book.Limits.{Limits}
-use Rattle.wake_book.specs.declared.steps.BookStep.{BookStep}
-use Rattle.wake_book.specs.declared.steps.BookStep.TheVariants.{LookCompletions, LookWakeups, Add, Advance}
-use Rattle.step_ledger.specs.History.{own_steps, total, total_all, Lawful}
-use Rattle.wake_book.specs.Charges.{book_width, completions_at, wakeups_at, words_after, words_in, completions_in}
-use Rattle.wake_book.specs.Charges.{wakeups_in, added, charged, covers}
-use Rattle.wake_book.specs.Charges.{taken, MayStep, exchange_to}
-use Rattle.wake_book.specs.Charging.{LosesTries}
-use Rattle.step_ledger.proofs.Members.{own_here, own_else}
-use Rattle.step_ledger.proofs.Totals.{totals}
+use Rattle.std.specs.Prelude.{◌*◌, ◌+◌, ◌-◌, ◌<◌, ◌∷◌, ◌≡◌, ◌≢◌, ◌≤◌}
+use Rattle.wake_book.proofs.Uses.{[], Add, added, Advance, ap, arith, book_width, BookStep, Bool, charged, completions_at, completions_in, cond, covers, dite, eq-eqb, exchange_to, get_elem?, get_or, get_or-set_other, get_or-set_same, Lawful, le-sum_below, length, length-set, Limits, List}
+use Rattle.wake_book.proofs.Uses.{LookCompletions, LookWakeups, LosesTries, min, ne_eqb, one_if, own_else, own_here, own_steps, refl, some-injective, subst, suc, sum_below, sum_below-bound, sym, taken, total, total_all, totals, wakeups_at, wakeups_in, zero, ℕ, ℕ_discrete, ◌∙◌}
+use Rattle.wake_book.specs.Charges.{words_after, words_in}
+use Rattle.wake_book.specs.Charges.{MayStep}
 
 abbrev Hist : Type 0
 Hist = List (ℕ × BookStep)

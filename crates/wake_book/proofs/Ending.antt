@@ -1,21 +1,9 @@
 -- What the book's last words say once all tellers are gathered.
-use Rattle.std.proofs.Common.{◌≡◌, ℕ, zero, suc, ◌-◌, ◌^◌, ◌≤◌, min, List, [], ◌∷◌, get_or, arith, sym, ap, ◌∙◌}
-use mathlib.Core.Option.{some, some-injective, some-ne-none}
-use lib.ListN.{get_elem?}
-use Rattle.atomic_table.specs.Table.{Final, Seen}
-use Rattle.sums.proofs.Laws.{sum_below-bound}
-use Rattle.step_ledger.specs.Gather.{HasAll, turned}
-use Rattle.step_ledger.specs.Records.{Records, numbers, sum_over}
-use Rattle.step_ledger.specs.declared.record.Record.{Record}
-use Rattle.step_ledger.specs.History.{own_steps, total}
-use Rattle.step_ledger.proofs.Totals.{totals}
-use Rattle.step_ledger.proofs.Turned.{sum_turned}
-use Rattle.step_ledger.proofs.Gathers.{gathered}
-use Rattle.wake_book.specs.declared.book.Limits.{Limits}
-use Rattle.wake_book.specs.declared.steps.BookStep.{BookStep}
-use Rattle.wake_book.specs.Charges.{completions_at, wakeups_at, opening_words, words_after, completions_in, wakeups_in}
-use Rattle.wake_book.specs.Charges.{added, charged, covers}
-use Rattle.wake_book.specs.Charges.{taken, MayStep, BookRule}
+use Rattle.std.specs.Prelude.{◌-◌, ◌^◌, ◌∷◌, ◌≡◌, ◌≤◌}
+use Rattle.wake_book.proofs.Uses.{[], added, ap, arith, BookRule, BookStep, charged, completions_at, completions_in, covers, Final, gathered, get_elem?, get_or, HasAll, Limits, List, min, numbers, opening_words, own_steps, Record, Records, Seen, some, some-injective, some-ne-none, suc}
+use Rattle.wake_book.proofs.Uses.{sum_below-bound, sum_over, sum_turned, sym, taken, total, totals, turned, wakeups_at, wakeups_in, zero, ℕ, ◌∙◌}
+use Rattle.wake_book.specs.Charges.{words_after}
+use Rattle.wake_book.specs.Charges.{MayStep}
 use Rattle.wake_book.specs.Booked.{IsBooked}
 use Rattle.wake_book.proofs.Counting.{capped, counted, tiles, charged_le, charges_le, taken_is}
 

@@ -1,14 +1,6 @@
 -- What a visit grants in each group.
-use Rattle.std.proofs.Common.{◌≡◌, ◌≢◌, ℕ, zero, suc, ◌+◌, ◌<◌, List, min, cond, nat_eq, arith, refl, sym, ap, ◌∙◌, ⊎_elim}
-use Rattle.std.proofs.Common.{sum, length, get_or, set, get_or-set_same, get_or-set_other}
-use Rattle.std.proofs.lemmas.List.Sums.{sum_by-set}
-use mathlib.Core.Logic.{dite}
-use native.Mathlib.Decide.{ℕ_discrete}
-use Rattle.step_ledger.specs.History.{total}
-use Rattle.wake_book.specs.declared.steps.GroupStep.{GroupStep}
-use Rattle.wake_book.specs.Waits.{waiting}
-use Rattle.wake_book.specs.Walks.{LosesGrants, LosesAndLooks, VisitsGroup}
-use Rattle.wake_book.specs.Grants.{granted_in}
+use Rattle.std.specs.Prelude.{◌+◌, ◌<◌, ◌≡◌, ◌≢◌}
+use Rattle.wake_book.proofs.Uses.{ap, arith, cond, dite, get_or, get_or-set_other, get_or-set_same, granted_in, GroupStep, length, List, LosesAndLooks, LosesGrants, min, nat_eq, refl, set, suc, sum, sum_by-set, sym, total, VisitsGroup, waiting, zero, ℕ, ℕ_discrete, ⊎_elim, ◌∙◌}
 use Rattle.wake_book.proofs.GroupSteps.{at_hit, at_miss, yes_of, no_of}
 
 module _ (k g most : ℕ) where

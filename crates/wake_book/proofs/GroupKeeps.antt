@@ -1,27 +1,9 @@
 -- Each kind of step on the groups preserves their rule, and the waiter learns from it what its play says.
-use Rattle.std.proofs.Common.{◌≡◌, ℕ, suc, ◌+◌, ◌-◌, ◌%◌, ◌^◌, ◌<◌, ◌≤◌, List, get_or, set, eqb, arith, refl, sym, ap}
-use Rattle.std.proofs.Common.{◌∙◌, subst, inl, inr}
-use mathlib.Core.Option.{none}
-use lib.Seq.{set-get_or}
-use prog.Atomic.{either}
-use Rattle.atomic_table.specs.Table.{Me, Step, step, carried_after, Allows}
-use Rattle.atomic_table.proofs.Lists.{exchanged}
-use Rattle.step_ledger.specs.Records.{Records, push, steps_of, Stepped}
-use Rattle.step_ledger.specs.declared.record.Record.{Record}
-use Rattle.step_ledger.specs.Views.{own_view}
-use Rattle.step_ledger.specs.History.{own_steps, total, Lawful}
-use Rattle.step_ledger.proofs.Members.{allows}
-use Rattle.wake_book.specs.declared.steps.GroupStep.{GroupStep}
-use Rattle.wake_book.specs.declared.steps.GroupStep.TheVariants.{Look, Raise, Lower, Enter, Grant, Use, Withdraw, Store}
-use Rattle.wake_book.specs.declared.waiting.Left.{Left}
-use Rattle.wake_book.specs.declared.waiting.Left.TheVariants.{Woken, Unwoken}
-use Rattle.wake_book.specs.Charges.{exchange_to}
-use Rattle.wake_book.specs.Waits.{active_at, index_at, one_waiting, opening_words, words_after, words_in, group_at}
-use Rattle.wake_book.specs.Waits.{word, granted, waiting, moved_in}
-use Rattle.wake_book.specs.Waits.{raised, stand, moved_by, MayStep, GroupsRule}
-use Rattle.wake_book.specs.WaitPlays.{looked_active, looked_index, looked_group, raising, lowering, entering, granting}
-use Rattle.wake_book.specs.WaitPlays.{leaving, storing}
-use Rattle.wake_book.specs.Walks.{IsWayOut, IsCalledFor}
+use Rattle.std.specs.Prelude.{◌%◌, ◌+◌, ◌-◌, ◌<◌, ◌^◌, ◌≡◌, ◌≤◌}
+use Rattle.wake_book.proofs.Uses.{active_at, Allows, allows, ap, arith, carried_after, either, Enter, entering, eqb, exchange_to, exchanged, get_or, Grant, granted, granting, group_at, GroupsRule, GroupStep, index_at, inl, inr, IsCalledFor, IsWayOut, Lawful, leaving, Left, List, Look, looked_active}
+use Rattle.wake_book.proofs.Uses.{looked_group, looked_index, Lower, lowering, MayStep, Me, moved_by, moved_in, none, one_waiting, own_steps, own_view, push, Raise, raised, raising, Record, Records, refl, set, set-get_or, stand, Step, step, Stepped, steps_of, Store, storing, subst, suc, sym, total}
+use Rattle.wake_book.proofs.Uses.{Unwoken, Use, waiting, Withdraw, Woken, word, words_after, words_in, ℕ, ◌∙◌}
+use Rattle.wake_book.specs.Waits.{opening_words}
 use Rattle.wake_book.proofs.Counting.{moves, misses}
 use Rattle.wake_book.proofs.Standing.{balanced, balance, few_stand, active_is, few_up, some_stand, some_up, index_small}
 

@@ -1,16 +1,7 @@
 -- What a step changes: the word of a group, the group of its waiter, and the active count.
-use Rattle.std.proofs.Common.{◌≡◌, ◌≢◌, ℕ, zero, suc, ◌+◌, ◌-◌, ◌<◌, ◌≤◌, List, [], ◌∷◌, replicate}
-use Rattle.std.proofs.Common.{length, get_or, set, nat_eq, Bool, cond, arith, refl, sym, ap, ◌∙◌, subst, eq-eqb, ne_eqb}
-use Rattle.std.proofs.Common.{length-set, get_or-set_same, get_or-set_other}
-use mathlib.Core.Logic.{dite}
-use native.Mathlib.Decide.{ℕ_discrete}
-use Rattle.wake_book.specs.declared.steps.GroupStep.{GroupStep}
-use Rattle.wake_book.specs.declared.steps.GroupStep.TheVariants.{Look, Raise, Lower, Enter, Grant, Use, Withdraw, Store}
-use Rattle.wake_book.specs.Charges.{exchange_to}
-use Rattle.step_ledger.specs.History.{own_steps, total}
-use Rattle.wake_book.specs.Waits.{active_at, groups_width, index_at, one_waiting, words_after, words_in, group_at, word}
-use Rattle.wake_book.specs.Waits.{moved_in, raised, stand}
-use Rattle.wake_book.specs.Waits.{MayStep}
+use Rattle.std.specs.Prelude.{◌+◌, ◌-◌, ◌<◌, ◌∷◌, ◌≡◌, ◌≢◌, ◌≤◌}
+use Rattle.wake_book.proofs.Uses.{[], active_at, ap, arith, Bool, cond, dite, Enter, eq-eqb, exchange_to, get_or, get_or-set_other, get_or-set_same, Grant, group_at, groups_width, GroupStep, index_at, length, length-set, List, Look, Lower, MayStep, moved_in, nat_eq, ne_eqb, one_waiting, own_steps}
+use Rattle.wake_book.proofs.Uses.{Raise, raised, refl, replicate, set, stand, Store, subst, suc, sym, total, Use, Withdraw, word, words_after, words_in, zero, ℕ, ℕ_discrete, ◌∙◌}
 use Rattle.wake_book.proofs.Counting.{moves, misses}
 
 abbrev pub Hist : Type 0

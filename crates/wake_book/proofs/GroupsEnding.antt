@@ -1,18 +1,8 @@
 -- What the groups' last words say once all waiters are gathered.
-use Rattle.std.proofs.Common.{◌≡◌, ℕ, ◌+◌, ◌-◌, ◌^◌, ◌≤◌, min, List, arith, sym, ap, ◌∙◌, subst}
-use Rattle.atomic_table.specs.Table.{Final, Seen}
-use Rattle.sums.specs.Below.{sum_below}
-use Rattle.sums.proofs.Laws.{sum_below-bound}
-use Rattle.step_ledger.specs.Gather.{HasAll, turned}
-use Rattle.step_ledger.specs.Records.{Records, numbers, sum_over}
-use Rattle.step_ledger.specs.declared.record.Record.{Record}
-use Rattle.step_ledger.specs.History.{own_steps, total}
-use Rattle.step_ledger.proofs.Totals.{totals}
-use Rattle.step_ledger.proofs.Turned.{sum_turned}
-use Rattle.step_ledger.proofs.Gathers.{Gathered, gathered}
-use Rattle.wake_book.specs.declared.steps.GroupStep.{GroupStep}
-use Rattle.wake_book.specs.Waits.{stand, opening_words, words_after, word, granted, waiting, raised, stands_in}
-use Rattle.wake_book.specs.Waits.{moved_by, used_by, MayStep, GroupsRule}
+use Rattle.std.specs.Prelude.{◌+◌, ◌-◌, ◌^◌, ◌≡◌, ◌≤◌}
+use Rattle.wake_book.proofs.Uses.{ap, arith, Final, Gathered, gathered, granted, GroupsRule, GroupStep, HasAll, List, MayStep, min, moved_by, numbers, own_steps, raised, Record, Records, Seen, stand, stands_in, subst, sum_below, sum_below-bound, sum_over, sum_turned, sym, total, totals, turned}
+use Rattle.wake_book.proofs.Uses.{used_by, waiting, word, words_after, ℕ, ◌∙◌}
+use Rattle.wake_book.specs.Waits.{opening_words}
 use Rattle.wake_book.specs.Balance.{IsBalanced}
 use Rattle.wake_book.proofs.Standing.{balanced, balance, active_is}
 use Rattle.wake_book.proofs.AllGroups.{all_issued, moved_capped, who_stands}

@@ -1,18 +1,8 @@
 -- A waiter leaves its group by an exchange of the group's word: where it won, the waiter stands nowhere and may lower
 -- the active count, and where it lost, the waiter stands as before.
-use Rattle.std.proofs.Common.{arith, ◌≡◌, ◌≢◌, ℕ, suc, nat_eq, cond, List, [], ◌∷◌, Some, None, refl, sym, ap, ◌∙◌, subst, inl, inr}
-use Rattle.atomic_table.specs.Table.{Me}
-use Rattle.step_ledger.specs.Records.{Records, steps_of, with_step, Stepped}
-use Rattle.step_ledger.specs.Views.{own_view}
-use Rattle.wake_book.specs.declared.steps.GroupStep.{GroupStep}
-use Rattle.wake_book.specs.declared.steps.GroupStep.TheVariants.{Lower, Use, Withdraw}
-use Rattle.wake_book.specs.declared.groups.Waiter.{Waiter}
-use Rattle.wake_book.specs.declared.waiting.Left.{Left}
-use Rattle.wake_book.specs.declared.waiting.Left.TheVariants.{Woken, Unwoken}
-use Rattle.wake_book.specs.Waits.{stand, raised, moved_by}
-use Rattle.wake_book.specs.Stands.{stand_code}
-use Rattle.wake_book.specs.Walks.{looked, IsWayOut, IsCalledFor, IsLeave}
-use Rattle.wake_book.specs.Groups.{record_of}
+use Rattle.std.specs.Prelude.{◌∷◌, ◌≡◌, ◌≢◌}
+use Rattle.wake_book.proofs.Uses.{[], ap, arith, cond, GroupStep, inl, inr, IsCalledFor, IsLeave, IsWayOut, Left, List, looked, Lower, Me, moved_by, nat_eq, None, own_view, raised, record_of, Records, refl, Some, stand, stand_code, Stepped, steps_of, subst, suc, sym, Unwoken, Use, Waiter, with_step}
+use Rattle.wake_book.proofs.Uses.{Withdraw, Woken, ℕ, ◌∙◌}
 use Rattle.wake_book.proofs.GroupSteps.{yes_of, no_of}
 use Rattle.wake_book.proofs.Waiters.{Promises, made, made_steps, after}
 

@@ -1,7 +1,6 @@
 -- How many steps a walk adds at most.
-use Rattle.std.proofs.Common.{◌≡◌, ℕ, zero, suc, ◌+◌, ◌-◌, ◌*◌, ◌%◌, ◌≤◌, List, [], ◌∷◌, length, sum, arith, ap, ◌∙◌, ⊎_elim}
-use Rattle.wake_book.specs.declared.steps.GroupStep.{GroupStep}
-use Rattle.wake_book.specs.Walks.{LosesGrants, LosesAndLooks, VisitsGroup, AreVisits}
+use Rattle.std.specs.Prelude.{◌%◌, ◌*◌, ◌+◌, ◌-◌, ◌∷◌, ◌≡◌, ◌≤◌}
+use Rattle.wake_book.proofs.Uses.{[], ap, AreVisits, arith, GroupStep, length, List, LosesAndLooks, LosesGrants, suc, sum, VisitsGroup, zero, ℕ, ⊎_elim, ◌∙◌}
 
 lost_long : (tries g most : ℕ) (s s' : List GroupStep) → LosesGrants tries g most s s'
     → length s' ≡ 2 * tries + length s

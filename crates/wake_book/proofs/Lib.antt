@@ -1,3 +1,4 @@
+mod Uses
 pub mod Counting
 pub mod BookKeeps
 pub mod Ending

@@ -1,8 +1,6 @@
 -- A seat from which members are handed out gives its first record to the next member and keeps the others.
-use Rattle.std.proofs.Common.{◌≡◌, ℕ, ◌+◌, ◌<◌, [], ap, ◌∙◌}
-use Rattle.atomic_table.specs.Table.{Me}
-use Rattle.step_ledger.specs.Records.{Records, fresh_record, steps_of}
-use Rattle.step_ledger.specs.Views.{first_view, other_views}
+use Rattle.std.specs.Prelude.{◌+◌, ◌<◌, ◌≡◌}
+use Rattle.wake_book.proofs.Uses.{[], ap, first_view, fresh_record, Me, other_views, Records, steps_of, ℕ, ◌∙◌}
 use Rattle.step_ledger.proofs.Fresh.{next_first, next_others}
 use Rattle.wake_book.specs.Rest.{HasRestFrom}
 

@@ -1,20 +1,7 @@
 -- Facts about one group, the active count and the wake index in a lawful history.
-use Rattle.std.proofs.Common.{◌≡◌, ◌≢◌, ℕ, suc, ◌+◌, ◌-◌, ◌*◌, ◌/◌, ◌%◌, ◌<◌, ◌≤◌, List, [], ◌∷◌}
-use Rattle.std.proofs.Common.{get_or, arith, refl, sym, ap, ◌∙◌, subst}
-use Rattle.std.proofs.Common.{get_or-set_same, get_or-set_other}
-use mathlib.Core.Logic.{dite}
-use native.Mathlib.Decide.{ℕ_discrete}
-use Rattle.sums.specs.Below.{sum_below}
-use Rattle.sums.proofs.Laws.{sum_below-bound, sum_below-add, sum_below-three, le-sum_below}
-use Rattle.wake_book.specs.declared.steps.GroupStep.{GroupStep}
-use Rattle.wake_book.specs.declared.steps.GroupStep.TheVariants.{Look, Raise, Lower, Enter, Grant, Use, Withdraw, Store}
-use Rattle.wake_book.specs.Charges.{exchange_to}
-use Rattle.step_ledger.specs.History.{own_steps, total, total_all, Lawful}
-use Rattle.wake_book.specs.Waits.{active_at, groups_width, index_at, one_waiting, words_after, words_in, group_at, word}
-use Rattle.wake_book.specs.Waits.{granted, waiting, moved_in, raised, stand}
-use Rattle.wake_book.specs.Waits.{MayStep}
-use Rattle.step_ledger.proofs.Members.{own_here, own_else}
-use Rattle.step_ledger.proofs.Totals.{totals}
+use Rattle.std.specs.Prelude.{◌%◌, ◌*◌, ◌+◌, ◌-◌, ◌/◌, ◌<◌, ◌∷◌, ◌≡◌, ◌≢◌, ◌≤◌}
+use Rattle.wake_book.proofs.Uses.{[], active_at, ap, arith, dite, Enter, exchange_to, get_or, get_or-set_other, get_or-set_same, Grant, granted, group_at, groups_width, GroupStep, index_at, Lawful, le-sum_below, List, Look, Lower, MayStep, moved_in, one_waiting, own_else, own_here, own_steps, Raise}
+use Rattle.wake_book.proofs.Uses.{raised, refl, stand, Store, subst, suc, sum_below, sum_below-add, sum_below-bound, sum_below-three, sym, total, total_all, totals, Use, waiting, Withdraw, word, words_after, words_in, ℕ, ℕ_discrete, ◌∙◌}
 use Rattle.wake_book.proofs.GroupSteps.{Hist, here, entered, issued, used, withdrawn, ups, downs, yes_of, no_of, zeros, long, word_step, here_in, here_not, Own, own_step, Up, up_step, cas}
 
 module _ (n : ℕ) where

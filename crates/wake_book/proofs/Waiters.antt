@@ -1,15 +1,7 @@
 -- What a waiter is after steps of its own.
-use Rattle.std.proofs.Common.{arith, ◌≡◌, ℕ, ◌^◌, ◌<◌, ◌≤◌, [], ◌∷◌, Option, sym, ap, ◌∙◌, subst}
-use Rattle.atomic_table.specs.Table.{Me}
-use Rattle.step_ledger.specs.Records.{Records, steps_of, with_step, Stepped}
-use Rattle.step_ledger.specs.declared.record.Record.{Record}
-use Rattle.step_ledger.specs.Views.{own_view}
-use Rattle.step_ledger.specs.History.{total}
-use Rattle.step_ledger.proofs.Members.{pushed, settled}
-use Rattle.wake_book.specs.declared.steps.GroupStep.{GroupStep}
+use Rattle.std.specs.Prelude.{◌<◌, ◌^◌, ◌∷◌, ◌≡◌, ◌≤◌}
+use Rattle.wake_book.proofs.Uses.{[], ap, arith, GroupStep, Me, moved_by, Option, own_view, pushed, Record, Records, settled, StandsSo, Stepped, steps_of, subst, sym, total, with_step, ℕ, ◌∙◌}
 use Rattle.wake_book.specs.declared.groups.Groups.{Groups}
-use Rattle.wake_book.specs.Waits.{moved_by}
-use Rattle.wake_book.specs.Stands.{StandsSo}
 
 -- what a waiter with this number and these fields promises of its seat
 abbrev pub Promises : ℕ → Option ℕ → ℕ → ℕ → Me (Unit {0}) (Records GroupStep) → Type 0

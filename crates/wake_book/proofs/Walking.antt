@@ -1,10 +1,6 @@
 -- The visits that a walk has made, and how many waiters they moved.
-use Rattle.std.proofs.Common.{◌≡◌, ℕ, ◌+◌, ◌-◌, ◌*◌, ◌%◌, ◌<◌, ◌≤◌, List, [], ◌∷◌, length, sum, arith, subst, ⊎_elim}
-use Rattle.std.proofs.lemmas.List.Sums.{sum_by-cons}
-use Rattle.wake_book.specs.declared.steps.GroupStep.{GroupStep}
-use Rattle.wake_book.specs.declared.steps.GroupStep.TheVariants.{Look}
-use Rattle.wake_book.specs.Waits.{active_at, index_at}
-use Rattle.wake_book.specs.Walks.{VisitsGroup, AreVisits, WalksOn, IsWalk}
+use Rattle.std.specs.Prelude.{◌%◌, ◌*◌, ◌+◌, ◌-◌, ◌<◌, ◌∷◌, ◌≡◌, ◌≤◌}
+use Rattle.wake_book.proofs.Uses.{[], active_at, AreVisits, arith, GroupStep, index_at, IsWalk, length, List, Look, subst, sum, sum_by-cons, VisitsGroup, WalksOn, ℕ, ⊎_elim}
 use Rattle.wake_book.proofs.Lengths.{visits_long}
 
 visit_few : (g most : ℕ) (s s' : List GroupStep) (moved : ℕ) → VisitsGroup g most s s' moved → moved ≤ most

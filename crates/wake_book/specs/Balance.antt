@@ -1,11 +1,8 @@
 -- What the groups' totals say about all their waiters, once they are gathered.
-use Rattle.std.specs.Prelude.{◌≡◌, ℕ, ◌+◌, ◌<◌, ◌≤◌, List, slice_index}
+use Rattle.std.specs.Prelude.{◌+◌, ◌<◌, ◌≡◌, ◌≤◌}
+use Rattle.wake_book.specs.Uses.{AreListsOf, Lawful, List, Record, slice_index, sum_below, sum_over, total, ℕ}
 use mathlib.Core.Option.{some}
 use lib.ListN.{get_elem?}
-use Rattle.sums.specs.Below.{sum_below}
-use Rattle.step_ledger.specs.Records.{sum_over}
-use Rattle.step_ledger.specs.declared.record.Record.{Record}
-use Rattle.step_ledger.specs.History.{total, Lawful, AreListsOf}
 use Rattle.wake_book.specs.declared.groups.GroupTotals.{GroupTotals}
 use Rattle.wake_book.specs.declared.steps.GroupStep.{GroupStep}
 use Rattle.wake_book.specs.Waits.{active_at, words_in, word, granted, waiting, raised, stand, stands_in, moved_by, used_by, MayStep}

@@ -1,9 +1,8 @@
 -- The terms of public clauses about a book and its tellers.
-use Rattle.std.specs.Prelude.{◌≡◌, ℕ, ◌≢◌, ◌^◌, ◌<◌, ◌≤◌, ◌⊎◌, List, ◌∷◌, All, map}
-use Rattle.step_ledger.specs.declared.record.Record.{Record}
+use Rattle.std.specs.Prelude.{◌<◌, ◌^◌, ◌∷◌, ◌≡◌, ◌≢◌, ◌≤◌, ◌⊎◌}
+use Rattle.wake_book.specs.Uses.{All, List, map, Record, total, ℕ}
 use Rattle.step_ledger.specs.Gather as members
 use Rattle.step_ledger.specs.Records as ledger
-use Rattle.step_ledger.specs.History.{total}
 use Rattle.wake_book.specs.declared.book.Book.{Book}
 use Rattle.wake_book.specs.declared.book.Limits.{Limits}
 use Rattle.wake_book.specs.declared.book.Teller.{Teller}

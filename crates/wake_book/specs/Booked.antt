@@ -1,8 +1,6 @@
 -- What the book's totals say about all its tellers, once they are gathered.
-use Rattle.std.specs.Prelude.{◌≡◌, ℕ, ◌-◌, ◌≤◌, min, List}
-use Rattle.step_ledger.specs.Records.{sum_over}
-use Rattle.step_ledger.specs.declared.record.Record.{Record}
-use Rattle.step_ledger.specs.History.{total, Lawful, AreListsOf}
+use Rattle.std.specs.Prelude.{◌-◌, ◌≡◌, ◌≤◌}
+use Rattle.wake_book.specs.Uses.{AreListsOf, Lawful, List, min, Record, sum_over, total, ℕ}
 use Rattle.wake_book.specs.declared.book.Limits.{Limits}
 use Rattle.wake_book.specs.declared.book.BookTotals.{BookTotals}
 use Rattle.wake_book.specs.declared.steps.BookStep.{BookStep}

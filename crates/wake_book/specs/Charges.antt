@@ -1,12 +1,7 @@
 -- The charge book's words, what each step does to them, and when a step may happen.
-use Rattle.std.specs.Prelude.{◌≡◌, ℕ, ◌+◌, ◌-◌, ◌^◌, ◌<◌, ◌≤◌, List, ◌∷◌, replicate, slice_index, slice_set, cond, min, nat_eq}
-use Rattle.atomic_table.specs.Table.{State, Me}
+use Rattle.std.specs.Prelude.{◌+◌, ◌-◌, ◌<◌, ◌^◌, ◌∷◌, ◌≡◌, ◌≤◌}
+use Rattle.wake_book.specs.Uses.{cond, fresh, Ledger, List, Me, min, nat_eq, one_if, own_steps, Records, replicate, slice_index, slice_set, State, Stepped, steps_of, total, viewing, words_left, ℕ}
 use Rattle.atomic_table.specs.Table as table
-use Rattle.sums.specs.Below.{one_if}
-use Rattle.step_ledger.specs.Records.{Records, fresh, steps_of, Stepped}
-use Rattle.step_ledger.specs.Views.{viewing}
-use Rattle.step_ledger.specs.History.{own_steps, total, words_left}
-use Rattle.step_ledger.specs.Ledger.{Ledger}
 use Rattle.wake_book.specs.declared.book.Limits.{Limits}
 use Rattle.wake_book.specs.declared.book.TheConstants.{COMPLETIONS, WAKEUPS, BOOK_WORDS}
 use Rattle.wake_book.specs.declared.steps.BookStep.{BookStep}

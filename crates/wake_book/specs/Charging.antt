@@ -1,6 +1,6 @@
 -- Lawful charges: which steps a charge makes, and which outcome it returns.
-use Rattle.std.specs.Prelude.{◌≡◌, ◌≢◌, ℕ, zero, suc, ◌+◌, ◌*◌, ◌<◌, ◌≤◌, List, ◌∷◌}
-use Rattle.step_ledger.specs.History.{total}
+use Rattle.std.specs.Prelude.{◌*◌, ◌+◌, ◌<◌, ◌∷◌, ◌≡◌, ◌≢◌, ◌≤◌}
+use Rattle.wake_book.specs.Uses.{List, suc, total, zero, ℕ}
 use Rattle.wake_book.specs.declared.steps.BookStep.{BookStep}
 use Rattle.wake_book.specs.declared.steps.BookStep.TheVariants.{LookCompletions, LookWakeups, Add, Advance}
 use Rattle.wake_book.specs.declared.charge.Charge.{Charge}

@@ -1,6 +1,6 @@
 -- How many wakeups the steps of a waiter granted, and in which groups.
-use Rattle.std.specs.Prelude.{◌≡◌, ℕ, ◌+◌, ◌<◌, List, slice_index, sum, cond, nat_eq}
-use Rattle.step_ledger.specs.History.{total}
+use Rattle.std.specs.Prelude.{◌+◌, ◌<◌, ◌≡◌}
+use Rattle.wake_book.specs.Uses.{cond, List, nat_eq, slice_index, sum, total, ℕ}
 use Rattle.wake_book.specs.declared.grants.Grants.{Grants}
 use Rattle.wake_book.specs.declared.steps.GroupStep.{GroupStep}
 use Rattle.wake_book.specs.declared.steps.GroupStep.TheVariants.{Grant}

@@ -1,9 +1,8 @@
 -- The terms of public clauses about wait groups and their waiters.
-use Rattle.std.specs.Prelude.{◌≡◌, ◌≢◌, ℕ, ◌+◌, ◌<◌, ◌≤◌, ◌⊎◌, List, ◌∷◌, All, map, Option, Some, None}
-use Rattle.step_ledger.specs.declared.record.Record.{Record}
+use Rattle.std.specs.Prelude.{◌+◌, ◌<◌, ◌∷◌, ◌≡◌, ◌≢◌, ◌≤◌, ◌⊎◌}
+use Rattle.wake_book.specs.Uses.{All, List, map, None, Option, Record, Some, total, ℕ}
 use Rattle.step_ledger.specs.Gather as members
 use Rattle.step_ledger.specs.Records as ledger
-use Rattle.step_ledger.specs.History.{total}
 use Rattle.wake_book.specs.declared.grants.Grants.{Grants}
 use Rattle.wake_book.specs.declared.groups.Groups.{Groups}
 use Rattle.wake_book.specs.declared.groups.Waiter.{Waiter}

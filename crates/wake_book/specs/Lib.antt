@@ -1,3 +1,4 @@
+mod Uses
 pub mod Charges
 pub mod Charging
 pub mod Booked

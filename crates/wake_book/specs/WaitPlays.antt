@@ -1,8 +1,7 @@
 -- What a waiter learns from each kind of step on the wait groups.
-use Rattle.std.specs.Prelude.{◌≡◌, ℕ, suc, ◌<◌, ◌≤◌}
-use Rattle.atomic_table.specs.Table.{Me}
+use Rattle.std.specs.Prelude.{◌<◌, ◌≡◌, ◌≤◌}
+use Rattle.wake_book.specs.Uses.{Me, Records, Stepped, steps_of, suc, ℕ}
 use Rattle.atomic_table.specs.Table as table
-use Rattle.step_ledger.specs.Records.{Records, steps_of, Stepped}
 use Rattle.wake_book.specs.declared.steps.GroupStep.{GroupStep}
 use Rattle.wake_book.specs.declared.steps.GroupStep.TheVariants.{Look, Raise, Lower, Enter, Grant, Store}
 use Rattle.wake_book.specs.Waits.{active_at, index_at, group_at, granted, waiting, moved_in, raised, stand}

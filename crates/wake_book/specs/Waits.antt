@@ -1,10 +1,6 @@
 -- The wait groups' words, what each step does to them, and when a step may happen.
-use Rattle.std.specs.Prelude.{◌≡◌, ℕ, suc, ◌+◌, ◌-◌, ◌*◌, ◌/◌, ◌%◌, ◌^◌, ◌<◌, ◌≤◌, List, [], ◌∷◌, replicate, slice_index, slice_set, cond, nat_eq}
-use Rattle.atomic_table.specs.Table.{State}
-use Rattle.step_ledger.specs.Records.{Records, fresh}
-use Rattle.step_ledger.specs.Views.{viewing}
-use Rattle.step_ledger.specs.History.{own_steps, total, words_left}
-use Rattle.step_ledger.specs.Ledger.{Ledger}
+use Rattle.std.specs.Prelude.{◌%◌, ◌*◌, ◌+◌, ◌-◌, ◌/◌, ◌<◌, ◌^◌, ◌∷◌, ◌≡◌, ◌≤◌}
+use Rattle.wake_book.specs.Uses.{[], cond, fresh, Ledger, List, nat_eq, own_steps, Records, replicate, slice_index, slice_set, State, suc, total, viewing, words_left, ℕ}
 use Rattle.wake_book.specs.declared.groups.TheConstants.{ACTIVE, INDEX, GROUP_WORDS, WAITING}
 use Rattle.wake_book.specs.declared.spacing.TheConstants.{STRIDE}
 use Rattle.wake_book.specs.declared.steps.GroupStep.{GroupStep}

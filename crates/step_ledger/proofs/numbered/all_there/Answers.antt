@@ -1,7 +1,6 @@
 -- The numbers were looked for in a slice of all members.
-use Rattle.std.proofs.Common.{List, map, refl, subst}
+use Rattle.step_ledger.proofs.Uses.{HasAll, IsLeastMissing, List, map, refl, subst}
 use Rattle.std.proofs.lemmas.Bool.{false≢true}
-use Rattle.step_ledger.specs.Gather.{HasAll, IsLeastMissing}
 use Rattle.step_ledger.proofs.numbered.all_there.Given as given
 use Rattle.step_ledger.proofs.numbered.all_there.Goals.{In-Some}
 use Rattle.step_ledger.proofs.numbered.all_there.Goals as goal

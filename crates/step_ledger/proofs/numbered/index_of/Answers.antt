@@ -1,9 +1,7 @@
 -- If the loop returns, the member at its index has the number; if it runs to its end, none has it.
-use Rattle.std.proofs.Common.{◌≡◌, ◌≢◌, ℕ, map, length, sym, ap, ◌∙◌, below_more, arith}
+use Rattle.std.specs.Prelude.{◌≡◌, ◌≢◌}
+use Rattle.step_ledger.proofs.Uses.{ap, arith, at_index, at_map, below_more, get_elem?, length, map, some, some-injective, sym, ℕ, ◌∙◌}
 use Rattle.std.proofs.lemmas.List.{length-map}
-use mathlib.Core.Option.{some, some-injective}
-use lib.ListN.{get_elem?}
-use Rattle.atomic_table.proofs.Lists.{at_map, at_index}
 use Rattle.step_ledger.proofs.Turned.{nowhere}
 use Rattle.step_ledger.proofs.numbered.index_of.Given as given
 use Rattle.step_ledger.proofs.numbered.index_of.Goals.{After-number}

@@ -1,7 +1,6 @@
 -- No member so far has the number.
-use Rattle.std.proofs.Common.{◌≢◌, ℕ, ◌<◌, map}
-use mathlib.Core.Option.{some}
-use lib.ListN.{get_elem?}
+use Rattle.std.specs.Prelude.{◌<◌, ◌≢◌}
+use Rattle.step_ledger.proofs.Uses.{get_elem?, map, some, ℕ}
 use Rattle.step_ledger.proofs.numbered.index_of.Given as goal
 
 abbrev pub invariant-loop-index : goal.invariant-loop-index

@@ -1,6 +1,5 @@
 -- All numbers below the loop's are there, so the first that is not is the least.
-use Rattle.std.proofs.Common.{map, below_more}
-use Rattle.step_ledger.specs.Gather.{Has}
+use Rattle.step_ledger.proofs.Uses.{below_more, Has, map}
 use Rattle.step_ledger.proofs.numbered.least_missing.Goals as goal
 
 pub loop-number-preserved : goal.loop-number-preserved

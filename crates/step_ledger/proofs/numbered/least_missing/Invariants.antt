@@ -1,6 +1,5 @@
 -- Each number so far is that of a member.
-use Rattle.std.proofs.Common.{map}
-use Rattle.step_ledger.specs.Gather.{HasAll}
+use Rattle.step_ledger.proofs.Uses.{HasAll, map}
 use Rattle.step_ledger.proofs.numbered.least_missing.Given as goal
 
 abbrev pub invariant-loop-number : goal.invariant-loop-number

@@ -1,7 +1,6 @@
 -- Both looks find the spots of the word shut, if it has no 0 and its cleared set is empty.
-use Rattle.std.proofs.Common.{◌≡◌, ◌+◌, ◌^◌, sym, ap, ◌∙◌}
-use Rattle.tag_layout.specs.Layout.{Layout, word_depth}
-use Rattle.tag_core.specs.declared.shape.Shape.{Shape}
+use Rattle.std.specs.Prelude.{◌+◌, ◌^◌, ◌≡◌}
+use Rattle.tag_bell.proofs.Uses.{ap, Layout, Shape, sym, word_depth, ◌∙◌}
 use Rattle.tag_bell.proofs.Rung.{seen_both, seen_tells, seen_shut}
 use Rattle.tag_bell.proofs.settling.has_free.Goals as goal
 

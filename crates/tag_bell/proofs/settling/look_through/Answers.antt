@@ -1,8 +1,7 @@
 -- Each word in which no free tag is seen is done with.
-use Rattle.std.proofs.Common.{◌≡◌, ◌+◌, ◌*◌, ◌<◌, arith, ap, ◌∙◌}
-use Rattle.tag_layout.specs.Layout.{Layout, words}
-use Rattle.tag_core.specs.Callers.{layout_of}
-use Rattle.tag_bell.specs.Calls.{nobody}
+use Rattle.std.specs.Prelude.{◌*◌, ◌+◌, ◌<◌, ◌≡◌}
+use Rattle.tag_bell.proofs.Uses.{ap, arith, Layout, layout_of, nobody, words, ◌∙◌}
+use Rattle.tag_bell.proofs.Choosing.{few_after}
 use Rattle.tag_bell.proofs.Rung.{one_more, tells_after, tells_within}
 use Rattle.tag_bell.proofs.settling.look_through.Goals as goal
 
@@ -16,6 +15,13 @@ returns-then-has_free-clause-told g c =
     tells_within (2 * w + 2 + 6) (2 * n + 6) c.see_to.result first c.see_to.new.caller (omega arith)
     (tells_after (2 * w + 2) 6 c.see_to.result first new c.see_to.new.caller
     (tells_after (2 * w) 2 nobody first old new c.loop-word.invariant.told c.has_free.ensures.told) c.see_to.ensures.told)
+
+pub returns-then-has_free-clause-few : goal.returns-then-has_free-clause-few
+returns-then-has_free-clause-few g c =
+    let new = c.has_free.new.caller in let w = c.loop-word.word in
+    let so_far = tells_after (2 * w) 2 nobody c.args.caller.now c.loop-word.caller new c.loop-word.invariant.told
+    c.has_free.ensures.told in
+    few_after 1 c.see_to.result c.args.caller.now new c.see_to.new.caller so_far.steps so_far.only c.see_to.ensures.few
 
 pub loop-word-preserved : goal.loop-word-preserved
 loop-word-preserved g c =

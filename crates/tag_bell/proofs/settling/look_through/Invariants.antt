@@ -1,9 +1,6 @@
 -- No spot of a word before this one is left to see to.
-use Rattle.std.proofs.Common.{ℕ, ◌*◌, ◌<◌}
-use Rattle.tag_core.specs.Callers.{IsCallerOf}
-use Rattle.tag_core.specs.Holdings.{KeepsAll}
-use Rattle.tag_bell.specs.Callers.{WaitsAsBefore}
-use Rattle.tag_bell.specs.Calls.{OwesNoneWhere, Tells, nobody}
+use Rattle.std.specs.Prelude.{◌*◌, ◌<◌}
+use Rattle.tag_bell.proofs.Uses.{IsCallerOf, KeepsAll, nobody, OwesNoneWhere, Tells, WaitsAsBefore, ℕ}
 use Rattle.tag_bell.proofs.settling.look_through.Given as goal
 
 abbrev pub invariant-loop-word : goal.invariant-loop-word

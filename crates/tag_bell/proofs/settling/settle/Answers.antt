@@ -1,8 +1,7 @@
 -- Where nobody is listed, the looks at the lists end what the caller has to see to.
-use Rattle.std.proofs.Common.{◌+◌, ◌*◌, arith}
-use Rattle.std.proofs.lemmas.Nat.{le_or_l, le_or_r}
-use Rattle.tag_layout.specs.Layout.{words}
-use Rattle.tag_core.specs.Callers.{layout_of}
+use Rattle.std.specs.Prelude.{◌*◌, ◌+◌}
+use Rattle.tag_bell.proofs.Uses.{arith, layout_of, le_or_l, le_or_r, words}
+use Rattle.tag_bell.proofs.Choosing.{few_after}
 use Rattle.tag_bell.proofs.Rung.{tells_after, tells_within, each_list}
 use Rattle.tag_bell.proofs.settling.settle.Goals as goal
 
@@ -17,3 +16,8 @@ returns-clause-told g c = let n = words (layout_of c.args.map.now) in
     tells_within (2 + (2 * n + 6)) (2 * n + 8) c.look_through.result c.args.caller.now c.look_through.new.caller (omega arith)
     (tells_after 2 (2 * n + 6) c.look_through.result c.args.caller.now c.sight_lists-sleepers.new.caller
     c.look_through.new.caller c.sight_lists-sleepers.ensures.told c.look_through.ensures.told)
+
+pub returns-clause-few : goal.returns-clause-few
+returns-clause-few g c = let seen = c.sight_lists-sleepers in let looks = seen.ensures.told in
+    few_after 1 c.look_through.result c.args.caller.now seen.new.caller c.look_through.new.caller looks.steps looks.only
+    c.look_through.ensures.few

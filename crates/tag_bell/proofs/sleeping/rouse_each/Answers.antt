@@ -1,9 +1,7 @@
 -- Each caller of the mask is roused in its turn.
-use Rattle.std.proofs.Common.{◌≡◌, ℕ, ◌+◌, arith, sym, ap, ◌∙◌, subst}
-use Rattle.std.proofs.lemmas.Nat.Bits.{shr_and_one}
-use Rattle.tag_core.specs.declared.caller.Caller.{Caller}
+use Rattle.std.specs.Prelude.{◌+◌, ◌≡◌}
+use Rattle.tag_bell.proofs.Uses.{ap, arith, Caller, IsCallerOf, IsUnchanged, shr_and_one, subst, sym, ℕ, ◌∙◌}
 use Rattle.tag_core.specs.declared.sleeps.Roused.{Roused}
-use Rattle.tag_core.specs.Callers.{IsCallerOf, IsUnchanged}
 use Rattle.tag_bell.proofs.Rousing.{RousedBelow, rouses_next, passes_next, roused_all, unchanged_on}
 use Rattle.tag_bell.proofs.sleeping.rouse_each.Goals.{then-mask-number-eq1, else-mask-number-eq1}
 use Rattle.tag_bell.proofs.sleeping.rouse_each.Goals as goal

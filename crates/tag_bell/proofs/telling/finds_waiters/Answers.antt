@@ -1,8 +1,8 @@
 -- A bitwise or is zero only where both lists are.
-use Rattle.std.proofs.Common.{◌≡◌, ◌↔◌, ℕ, zero, suc, IsTrue, false, not, nat_eq, bit_or, ap, ◌∙◌, refl, sym, arith}
+use Rattle.std.specs.Prelude.{◌↔◌, ◌≡◌}
+use Rattle.tag_bell.proofs.Uses.{ap, arith, bit_or, false, IsTrue, le_or_l, le_or_r, nat_eq, not, refl, suc, sym, zero, ℕ, ◌∙◌}
 use Rattle.std.proofs.lemmas.Bool.{true≢false, false≢true}
 use Rattle.std.proofs.Math.Dec.{eqb-suc-zero}
-use Rattle.std.proofs.lemmas.Nat.{le_or_l, le_or_r}
 use Rattle.tag_bell.proofs.Rung.{each_list}
 use Rattle.tag_bell.proofs.telling.finds_waiters.Goals as goal
 

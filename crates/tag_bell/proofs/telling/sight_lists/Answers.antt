@@ -1,15 +1,7 @@
 -- A list that was found empty ends what the caller has to see to there.
-use Rattle.std.proofs.Common.{◌≡◌, ℕ, List, [], ◌∷◌, ◌++◌, arith, refl, ⊎_elim}
-use Rattle.tag_core.specs.declared.bell_step.BellStep.TheVariants.{Sight}
-use Rattle.tag_core.specs.declared.caller.Caller.{Caller}
-use Rattle.tag_core.specs.declared.step.Step.{Step}
-use Rattle.tag_core.specs.declared.step.Step.TheVariants.{Bell}
-use Rattle.tag_core.specs.Callers.{record_of, Adds}
-use Rattle.tag_bell.specs.declared.spot.Spot.{Spot}
-use Rattle.tag_bell.specs.Calls.{OnlyAdds}
-use Rattle.tag_bell.specs.Callers.{layout_of}
-use Rattle.tag_bell.specs.Waiting.{Owes, in_word, in_aside}
-use Rattle.tag_bell.proofs.Rung.{rung, added_after, owes_none}
+use Rattle.std.specs.Prelude.{◌++◌, ◌∷◌, ◌≡◌}
+use Rattle.tag_bell.proofs.Uses.{[], Adds, arith, Bell, Caller, List, OnlyAdds, Owes, record_of, refl, Sight, Spot, Step, ℕ}
+use Rattle.tag_bell.proofs.Rung.{rung, added_after, owes_no_spot}
 use Rattle.tag_bell.proofs.telling.sight_lists.Goals as goal
 
 -- both looks
@@ -32,23 +24,19 @@ no_listener R sleepers listeners older spot none owes = owes.0 refl none
 
 pub returns-clause-sleepers : goal.returns-clause-sleepers
 returns-clause-sleepers g c none =
-    let old = c.args.caller.now in let R = g.row.R.Denot in let l = layout_of old in let mine = (record_of old).steps in
+    let old = c.args.caller.now in let new = c.sight-listeners.new.caller in
     let s = c.sight-sleepers.result in let m = c.sight-listeners.result in
-    owes_none 0 (looks s m) old c.sight-listeners.new.caller
-    (looked s m old c.sight-sleepers.new.caller c.sight-listeners.new.caller c.sight-sleepers.ensures.step
-    c.sight-listeners.ensures.step)
-    (λ tag in_range owes. ⊎_elim (λ a. no_sleeper R s m mine (in_word l tag) none a)
-    (λ b. no_sleeper R s m mine (in_aside l tag) none b) owes)
+    owes_no_spot 0 (looks s m) old new
+    (looked s m old c.sight-sleepers.new.caller new c.sight-sleepers.ensures.step c.sight-listeners.ensures.step)
+    (λ spot. no_sleeper g.row.R.Denot s m (record_of old).steps spot none)
 
 pub returns-clause-listeners : goal.returns-clause-listeners
 returns-clause-listeners g c none =
-    let old = c.args.caller.now in let R = g.row.R.Denot in let l = layout_of old in let mine = (record_of old).steps in
+    let old = c.args.caller.now in let new = c.sight-listeners.new.caller in
     let s = c.sight-sleepers.result in let m = c.sight-listeners.result in
-    owes_none 1 (looks s m) old c.sight-listeners.new.caller
-    (looked s m old c.sight-sleepers.new.caller c.sight-listeners.new.caller c.sight-sleepers.ensures.step
-    c.sight-listeners.ensures.step)
-    (λ tag in_range owes. ⊎_elim (λ a. no_listener R s m mine (in_word l tag) none a)
-    (λ b. no_listener R s m mine (in_aside l tag) none b) owes)
+    owes_no_spot 1 (looks s m) old new
+    (looked s m old c.sight-sleepers.new.caller new c.sight-sleepers.ensures.step c.sight-listeners.ensures.step)
+    (λ spot. no_listener g.row.R.Denot s m (record_of old).steps spot none)
 
 pub returns-clause-looks : goal.returns-clause-looks
 returns-clause-looks g c =

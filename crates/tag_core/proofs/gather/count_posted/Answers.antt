@@ -1,10 +1,6 @@
 -- A tag is posted exactly if the word of its state is 1.
-use Rattle.std.proofs.Common.{rules, arith, ◌≡◌, ℕ, zero, suc, ◌+◌, ◌<◌, List, [], ◌∷◌, get_or, nat_eq, sym, ap, ◌∙◌, subst, eq-eqb, ne_eqb}
-use mathlib.Core.Option.{some, some-injective, some-ne-none}
-use lib.ListN.{get_elem?}
-use Rattle.std.specs.Slots.{slots_items, slots_len}
-use Rattle.sums.specs.Below.{sum_below, one_if}
-use Rattle.tag_layout.specs.Layout.{Layout}
+use Rattle.std.specs.Prelude.{◌+◌, ◌<◌, ◌∷◌, ◌≡◌}
+use Rattle.tag_core.proofs.Uses.{[], ap, arith, eq-eqb, get_elem?, get_or, Layout, List, nat_eq, ne_eqb, one_if, rules, slots_items, slots_len, some, some-injective, some-ne-none, subst, suc, sum_below, sym, zero, ℕ, ◌∙◌}
 use Rattle.tag_core.specs.Spacing.{state_at}
 use Rattle.tag_core.proofs.Stand.{state_in}
 use Rattle.tag_core.proofs.gather.count_posted.Goals.{then-word-eq1, else-word-eq1}

@@ -1,7 +1,6 @@
 -- The states of the tags so far that are 1 are counted.
-use Rattle.std.proofs.Common.{◌≡◌, ◌≤◌, slice_index, nat_eq}
-use Rattle.std.specs.Slots.{slots_items}
-use Rattle.sums.specs.Below.{sum_below, one_if}
+use Rattle.std.specs.Prelude.{◌≡◌, ◌≤◌}
+use Rattle.tag_core.proofs.Uses.{nat_eq, one_if, slice_index, slots_items, sum_below}
 use Rattle.tag_core.specs.Spacing.{state_at}
 use Rattle.tag_core.proofs.gather.count_posted.Given as goal
 

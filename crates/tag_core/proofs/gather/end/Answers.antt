@@ -1,14 +1,7 @@
 -- The closed table hands out its words together with the rule, so the history that shows them is at hand. The sums over
 -- the records are those of that history, and the states that are 1 are its posted tags.
-use Rattle.std.proofs.Common.{arith, ℕ, List, nat_eq, slice_index, refl, sym, ap, ◌∙◌, subst}
-use mathlib.Core.Option.{some-injective}
-use lib.ListN.{get_elem?}
-use Rattle.std.specs.Slots.{slots_items}
-use Rattle.atomic_table.specs.Table.{Final, Seen}
-use Rattle.sums.specs.Below.{sum_below, one_if}
-use Rattle.tag_core.specs.declared.shape.Shape.{Shape}
+use Rattle.tag_core.proofs.Uses.{ap, arith, Final, get_elem?, List, nat_eq, one_if, refl, Seen, Shape, Shown, slice_index, SlotIs, slots_items, some-injective, subst, sum_below, sym, ℕ, ◌∙◌}
 use Rattle.tag_core.specs.Spacing.{state_at}
-use Rattle.tag_core.specs.Rule.{Shown, SlotIs}
 use Rattle.tag_core.proofs.Ends.{won_all, back_all, held_all, posted_all, even_all}
 use Rattle.tag_core.proofs.Chains.{count_chain}
 use Rattle.tag_core.proofs.gather.end.Goals as goal

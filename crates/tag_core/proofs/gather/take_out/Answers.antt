@@ -1,8 +1,6 @@
 -- Taking a slot empties its entry, and adds it to the end of the list.
-use Rattle.std.proofs.Common.{rules, arith, ◌≡◌, ◌≢◌, ℕ, zero, suc, ◌+◌, ◌<◌, List, [], ◌∷◌, ◌++◌, Bool, false, take, set, slice_index_or, get_or-set_other, refl, sym, ap, ◌∙◌}
-use mathlib.Core.Option.{some, some-injective, some-ne-none}
-use lib.ListN.{get_elem?}
-use Rattle.std.specs.Slots.{slots_filled, slots_len, slots_items}
+use Rattle.std.specs.Prelude.{◌++◌, ◌+◌, ◌<◌, ◌∷◌, ◌≡◌, ◌≢◌}
+use Rattle.tag_core.proofs.Uses.{[], ap, arith, Bool, false, get_elem?, get_or-set_other, List, refl, rules, set, slice_index_or, slots_filled, slots_items, slots_len, some, some-injective, some-ne-none, suc, sym, take, zero, ℕ, ◌∙◌}
 use Rattle.tag_core.proofs.gather.take_out.Goals as goal
 
 -- one more is taken

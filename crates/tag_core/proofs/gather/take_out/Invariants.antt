@@ -1,6 +1,6 @@
 -- The slots so far are taken and in the list, in order, and the others are still full. Each round takes one.
-use Rattle.std.proofs.Common.{◌≡◌, ℕ, ◌≤◌, ◌<◌, ◌-◌, true, false, slice_index_or, take, vec_len, vec_capacity}
-use Rattle.std.specs.Slots.{slots_filled, slots_len, slots_items}
+use Rattle.std.specs.Prelude.{◌-◌, ◌<◌, ◌≡◌, ◌≤◌}
+use Rattle.tag_core.proofs.Uses.{false, slice_index_or, slots_filled, slots_items, slots_len, take, true, vec_capacity, vec_len, ℕ}
 use Rattle.tag_core.proofs.gather.take_out.Given as goal
 
 abbrev pub invariant-loop-i : goal.invariant-loop-i

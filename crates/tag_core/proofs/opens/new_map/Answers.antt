@@ -1,10 +1,7 @@
 -- The table opens with zeros, so all tags are free; nothing was won or given back in it yet.
-use Rattle.std.proofs.Common.{rules, ◌≡◌, ℕ, replicate, sym, subst, List}
-use lib.ListN.{length-replicate}
-use Rattle.atomic_table.specs.Table.{opening}
+use Rattle.std.specs.Prelude.{◌≡◌}
+use Rattle.tag_core.proofs.Uses.{all_fresh, length-replicate, List, opening, replicate, rules, Shown, subst, sym, ℕ}
 use Rattle.tag_core.specs.Spacing.{table_width}
-use Rattle.tag_core.specs.Views.{all_fresh}
-use Rattle.tag_core.specs.Rule.{Shown}
 use Rattle.tag_core.proofs.Passing.{opens, zeros}
 use Rattle.tag_core.proofs.opens.new_map.Goals as goal
 

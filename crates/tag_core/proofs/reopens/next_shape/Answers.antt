@@ -1,11 +1,6 @@
 -- Each caller's counts stand at its number, and no two callers have one number.
-use Rattle.std.proofs.Common.{arith, ◌≡◌, ℕ, ◌+◌, ◌<◌, List, length, get_or, set, ap, ◌∙◌, get_or-set_other, get_or-set_same, length-set, refl}
-use mathlib.Core.Option.{some}
-use lib.ListN.{get_elem?}
-use Rattle.atomic_table.proofs.Lists.{at_index}
-use Rattle.tag_core.specs.declared.caller.Caller.{Caller}
-use Rattle.tag_core.specs.Callers.{HaveOwnNumbers}
-use Rattle.step_ledger.proofs.Seats.{within}
+use Rattle.std.specs.Prelude.{◌+◌, ◌<◌, ◌≡◌}
+use Rattle.tag_core.proofs.Uses.{ap, arith, at_index, Caller, get_elem?, get_or, get_or-set_other, get_or-set_same, HaveOwnNumbers, length, length-set, List, refl, set, some, within, ℕ, ◌∙◌}
 use Rattle.tag_core.proofs.Passing.{zeros}
 use Rattle.tag_core.proofs.reopens.next_shape.Goals as goal
 

@@ -1,8 +1,6 @@
 -- The counts of the callers so far are at the places of their numbers.
-use Rattle.std.proofs.Common.{◌≡◌, ℕ, ◌<◌, ◌≤◌, length, slice_index}
-use mathlib.Core.Option.{some}
-use lib.ListN.{get_elem?}
-use Rattle.tag_core.specs.declared.caller.Caller.{Caller}
+use Rattle.std.specs.Prelude.{◌<◌, ◌≡◌, ◌≤◌}
+use Rattle.tag_core.proofs.Uses.{Caller, get_elem?, length, slice_index, some, ℕ}
 use Rattle.tag_core.proofs.reopens.next_shape.Given as goal
 
 abbrev pub invariant-loop-caller : goal.invariant-loop-caller

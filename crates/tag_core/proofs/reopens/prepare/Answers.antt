@@ -1,7 +1,5 @@
 -- Callers that settled have numbers of their own, below the number of callers.
-use Rattle.std.proofs.Common.{List, sym, ap, ◌∙◌}
-use lib.ListN.{get_elem?}
-use Rattle.tag_core.specs.declared.caller.Caller.{Caller}
+use Rattle.tag_core.proofs.Uses.{ap, Caller, get_elem?, List, sym, ◌∙◌}
 use Rattle.tag_core.proofs.Reopenings.{numbers_below, own_numbers}
 use Rattle.tag_core.proofs.reopens.prepare.Goals as goal
 

@@ -1,9 +1,5 @@
 -- The seat has the caller's record of the next map first: nothing held or done, and the counts that it brings.
-use Rattle.std.proofs.Common.{[], replicate, sym, ap, ◌∙◌}
-use Rattle.step_ledger.proofs.Fresh.{next_others}
-use Rattle.tag_layout.specs.Layout.{words}
-use Rattle.tag_core.specs.declared.shape.Shape.{Shape}
-use Rattle.tag_core.specs.Records.{fresh_record}
+use Rattle.tag_core.proofs.Uses.{[], ap, fresh_record, next_others, replicate, Shape, sym, words, ◌∙◌}
 use Rattle.tag_core.proofs.SeatMoves.{some_words}
 use Rattle.tag_core.proofs.Seatings.{splits_next, knows, shown, carries, wide, is_fresh}
 use Rattle.tag_core.proofs.reopens.reseat.Goals as goal

@@ -1,23 +1,8 @@
 -- The callers are reseated in the order of their numbers, each in its own place.
-use Rattle.std.proofs.Common.{rules, arith, ◌≡◌, ℕ, ◌+◌, ◌-◌, ◌<◌, ◌≤◌, List, [], ◌∷◌, All, Vec, Global, length, length-set, length-append, get_or, set, replicate, sym, ap, ◌∙◌, subst}
-use mathlib.Core.Option.{some, some-injective}
-use mathlib.Core.Logic.{dite}
-use native.Mathlib.Decide.{dec_lt}
-use lib.ListN.{get_elem?}
-use Rattle.atomic_table.proofs.Lists.{at_index, at_map, at_set}
-use Rattle.step_ledger.specs.Views.{viewing}
-use Rattle.step_ledger.specs.Gather.{Has}
-use Rattle.tag_layout.specs.Layout.{words}
-use Rattle.tag_core.specs.declared.caller.Caller.{Caller}
-use Rattle.tag_core.specs.declared.map.Map.{Map}
-use Rattle.tag_core.specs.declared.record.Record.{Record}
-use Rattle.tag_core.specs.Views.{fresh}
-use Rattle.tag_core.specs.Callers.{IsCallerOf, record_of, HaveOwnNumbers}
-use Rattle.tag_core.specs.Gathering.{numbers_of}
-use Rattle.tag_core.specs.Reopening.{reopened_record}
+use Rattle.std.specs.Prelude.{◌+◌, ◌-◌, ◌<◌, ◌∷◌, ◌≡◌, ◌≤◌}
+use Rattle.tag_core.proofs.Uses.{[], All, all_front, all_last, ap, arith, at_index, at_map, at_set, Caller, dec_lt, dite, fresh, get_elem?, get_or, Global, Has, HaveOwnNumbers, IsCallerOf, length, length-append, length-set, List, Map, numbers_of, Record, record_of, reopened_record, replicate, rules}
+use Rattle.tag_core.proofs.Uses.{set, some, some-injective, subst, sym, Vec, viewing, within, words, ℕ, ◌∙◌}
 use Rattle.tag_core.proofs.Entries.{entry, entry_of_map}
-use Rattle.step_ledger.proofs.Turned.{all_front, all_last}
-use Rattle.step_ledger.proofs.Seats.{within}
 use Rattle.tag_core.proofs.reopens.reseat_all.Given as given
 use Rattle.tag_core.proofs.reopens.reseat_all.Goals.{After-index_mut}
 use Rattle.tag_core.proofs.reopens.reseat_all.Goals as goal

@@ -1,14 +1,7 @@
 -- Callers with lower numbers are on the new map with fresh records, the others are as they were, and the seat that is left has
 -- the records of those still to come.
-use Rattle.std.proofs.Common.{◌≡◌, ℕ, ◌+◌, ◌-◌, ◌<◌, ◌≤◌, [], length, replicate, All}
-use mathlib.Core.Option.{some}
-use lib.ListN.{get_elem?}
-use Rattle.step_ledger.specs.Views.{viewing}
-use Rattle.tag_layout.specs.Layout.{words}
-use Rattle.tag_core.specs.declared.caller.Caller.{Caller}
-use Rattle.tag_core.specs.Callers.{IsCallerOf, record_of}
-use Rattle.tag_core.specs.Reopening.{reopened_record}
-use Rattle.tag_core.specs.Views.{fresh}
+use Rattle.std.specs.Prelude.{◌+◌, ◌-◌, ◌<◌, ◌≡◌, ◌≤◌}
+use Rattle.tag_core.proofs.Uses.{[], All, Caller, fresh, get_elem?, IsCallerOf, length, record_of, reopened_record, replicate, some, viewing, words, ℕ}
 use Rattle.tag_core.proofs.reopens.reseat_all.Given as goal
 
 abbrev pub invariant-loop-number : goal.invariant-loop-number

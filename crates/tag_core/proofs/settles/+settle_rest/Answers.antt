@@ -1,13 +1,6 @@
 -- The last caller's record comes before those gathered; on the way back it is the latest again.
-use Rattle.std.proofs.Common.{rules, ◌≡◌, List, [], ◌++◌, map, All, sym, ap, ◌∙◌, subst}
-use Rattle.std.proofs.lemmas.List.Elements.{All-push}
-use lib.ListN.{get_elem?}
-use Rattle.step_ledger.specs.Gather.{HasAll}
-use Rattle.tag_core.specs.declared.caller.Caller.{Caller}
-use Rattle.tag_core.specs.declared.record.Record.{Record}
-use Rattle.tag_core.specs.Callers.{IsCallerOf, record_of, IsUnchanged, AreUnchanged}
-use Rattle.tag_core.specs.Gathering.{gathered, numbers}
-use Rattle.step_ledger.proofs.Turned.{all_front, all_last}
+use Rattle.std.specs.Prelude.{◌++◌, ◌≡◌}
+use Rattle.tag_core.proofs.Uses.{[], All, All-push, all_front, all_last, ap, AreUnchanged, Caller, gathered, get_elem?, HasAll, IsCallerOf, IsUnchanged, List, map, numbers, Record, record_of, rules, subst, sym, ◌∙◌}
 use Rattle.tag_core.proofs.Settlings.{unchanged-more, last_before}
 use Rattle.tag_core.proofs.settles.+settle_rest.Goals as goal
 

@@ -1,16 +1,6 @@
 -- The last caller lends its record first, and has it back last.
-use Rattle.std.proofs.Common.{◌≡◌, ℕ, List, [], ◌∷◌, ◌++◌, map, All, sym, ap, ◌∙◌, subst}
-use Rattle.std.proofs.lemmas.List.Elements.{All-push}
-use lib.ListN.{get_elem?}
-use Rattle.step_ledger.specs.Gather.{HasAll}
-use Rattle.tag_model.specs.declared.totals.Totals.{Totals}
-use Rattle.tag_core.specs.declared.caller.Caller.{Caller}
-use Rattle.tag_core.specs.declared.record.Record.{Record}
-use Rattle.tag_core.specs.declared.shape.Shape.{Shape}
-use Rattle.tag_core.specs.Callers.{IsCallerOf, record_of, IsUnchanged, AreUnchanged}
-use Rattle.tag_core.specs.Gathering.{numbers, numbers_of}
-use Rattle.tag_core.specs.Settling.{AreSettled}
-use Rattle.step_ledger.proofs.Turned.{all_front, all_last, taken_first}
+use Rattle.std.specs.Prelude.{◌++◌, ◌∷◌, ◌≡◌}
+use Rattle.tag_core.proofs.Uses.{[], All, All-push, all_front, all_last, ap, AreSettled, AreUnchanged, Caller, get_elem?, HasAll, IsCallerOf, IsUnchanged, List, map, numbers, numbers_of, Record, record_of, Shape, subst, sym, taken_first, Totals, ℕ, ◌∙◌}
 use Rattle.tag_core.proofs.Numbers.{numbers-records}
 use Rattle.tag_core.proofs.Settlings.{unchanged-more, unchanged-records}
 use Rattle.tag_core.proofs.settles.settle_all.Goals as goal

@@ -1,6 +1,6 @@
 -- The sum over the masks seen so far grows by the next mask's bits, at most 64 of them, so it never overflows.
-use Rattle.std.proofs.Common.{arith, ℕ, ◌+◌, ◌<◌, ◌^◌, List, length, slice_index, count_ones, sym, ap, ◌∙◌}
-use Rattle.std.proofs.lemmas.Nat.{ones-le}
+use Rattle.std.specs.Prelude.{◌+◌, ◌<◌, ◌^◌}
+use Rattle.tag_core.proofs.Uses.{ap, arith, count_ones, length, List, ones-le, slice_index, sym, ℕ, ◌∙◌}
 use Rattle.tag_core.proofs.Totalling.{total_of-next}
 use Rattle.tag_core.proofs.together.count_tags.Goals as goal
 

@@ -1,6 +1,6 @@
 -- The bits of the masks so far are counted, at most 64 a mask.
-use Rattle.std.proofs.Common.{◌≡◌, ◌≤◌, ◌*◌, take}
-use Rattle.tag_core.specs.Sizes.{size_of}
+use Rattle.std.specs.Prelude.{◌*◌, ◌≡◌, ◌≤◌}
+use Rattle.tag_core.proofs.Uses.{size_of, take}
 use Rattle.tag_core.proofs.together.count_tags.Given as goal
 
 abbrev pub invariant-loop-mask : goal.invariant-loop-mask

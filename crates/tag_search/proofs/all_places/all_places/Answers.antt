@@ -1,7 +1,6 @@
 -- The limit of the rank is the word's depth, so each place is below it.
-use Rattle.std.proofs.Common.{ℕ, ◌<◌, List, true, subst, sym, arith}
-use Rattle.std.specs.Prelude.{All}
-use Rattle.tag_layout.specs.Layout.{word_depth}
+use Rattle.std.specs.Prelude.{◌<◌}
+use Rattle.tag_search.proofs.Uses.{All, arith, List, subst, sym, true, word_depth, ℕ}
 use Rattle.tag_search.proofs.Orders.{all_scan}
 use Rattle.tag_search.proofs.all_places.all_places.Goals as goal
 

@@ -1,9 +1,6 @@
 -- The words after the first, and then those before it, are all other words in cyclic order.
-use Rattle.std.proofs.Common.{ℕ, ◌+◌, List, ◌++◌, map, Some, None, false, refl}
-use Rattle.tag_layout.specs.Layout.{words}
-use Rattle.tag_search.specs.Order.{numbers}
-use Rattle.tag_search.specs.Search.{Visit, IsSearch}
-use Rattle.tag_search.specs.Visits.{visit_of, plain_reach}
+use Rattle.std.specs.Prelude.{◌++◌, ◌+◌}
+use Rattle.tag_search.proofs.Uses.{false, IsSearch, List, map, None, numbers, plain_reach, refl, Some, Visit, visit_of, words, ℕ}
 use Rattle.tag_search.proofs.Joined.{adds_joined, adds_weaker}
 use Rattle.tag_search.proofs.Searches.{search_stops, search_goes_on}
 use Rattle.tag_search.proofs.all_places.search_others.Goals as goal

@@ -1,9 +1,6 @@
 -- Each visit that wins nothing adds its steps, and the search goes on with the words after it.
-use Rattle.std.proofs.Common.{ℕ, ◌+◌, List, [], ◌∷◌, Option, Some, None, sym, ◌∙◌, subst}
-use Rattle.tag_layout.specs.Layout.{word_depth, tag_at}
-use Rattle.tag_search.specs.Added.{AddsSteps}
-use Rattle.tag_search.specs.Order.{numbers}
-use Rattle.tag_search.specs.Batch.{IsBatchVisit, IsBatchSearch, batch_over, batch_won, batch_passed}
+use Rattle.std.specs.Prelude.{◌+◌, ◌∷◌}
+use Rattle.tag_search.proofs.Uses.{[], AddsSteps, batch_over, batch_passed, batch_won, IsBatchSearch, IsBatchVisit, List, None, numbers, Option, Some, subst, sym, tag_at, word_depth, ℕ, ◌∙◌}
 use Rattle.tag_search.proofs.Joined.{Begins, adds_weaker, adds_over, adds_further, adds_ended, same_room_joined}
 use Rattle.tag_search.proofs.Orders.{numbers-none, numbers-cons}
 use Rattle.tag_search.proofs.batch.runs_between.Goals as goal

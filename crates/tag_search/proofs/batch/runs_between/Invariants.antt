@@ -1,8 +1,6 @@
 -- So far every visit won nothing, and a search of the words left completes the search.
-use Rattle.std.proofs.Common.{◌≡◌}
-use Rattle.tag_search.specs.Added.{AddsSteps, SameRoom}
-use Rattle.tag_search.specs.Order.{numbers}
-use Rattle.tag_search.specs.Batch.{IsBatchSearch}
+use Rattle.std.specs.Prelude.{◌≡◌}
+use Rattle.tag_search.proofs.Uses.{AddsSteps, IsBatchSearch, numbers, SameRoom}
 use Rattle.tag_search.proofs.Joined.{Begins}
 use Rattle.tag_search.proofs.batch.runs_between.Given as goal
 

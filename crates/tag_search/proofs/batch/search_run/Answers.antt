@@ -1,8 +1,6 @@
 -- The words from the first on, and then those before it, are all words in cyclic order.
-use Rattle.std.proofs.Common.{◌++◌, true, Some, None, refl, sym, subst}
-use Rattle.tag_layout.specs.Layout.{words}
-use Rattle.tag_search.specs.Batch.{IsBatchSearch}
-use Rattle.tag_search.specs.Order.{numbers, scan_order}
+use Rattle.std.specs.Prelude.{◌++◌}
+use Rattle.tag_search.proofs.Uses.{IsBatchSearch, None, numbers, refl, scan_order, Some, subst, sym, true, words}
 use Rattle.tag_search.proofs.Batches.{batch_stops, batch_goes_on}
 use Rattle.tag_search.proofs.Joined.{adds_joined, adds_weaker}
 use Rattle.tag_search.proofs.Orders.{order-split}

@@ -1,7 +1,6 @@
 -- The steps of the sweep, whether or not it found a mask, are followed by the load.
-use Rattle.std.proofs.Common.{arith, [], ◌∷◌, ◌++◌}
-use Rattle.tag_core.specs.declared.word_step.WordStep.TheVariants.{Look}
-use Rattle.tag_search.specs.Batch.{swept_look}
+use Rattle.std.specs.Prelude.{◌++◌, ◌∷◌}
+use Rattle.tag_search.proofs.Uses.{[], arith, Look, swept_look}
 use Rattle.tag_search.proofs.batch.sweep_and_look.Goals as goal
 
 pub returns-clause-steps : goal.returns-clause-steps

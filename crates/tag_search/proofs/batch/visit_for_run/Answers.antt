@@ -1,8 +1,6 @@
 -- There is one claim if the word has n places from its first clear one on, and otherwise none.
-use Rattle.std.proofs.Common.{ℕ, ◌+◌, ◌≤◌, [], ◌∷◌, ◌++◌, Some, arith, sym, subst}
-use Rattle.tag_core.specs.declared.word_step.WordStep.TheVariants.{Claimed}
-use Rattle.tag_layout.specs.Layout.{word_depth}
-use Rattle.tag_search.specs.Batch.{run_mask, IsBatchVisit, no_run, run_lost, run_taken}
+use Rattle.std.specs.Prelude.{◌++◌, ◌+◌, ◌∷◌, ◌≤◌}
+use Rattle.tag_search.proofs.Uses.{[], arith, Claimed, IsBatchVisit, no_run, run_lost, run_mask, run_taken, Some, subst, sym, word_depth, ℕ}
 use Rattle.tag_search.proofs.Batches.{no_first_clear, same_first_clear}
 use Rattle.tag_search.proofs.batch.visit_for_run.Goals as goal
 

@@ -1,7 +1,5 @@
 -- The port of a first try that won nothing keeps its room, which is its caller's.
-use Rattle.std.proofs.Common.{rules, sym, subst}
-use Rattle.tag_core.specs.declared.caller.Caller.{Caller}
-use Rattle.tag_search.specs.Shared.{HasRoom}
+use Rattle.tag_search.proofs.Uses.{Caller, HasRoom, rules, subst, sym}
 use Rattle.tag_search.proofs.on_map.begin.Goals as goal
 
 pub returns-in_err-tag-clause-room : goal.returns-in_err-tag-clause-room

@@ -1,7 +1,6 @@
 -- The steps of the first try, and those of the rest after it, are a get. They determine the tag that the caller gains,
 -- and the first try frees none.
-use Rattle.std.proofs.Common.{◌∙◌, rules}
-use Rattle.tag_core.specs.Callers.{layout_of}
+use Rattle.tag_search.proofs.Uses.{layout_of, rules, ◌∙◌}
 use Rattle.tag_search.proofs.BegunFacts.{begun_frees_none}
 use Rattle.tag_search.proofs.FreedFacts.{freed_same, none_left, left_since}
 use Rattle.tag_search.proofs.MapGets.{won_got, rest_got}

@@ -1,10 +1,7 @@
 -- The port added the steps of the batch to its caller. They determine the tags gained, and what its sweeps freed; round
 -- robin has no steps.
-use Rattle.std.proofs.Common.{◌≡◌, Ok, arith, inl, inr, sym, ap, ◌∙◌, rules}
-use Rattle.std.proofs.lemmas.Bool.{cases_Bool}
-use Rattle.tag_core.specs.Callers.{layout_of}
-use Rattle.tag_search.specs.declared.shared.Shared.{Shared}
-use Rattle.tag_search.specs.Freed.{freed_of, left_free}
+use Rattle.std.specs.Prelude.{◌≡◌}
+use Rattle.tag_search.proofs.Uses.{ap, arith, cases_Bool, freed_of, inl, inr, layout_of, left_free, Ok, rules, Shared, sym, ◌∙◌}
 use Rattle.tag_search.proofs.FreedFacts.{left_is}
 use Rattle.tag_search.proofs.MapGets.{batch_got, none_got}
 use Rattle.tag_search.proofs.on_map.get_batch.Goals as goal

@@ -1,12 +1,7 @@
 -- The mask is the bit of the held tag alone, and the step is added to the caller's own list.
-use Rattle.std.proofs.Common.{◌≡◌, ℕ, ◌^◌, ◌<◌, sym, subst}
+use Rattle.std.specs.Prelude.{◌<◌, ◌^◌, ◌≡◌}
+use Rattle.tag_search.proofs.Uses.{alone_named, Holds, IsInMask, layout_of, named_alone, place_of, place_of-below, released_as, Shape, subst, sym, word_of, word_of-below, ℕ}
 use Rattle.std.proofs.Math.Pow.{pow-lt}
-use Rattle.tag_layout.specs.Layout.{word_of, place_of}
-use Rattle.tag_layout.proofs.PlaceFacts.{word_of-below, place_of-below}
-use Rattle.tag_core.specs.declared.shape.Shape.{Shape}
-use Rattle.tag_core.specs.Callers.{layout_of, Holds}
-use Rattle.tag_core.specs.Holdings.{IsInMask}
-use Rattle.tag_core.proofs.Holdings.{released_as, alone_named, named_alone}
 use Rattle.tag_search.proofs.AloneCallers.{own_give, place_small}
 use Rattle.tag_search.proofs.on_map.give.Goals as goal
 

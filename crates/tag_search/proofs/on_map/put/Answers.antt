@@ -1,8 +1,6 @@
 -- On a map of one caller the put is the newest step of the whole history, so it sets its place aside in the pool.
-use Rattle.std.proofs.Common.{◌<◌, subst}
-use Rattle.tag_core.specs.declared.shape.Shape.{Shape}
-use Rattle.tag_layout.specs.Layout.{word_of, place_of}
-use Rattle.tag_core.specs.Callers.{layout_of}
+use Rattle.std.specs.Prelude.{◌<◌}
+use Rattle.tag_search.proofs.Uses.{layout_of, place_of, Shape, subst, word_of}
 use Rattle.tag_search.proofs.AloneCallers.{own_put, place_small}
 use Rattle.tag_search.proofs.on_map.put.Goals as goal
 

@@ -1,8 +1,5 @@
 -- A first try that wins is the whole pass, and one that misses is followed by the rest.
-use Rattle.std.proofs.Common.{Some}
-use Rattle.tag_search.specs.Places.{places_of}
-use Rattle.tag_search.specs.Search.{IsPass}
-use Rattle.tag_search.specs.Tries.{IsRestOfPass, IsMissed, IsFirstWin}
+use Rattle.tag_search.proofs.Uses.{IsFirstWin, IsMissed, IsPass, IsRestOfPass, places_of, Some}
 use Rattle.tag_search.proofs.Joined.{adds_joined, adds_weaker}
 use Rattle.tag_search.proofs.pass.pass.Goals as goal
 

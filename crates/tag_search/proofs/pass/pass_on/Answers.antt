@@ -1,10 +1,6 @@
 -- Each lost claim adds its step, and the tries go on behind it.
-use Rattle.std.proofs.Common.{◌^◌, ◌<◌, [], ◌∷◌, ◌++◌, Some, None, refl, ◌∙◌}
-use Rattle.tag_core.specs.declared.word_step.WordStep.TheVariants.{Claimed}
-use Rattle.tag_layout.specs.Layout.{word_depth}
-use Rattle.tag_search.specs.Search.{IsTries, none_left, wins, loses}
-use Rattle.tag_search.specs.Order.{numbers}
-use Rattle.tag_search.specs.Places.{places_of}
+use Rattle.std.specs.Prelude.{◌++◌, ◌<◌, ◌^◌, ◌∷◌}
+use Rattle.tag_search.proofs.Uses.{[], Claimed, IsTries, loses, None, none_left, numbers, places_of, refl, Some, wins, word_depth, ◌∙◌}
 use Rattle.tag_search.proofs.Joined.{adds_over, adds_further, adds_ended, same_room_joined}
 use Rattle.tag_search.proofs.Passes.{all_left}
 use Rattle.tag_search.proofs.pass.pass_on.Goals as goal

@@ -1,11 +1,6 @@
 -- So far every claim was lost, and tries of the places left complete the pass. Each round leaves fewer places.
-use Rattle.std.proofs.Common.{◌≡◌, ◌<◌, ◌++◌, length}
-use Rattle.std.specs.Prelude.{All}
-use Rattle.tag_layout.specs.Layout.{word_depth}
-use Rattle.tag_search.specs.Added.{AddsSteps, SameRoom}
-use Rattle.tag_search.specs.Order.{numbers}
-use Rattle.tag_search.specs.Places.{places_of}
-use Rattle.tag_search.specs.Search.{IsTries}
+use Rattle.std.specs.Prelude.{◌++◌, ◌<◌, ◌≡◌}
+use Rattle.tag_search.proofs.Uses.{AddsSteps, All, IsTries, length, numbers, places_of, SameRoom, word_depth}
 use Rattle.tag_search.proofs.Joined.{Begins}
 use Rattle.tag_search.proofs.pass.pass_on.Given as goal
 

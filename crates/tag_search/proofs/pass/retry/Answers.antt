@@ -1,8 +1,6 @@
 -- A turn that wins nothing is followed by the turns left, and the last one ends the visit.
-use Rattle.std.proofs.Common.{◌≡◌, suc, ◌-◌, ◌+◌, arith, ◌∙◌, subst}
-use Rattle.tag_search.specs.Places.{places_of}
-use Rattle.tag_search.specs.Search.{IsPass}
-use Rattle.tag_search.specs.Added.{AddsSteps}
+use Rattle.std.specs.Prelude.{◌+◌, ◌-◌, ◌≡◌}
+use Rattle.tag_search.proofs.Uses.{AddsSteps, arith, IsPass, places_of, subst, suc, ◌∙◌}
 use Rattle.tag_search.proofs.Joined.{same_room_joined}
 use Rattle.tag_search.proofs.Turns.{turn_further, turn_ends, turns_over}
 use Rattle.tag_search.proofs.pass.retry.Goals as goal

@@ -1,8 +1,6 @@
 -- So far every turn won nothing, and the turns left complete the visit.
-use Rattle.std.proofs.Common.{◌≡◌, ◌-◌}
-use Rattle.tag_search.specs.Added.{AddsSteps, SameRoom}
-use Rattle.tag_search.specs.Places.{places_of}
-use Rattle.tag_search.specs.Search.{IsRetry}
+use Rattle.std.specs.Prelude.{◌-◌, ◌≡◌}
+use Rattle.tag_search.proofs.Uses.{AddsSteps, IsRetry, places_of, SameRoom}
 use Rattle.tag_search.proofs.Joined.{Begins}
 use Rattle.tag_search.proofs.pass.retry.Given as goal
 

@@ -1,9 +1,6 @@
 -- A sweep that keeps a place ends the visit. A turn that wins nothing is followed by the turns left.
-use Rattle.std.proofs.Common.{◌≡◌, suc, ◌-◌, ◌+◌, ◌<◌, arith, ◌∙◌, subst}
-use Rattle.tag_layout.specs.Layout.{Layout, word_depth}
-use Rattle.tag_search.specs.Places.{places_of}
-use Rattle.tag_search.specs.Search.{IsPass}
-use Rattle.tag_search.specs.Added.{AddsSteps}
+use Rattle.std.specs.Prelude.{◌+◌, ◌-◌, ◌<◌, ◌≡◌}
+use Rattle.tag_search.proofs.Uses.{AddsSteps, arith, IsPass, Layout, places_of, subst, suc, word_depth, ◌∙◌}
 use Rattle.tag_search.proofs.Joined.{same_room_joined}
 use Rattle.tag_search.proofs.Turns.{turn_further, turn_ends, turn_keeps, turns_over}
 use Rattle.tag_search.proofs.pass.retry_keeping.Goals as goal

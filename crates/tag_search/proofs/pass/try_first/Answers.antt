@@ -1,9 +1,6 @@
 -- The first claim follows what the load found; neither step frees a tag.
-use Rattle.std.proofs.Common.{◌^◌, ◌<◌, [], ◌∷◌, refl}
-use Rattle.tag_core.specs.declared.word_step.WordStep.TheVariants.{Look, Claimed}
-use Rattle.tag_layout.specs.Layout.{word_depth}
-use Rattle.tag_search.specs.Places.{places_of}
-use Rattle.tag_search.specs.Search.{pass, wins, loses}
+use Rattle.std.specs.Prelude.{◌<◌, ◌^◌, ◌∷◌}
+use Rattle.tag_search.proofs.Uses.{[], Claimed, Look, loses, pass, places_of, refl, wins, word_depth}
 use Rattle.tag_search.proofs.Passes.{all_left, full_pass}
 use Rattle.tag_search.proofs.pass.try_first.Goals as goal
 

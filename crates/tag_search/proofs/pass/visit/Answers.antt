@@ -1,7 +1,5 @@
 -- A pass that wins is the whole visit, and one that does not is followed by the retry.
-use Rattle.std.proofs.Common.{Some, None}
-use Rattle.tag_search.specs.Search.{IsPass, IsRetry, IsVisit, at_once, retried}
-use Rattle.tag_search.specs.Places.{places_of}
+use Rattle.tag_search.proofs.Uses.{at_once, IsPass, IsRetry, IsVisit, None, places_of, retried, Some}
 use Rattle.tag_search.proofs.Joined.{adds_joined, adds_weaker}
 use Rattle.tag_search.proofs.pass.visit.Goals as goal
 

@@ -1,6 +1,6 @@
 -- The shift cannot overflow, since a place is below 64.
-use Rattle.std.proofs.Common.{◌^◌, ap, ◌∙◌}
-use Rattle.std.proofs.lemmas.Nat.{one_shl}
+use Rattle.std.specs.Prelude.{◌^◌}
+use Rattle.tag_search.proofs.Uses.{ap, one_shl, ◌∙◌}
 use Rattle.tag_search.proofs.place.bit_of.Goals as goal
 
 pub returns-clause-value : goal.returns-clause-value

@@ -1,7 +1,6 @@
 -- The low `shift` bits of a number are its remainder modulo the bits of a word.
-use Rattle.std.proofs.Common.{◌^◌, arith}
-use Rattle.std.proofs.lemmas.Nat.{mod_below, pow_pos}
-use Rattle.tag_layout.proofs.PlaceFacts.{low_bits, word_bits-le}
+use Rattle.std.specs.Prelude.{◌^◌}
+use Rattle.tag_search.proofs.Uses.{arith, low_bits, mod_below, pow_pos, word_bits-le}
 use Rattle.tag_search.proofs.place.place_in_word.Goals as goal
 
 pub returns-clause-value : goal.returns-clause-value

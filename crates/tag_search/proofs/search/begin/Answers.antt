@@ -1,9 +1,7 @@
 -- A first try that wins is the whole search, as a hint below the depth is reduced already. One that wins nothing is
 -- the beginning of a pass.
-use Rattle.std.proofs.Common.{rules, ◌≡◌, ◌^◌, ◌<◌, ◌≤◌, [], ◌∷◌, Some, arith, ap, refl, subst, ◌∙◌}
-use Rattle.tag_layout.specs.Layout.{Layout, word_of, word_depth}
-use Rattle.tag_core.specs.declared.word_step.WordStep.TheVariants.{Look, Claimed}
-use Rattle.tag_search.specs.Search.{at_once, pass, wins}
+use Rattle.std.specs.Prelude.{◌<◌, ◌^◌, ◌∷◌, ◌≡◌, ◌≤◌}
+use Rattle.tag_search.proofs.Uses.{[], ap, arith, at_once, Claimed, Layout, Look, pass, refl, rules, Some, subst, wins, word_depth, word_of, ◌∙◌}
 use Rattle.tag_search.proofs.AllPlaces.{whole_won}
 use Rattle.tag_search.proofs.BegunFacts.{begun_full, begun_lost, first_whole}
 use Rattle.tag_search.proofs.GetFacts.{plain_get, plain_follows}

@@ -1,7 +1,5 @@
 -- A get is what it began with, and the rest of it.
-use Rattle.std.proofs.Common.{Some}
-use Rattle.tag_search.specs.Begun.{visits_from, IsWonAtOnce}
-use Rattle.tag_search.specs.Gets.{IsGet}
+use Rattle.tag_search.proofs.Uses.{IsGet, IsWonAtOnce, Some, visits_from}
 use Rattle.tag_search.proofs.Joined.{adds_weaker}
 use Rattle.tag_search.proofs.search.get.Goals as goal
 

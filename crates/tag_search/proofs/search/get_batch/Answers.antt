@@ -1,7 +1,6 @@
 -- The search for a run visits the words of the batch get, and n is at most the bits of a word.
-use Rattle.std.proofs.Common.{◌≡◌, ◌≤◌, arith, ap}
-use Rattle.tag_layout.specs.Layout.{word_bits}
-use Rattle.tag_layout.proofs.PlaceFacts.{word_bits-le}
+use Rattle.std.specs.Prelude.{◌≡◌, ◌≤◌}
+use Rattle.tag_search.proofs.Uses.{ap, arith, word_bits, word_bits-le}
 use Rattle.tag_search.proofs.Batches.{batch_get_from}
 use Rattle.tag_search.proofs.Joined.{adds_weaker}
 use Rattle.tag_search.proofs.search.get_batch.Goals as goal

@@ -1,7 +1,5 @@
 -- The scan makes the visits of the get, and as its limits are within the words, its steps are bounded.
-use Rattle.std.proofs.Common.{ℕ, sym}
-use Rattle.tag_search.specs.Hints.{reduced}
-use Rattle.tag_search.specs.Visits.{plain_reach}
+use Rattle.tag_search.proofs.Uses.{plain_reach, reduced, sym, ℕ}
 use Rattle.tag_search.proofs.GetFacts.{scan_get, plain_within}
 use Rattle.tag_search.proofs.Joined.{adds_weaker}
 use Rattle.tag_search.proofs.search.get_by_scan.Goals as goal

@@ -1,8 +1,6 @@
 -- Each group's word adds its two halves, as its definition reads them, and eight halves below 2^32 fit.
-use Rattle.std.proofs.Common.{arith, ◌≡◌, ℕ, suc, ◌+◌, ◌/◌, ◌%◌, List, get_or, sym, ap, ◌∙◌}
-use Rattle.std.specs.Slots.{slots_items}
-use Rattle.sums.specs.Below.{sum_below}
-use Rattle.wake_book.specs.Waits.{one_waiting, granted, waiting, word}
+use Rattle.std.specs.Prelude.{◌%◌, ◌+◌, ◌/◌, ◌≡◌}
+use Rattle.wake_book.proofs.Uses.{ap, arith, get_or, granted, List, one_waiting, slots_items, suc, sum_below, sym, waiting, word, ℕ, ◌∙◌}
 use Rattle.wake_book.proofs.Ending.{read}
 use Rattle.wake_book.proofs.groups_closing.counts_of.Goals as goal
 

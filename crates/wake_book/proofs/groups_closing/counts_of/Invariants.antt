@@ -1,8 +1,6 @@
 -- The sums are those of the groups so far. Each half of a word is below 2^32, so eight of them cannot overflow.
-use Rattle.std.proofs.Common.{◌≡◌, ◌*◌, ◌≤◌}
-use Rattle.std.specs.Slots.{slots_items}
-use Rattle.sums.specs.Below.{sum_below}
-use Rattle.wake_book.specs.Waits.{one_waiting, granted, waiting, word}
+use Rattle.std.specs.Prelude.{◌*◌, ◌≡◌, ◌≤◌}
+use Rattle.wake_book.proofs.Uses.{granted, one_waiting, slots_items, sum_below, waiting, word}
 use Rattle.wake_book.proofs.groups_closing.counts_of.Given as goal
 
 abbrev pub invariant-loop-group : goal.invariant-loop-group

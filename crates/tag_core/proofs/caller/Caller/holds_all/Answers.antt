@@ -1,10 +1,6 @@
 -- The mask has no bit that the held set lacks exactly if each of its tags is held.
-use Rattle.std.proofs.Common.{◌≡◌, ℕ, slice_index, bit_and, arith, sym, ap, ◌∙◌, eqb-true, eq-eqb}
-use mathlib.Core.Logic.{dite}
-use native.Mathlib.Decide.{ℕ_discrete}
-use Rattle.std.specs.Int.{bit_at}
-use Rattle.std.proofs.lemmas.Nat.Bits.{bit_at_and, bit_at-lt, same_from_bits}
-use Rattle.tag_layout.specs.Layout.{place_of}
+use Rattle.std.specs.Prelude.{◌≡◌}
+use Rattle.tag_core.proofs.Uses.{ap, arith, bit_and, bit_at, bit_at-lt, bit_at_and, dite, eq-eqb, eqb-true, place_of, same_from_bits, slice_index, sym, ℕ, ℕ_discrete, ◌∙◌}
 use Rattle.tag_core.proofs.Marking.{mask_read}
 use Rattle.tag_core.proofs.OneWord.{bit_named, below_named, tag_named_by}
 use Rattle.tag_core.proofs.caller.Caller.holds_all.Goals as goal

@@ -1,7 +1,5 @@
 -- The latest record leaves the others for its caller's seat, which had none, and so has what it had before.
-use Rattle.std.proofs.Common.{ap, ◌∙◌}
-use Rattle.step_ledger.specs.Views.{viewing, rest_of}
-use Rattle.tag_core.specs.Callers.{record_of}
+use Rattle.tag_core.proofs.Uses.{ap, record_of, rest_of, viewing, ◌∙◌}
 use Rattle.tag_core.specs.Lending.{caller_before, lent}
 use Rattle.tag_core.proofs.SeatMoves.{some_words, splits_off, joins_in}
 use Rattle.tag_core.proofs.loans.Loans.give_back.Goals as goal

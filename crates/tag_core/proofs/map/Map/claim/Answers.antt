@@ -1,12 +1,8 @@
 -- The step sets the mask's bits in the word and wins those that it found 0. There is room for all of them by the test
 -- before it, the caller's mask gains what was won, and its seat the slots of these tags.
-use Rattle.std.proofs.Common.{rules, arith, ℕ, ◌+◌, ◌≤◌, slice_set, length-set, bit_or, count_ones, refl, sym, ap, ◌∙◌, subst}
-use Rattle.tag_layout.specs.Layout.{IsWithin}
-use Rattle.tag_core.specs.declared.shape.Shape.{Shape}
-use Rattle.tag_core.specs.Steps.{without}
+use Rattle.std.specs.Prelude.{◌+◌, ◌≤◌}
+use Rattle.tag_core.proofs.Uses.{ap, arith, bit_or, claimed, count_ones, IsWithin, length-set, record_of, refl, rules, Shape, slice_set, subst, sym, without, ℕ, ◌∙◌}
 use Rattle.tag_core.specs.Spacing.{word_at}
-use Rattle.tag_core.specs.Plays.{claimed}
-use Rattle.tag_core.specs.Callers.{record_of}
 use Rattle.tag_core.proofs.Masks.{ones_minus, minus_le}
 use Rattle.tag_core.proofs.Stand.{word_in}
 use Rattle.tag_core.proofs.Allowed.{claim_allowed}
@@ -33,11 +29,13 @@ invariant_of-caller g c =
     let inside = in_words c.args.self.now w c.requires.caller i c.requires.within.0 in
     let mask = ap (λ (z : ℕ). slice_set w.held.items i (bit_or z won))
     (sym (mask_read w i c.index.result.now inside c.index.ensures)) in
-    let l = left w (c.fetch_or-found.ensures.2 i (record_of w) c.word_spot.ensures w.knows).0 mask refl refl
+    let counted = ap (λ (z : ℕ). w.won + z) (sym c.count_part.ensures) in
+    let l = left w (c.fetch_or-found.ensures.2 i (record_of w) c.word_spot.ensures w.knows).0 mask refl counted
     (plus_none w.back) in
     let fewer : count_ones won ≤ count_ones c.args.mask = ones_minus c.args.mask c.fetch_or-found.result in
     let roomy : w.won + count_ones c.args.mask ≤ w.shape.value.life = c.room.ensures.0 (search rules) in
-    let told = w.told.1 in let within : w.won + count_ones won ≤ w.life = omega arith in
+    let told = w.told.1 in let part = c.count_part.ensures in
+    let within : w.won + c.count_part.result ≤ w.life = omega arith in
     after l (length-set w.held.items _ _ ∙ w.wide) (within, w.unspent.1) w.few_back
 
 pub returns-clause-step : goal.returns-clause-step
@@ -46,7 +44,8 @@ returns-clause-step g c =
     let inside = in_words c.args.self.now w c.requires.caller i c.requires.within.0 in
     let mask = ap (λ (z : ℕ). slice_set w.held.items i (bit_or z won))
     (sym (mask_read w i c.index.result.now inside c.index.ensures)) in
-    let l = left w (c.fetch_or-found.ensures.2 i (record_of w) c.word_spot.ensures w.knows).0 mask refl refl
+    let counted = ap (λ (z : ℕ). w.won + z) (sym c.count_part.ensures) in
+    let l = left w (c.fetch_or-found.ensures.2 i (record_of w) c.word_spot.ensures w.knows).0 mask refl counted
     (plus_none w.back) in record { known = recorded l; slots = slots l; same_map = c.fetch_or-found.ensures.0 }
 
 pub returns-clause-held : goal.returns-clause-held

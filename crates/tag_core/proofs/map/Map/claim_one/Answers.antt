@@ -1,17 +1,13 @@
 -- The step sets one bit of the word. If it was 0 the caller's mask gains it, and its seat the tag's slot; if it was 1
 -- nothing of the caller changes but its record, which gains the step.
-use Rattle.std.proofs.Common.{◌≡◌, arith, ℕ, ◌+◌, ◌*◌, ◌%◌, ◌^◌, ◌≤◌, length-set, bit_or, count_ones, sym, ap, ◌∙◌}
-use Rattle.std.proofs.Common.{subst}
-use Rattle.std.proofs.lemmas.Nat.{one_shl, pow_below}
-use Rattle.tag_layout.specs.Layout.{IsWithin}
-use Rattle.tag_core.specs.declared.shape.Shape.{Shape}
-use Rattle.tag_core.specs.Callers.{record_of}
-use Rattle.tag_core.specs.Plays.{claimed}
+use Rattle.std.specs.Prelude.{◌%◌, ◌*◌, ◌+◌, ◌^◌, ◌≡◌, ◌≤◌}
+use Rattle.tag_core.proofs.Uses.{ap, arith, bit_or, claimed, count_ones, IsWithin, length-set, one_shl, pow_below, record_of, Shape, subst, sym, ℕ, ◌∙◌}
 use Rattle.tag_core.specs.Spacing.{word_at}
 use Rattle.tag_core.proofs.Allowed.{claim_allowed}
 use Rattle.tag_core.proofs.Asking.{found, narrow, in_words, asked, after, recorded, slots}
 use Rattle.tag_core.proofs.Holdings.{adds_keeps}
-use Rattle.tag_core.proofs.OnePlace.{place_low, taken_by, clear_by, count_ones-pow, none_where_taken, left_lost, left_won}
+use Rattle.tag_core.proofs.OneBit.{count_ones-pow, none_where_taken}
+use Rattle.tag_core.proofs.OnePlace.{place_low, taken_by, clear_by, left_lost, left_won}
 use Rattle.tag_core.proofs.OnePlace.{same_mask, won_tag}
 use Rattle.tag_core.proofs.Stand.{word_in}
 use Rattle.tag_core.proofs.map.Map.claim_one.Goals as goal

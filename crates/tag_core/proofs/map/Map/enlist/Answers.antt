@@ -1,12 +1,6 @@
 -- The step sets the caller's own bit, and changes nothing else.
-use Rattle.std.proofs.Common.{ℕ, bit_or, refl, sym, subst}
-use mathlib.Core.Option.{none}
-use Rattle.atomic_table.specs.Table.{step, Allows}
-use Rattle.tag_core.specs.Rule.{Shown}
-use Rattle.tag_core.specs.Lists.{bit_of}
+use Rattle.tag_core.proofs.Uses.{Allows, bit_of, bit_or, enlisted, none, record_of, refl, Shown, step, subst, sym, ℕ}
 use Rattle.tag_core.specs.Spacing.{list_at}
-use Rattle.tag_core.specs.Plays.{enlisted}
-use Rattle.tag_core.specs.Callers.{record_of}
 use Rattle.tag_core.proofs.Stand.{list_in}
 use Rattle.tag_core.proofs.Allowed.{enlist_allowed}
 use Rattle.tag_core.proofs.Asking.{narrow, asked, left, after, recorded, slots, plus_none}

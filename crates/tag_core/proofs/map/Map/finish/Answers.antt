@@ -1,6 +1,5 @@
 -- Where each number is among those of the records, a record of each number is among them.
-use Rattle.tag_core.specs.Gathering.{gathered}
-use Rattle.step_ledger.proofs.Whole.{has_record}
+use Rattle.tag_core.proofs.Uses.{gathered, has_record}
 use Rattle.tag_core.proofs.map.Map.finish.Goals as goal
 
 pub end-requires-clause-all : goal.end-requires-clause-all

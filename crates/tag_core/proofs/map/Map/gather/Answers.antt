@@ -1,10 +1,5 @@
 -- The records of all callers have the callers' numbers.
-use Rattle.std.proofs.Common.{ℕ, List, refl, sym, ap, ◌∙◌, subst}
-use Rattle.step_ledger.proofs.Turned.{some_there}
-use Rattle.step_ledger.specs.Gather.{HasAll}
-use Rattle.tag_core.specs.declared.caller.Caller.{Caller}
-use Rattle.tag_core.specs.declared.record.Record.{Record}
-use Rattle.tag_core.specs.Gathering.{numbers}
+use Rattle.tag_core.proofs.Uses.{ap, Caller, HasAll, List, numbers, Record, refl, some_there, subst, sym, ℕ, ◌∙◌}
 use Rattle.tag_core.proofs.Numbers.{numbers-records}
 use Rattle.tag_core.proofs.map.Map.gather.Goals as goal
 

@@ -1,13 +1,7 @@
 -- The step clears the caller's own bit, and changes nothing else.
-use Rattle.std.proofs.Common.{ℕ, ◌-◌, ◌^◌, bit_and, refl, sym, subst}
-use Rattle.std.specs.Int.{bit_not, w64}
-use mathlib.Core.Option.{none}
-use Rattle.atomic_table.specs.Table.{step, Allows}
-use Rattle.tag_core.specs.Rule.{Shown}
-use Rattle.tag_core.specs.Lists.{bit_of}
+use Rattle.std.specs.Prelude.{◌-◌, ◌^◌}
+use Rattle.tag_core.proofs.Uses.{Allows, bit_and, bit_not, bit_of, got_up, none, record_of, refl, Shown, step, subst, sym, w64, ℕ}
 use Rattle.tag_core.specs.Spacing.{list_at}
-use Rattle.tag_core.specs.Plays.{got_up}
-use Rattle.tag_core.specs.Callers.{record_of}
 use Rattle.tag_core.proofs.Stand.{list_in}
 use Rattle.tag_core.proofs.Allowed.{get_up_allowed}
 use Rattle.tag_core.proofs.Asking.{narrow, asked, left, after, recorded, slots, plus_none}

@@ -1,12 +1,8 @@
 -- The step takes the mask out of the word, which the rule allows since the caller holds these tags. Its mask loses
 -- them, and their slots stay behind in the table.
-use Rattle.std.proofs.Common.{◌≡◌, ℕ, ◌+◌, ◌-◌, ◌%◌, ◌^◌, ◌<◌, slice_set, length-set, refl, sym, ap, ◌∙◌, subst}
-use Rattle.tag_layout.specs.Layout.{IsWithin}
-use Rattle.tag_core.specs.declared.shape.Shape.{Shape}
-use Rattle.tag_core.specs.Steps.{without}
+use Rattle.std.specs.Prelude.{◌%◌, ◌+◌, ◌-◌, ◌<◌, ◌^◌, ◌≡◌}
+use Rattle.tag_core.proofs.Uses.{ap, gave, IsWithin, length-set, record_of, refl, Shape, slice_set, subst, sym, without, ℕ, ◌∙◌}
 use Rattle.tag_core.specs.Spacing.{word_at}
-use Rattle.tag_core.specs.Plays.{gave}
-use Rattle.tag_core.specs.Callers.{record_of}
 use Rattle.tag_core.proofs.Stand.{word_in}
 use Rattle.tag_core.proofs.Picks.{among, one_among}
 use Rattle.tag_core.proofs.Allowed.{give_allowed}

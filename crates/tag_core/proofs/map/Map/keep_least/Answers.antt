@@ -1,21 +1,9 @@
 -- The swap moves the cleared set into the caller's sweep, of which the least tag comes to what it holds; a second step
 -- takes the others, if there are any, out of the word.
-use Rattle.std.proofs.Common.{arith, ◌≡◌, ◌≢◌, ℕ, ◌+◌, ◌-◌, ◌*◌, ◌%◌, ◌^◌, ◌<◌, List, get_or, slice_set, bit_or, refl, sym, ap, ◌∙◌, subst}
-use mathlib.Core.Option.{none}
-use Rattle.std.specs.Int.{trailing_zeros, w64}
-use Rattle.std.proofs.lemmas.Nat.{one_shl}
-use Rattle.atomic_table.specs.Table.{step, Allows}
-use Rattle.tag_layout.specs.Layout.{words, IsWithin}
-use Rattle.tag_core.specs.declared.shape.Shape.{Shape}
-use Rattle.tag_core.specs.declared.caller.Caller.{Caller}
-use Rattle.tag_core.specs.declared.step.Step.TheVariants.{Word}
-use Rattle.tag_core.specs.declared.word_step.WordStep.TheVariants.{Spill}
+use Rattle.std.specs.Prelude.{◌%◌, ◌*◌, ◌+◌, ◌-◌, ◌<◌, ◌^◌, ◌≡◌, ◌≢◌}
+use Rattle.tag_core.proofs.Uses.{Allows, ap, arith, bit_or, Caller, get_or, IsWithin, joined, kept_least, least_bit, List, none, one_shl, record_after, record_of, refl, Shape, Shown, slice_set, Spill, spilled, step, subst, sym, tag_bit, trailing_zeros, w64, without, Word, words, ℕ}
+use Rattle.tag_core.proofs.Uses.{◌∙◌}
 use Rattle.tag_core.specs.Spacing.{word_at, aside_at}
-use Rattle.tag_core.specs.Steps.{without, least_bit}
-use Rattle.tag_core.specs.Records.{joined, record_after, tag_bit}
-use Rattle.tag_core.specs.Rule.{Shown}
-use Rattle.tag_core.specs.Plays.{kept_least, spilled}
-use Rattle.tag_core.specs.Callers.{record_of}
 use Rattle.tag_core.proofs.Stand.{word_in, aside_in}
 use Rattle.tag_core.proofs.Sweepings.{nothing}
 use Rattle.tag_core.proofs.Allowed.{spill_allowed}

@@ -1,9 +1,7 @@
 -- A load changes no word. The record gains the step with the word that was found, in which the bit of each tag that the
 -- caller holds is 1.
-use Rattle.std.proofs.Common.{ℕ, refl}
+use Rattle.tag_core.proofs.Uses.{looked, record_of, refl, ℕ}
 use Rattle.tag_core.specs.Spacing.{word_at}
-use Rattle.tag_core.specs.Plays.{looked}
-use Rattle.tag_core.specs.Callers.{record_of}
 use Rattle.tag_core.proofs.Stand.{word_in}
 use Rattle.tag_core.proofs.Allowed.{look_allowed}
 use Rattle.tag_core.proofs.Asking.{found, narrow, in_words, asked, left, after, recorded, slots, plus_none}

@@ -1,8 +1,6 @@
 -- A load changes no word; the record gains the step with what it found, and all else of the caller stays.
-use Rattle.std.proofs.Common.{ℕ, refl}
+use Rattle.tag_core.proofs.Uses.{looked_aside, record_of, refl, ℕ}
 use Rattle.tag_core.specs.Spacing.{aside_at}
-use Rattle.tag_core.specs.Plays.{looked_aside}
-use Rattle.tag_core.specs.Callers.{record_of}
 use Rattle.tag_core.proofs.Stand.{aside_in}
 use Rattle.tag_core.proofs.Allowed.{look_aside_allowed}
 use Rattle.tag_core.proofs.Asking.{found, narrow, in_words, asked, left, after, recorded, slots, plus_none}

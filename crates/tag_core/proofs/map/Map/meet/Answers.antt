@@ -1,11 +1,6 @@
 -- Two callers in one view belong to one history, in which a tag has one holder; then each gets its own record back.
-use Rattle.std.proofs.Common.{◌≡◌, [], ◌∷◌, sym, ap, ◌∙◌, subst}
-use Rattle.step_ledger.specs.Views.{viewing, first_view, both_views}
-use Rattle.tag_core.specs.Views.{View}
-use Rattle.tag_core.specs.declared.caller.Caller.{Caller}
-use Rattle.tag_core.specs.declared.shape.Shape.{Shape}
-use Rattle.tag_core.specs.Records.{tag_bit}
-use Rattle.tag_core.specs.Callers.{record_of}
+use Rattle.std.specs.Prelude.{◌∷◌, ◌≡◌}
+use Rattle.tag_core.proofs.Uses.{[], ap, both_views, Caller, first_view, record_of, Shape, subst, sym, tag_bit, View, viewing, ◌∙◌}
 use Rattle.tag_core.proofs.SeatMoves.{some_words, splits_off, joins_in}
 use Rattle.tag_core.proofs.Meetings.{meet_allowed}
 use Rattle.tag_core.proofs.map.Map.meet.Goals as goal

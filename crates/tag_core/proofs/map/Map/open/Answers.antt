@@ -1,7 +1,5 @@
 -- Nobody won a tag or gave one back before a new map.
-use Rattle.std.proofs.Common.{ℕ, List, get_or, sym, ap, ◌∙◌, subst}
-use Rattle.tag_core.specs.declared.shape.Shape.{Shape}
-use Rattle.tag_core.specs.Records.{StartsAtZero}
+use Rattle.tag_core.proofs.Uses.{ap, get_or, List, Shape, StartsAtZero, subst, sym, ℕ, ◌∙◌}
 use Rattle.tag_core.proofs.Passing.{zeros}
 use Rattle.tag_core.proofs.map.Map.open.Goals as goal
 

@@ -1,6 +1,5 @@
 -- The spot is one of the table's words.
-use Rattle.std.proofs.Common.{ℕ, arith}
-use Rattle.tag_core.specs.Callers.{layout_of}
+use Rattle.tag_core.proofs.Uses.{arith, layout_of, ℕ}
 use Rattle.tag_core.proofs.Stand.{word_in}
 use Rattle.tag_core.proofs.map.Map.peek.Goals as goal
 

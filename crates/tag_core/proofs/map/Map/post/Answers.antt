@@ -1,13 +1,10 @@
 -- The step stores 1 in the tag's state, which the rule allows to the tag's holder. From then on the tag is nobody's:
 -- the caller's mask loses its bit, and the slot stays in the table for whoever takes the tag.
-use Rattle.std.proofs.Common.{ℕ, length-set, refl, ap, ◌∙◌}
-use Rattle.tag_layout.specs.Layout.{Layout}
-use Rattle.tag_core.specs.Steps.{without}
+use Rattle.tag_core.proofs.Uses.{ap, Layout, length-set, record_of, refl, without, ℕ, ◌∙◌}
 use Rattle.tag_core.specs.Spacing.{state_at}
 use Rattle.tag_core.specs.Plays.{posted}
-use Rattle.tag_core.specs.Callers.{record_of}
 use Rattle.tag_core.proofs.Stand.{state_in}
-use Rattle.tag_core.proofs.Allowed.{post_allowed}
+use Rattle.tag_core.proofs.AllowedStates.{post_allowed}
 use Rattle.tag_core.proofs.Asking.{narrow, asked, left, after, recorded, slots, plus_none}
 use Rattle.tag_core.proofs.Marking.{marked}
 use Rattle.tag_core.proofs.Valued.{slot_held}

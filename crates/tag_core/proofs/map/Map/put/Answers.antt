@@ -1,18 +1,8 @@
 -- The step adds the tag's bit to its word's cleared set, which the rule allows to the tag's holder. The caller's mask
 -- loses that bit, its record gains the step, and the tag's slot stays behind in the table.
-use Rattle.std.proofs.Common.{ℕ, ◌+◌, ◌*◌, ◌%◌, ◌^◌, ◌<◌, rules, length-set, refl, sym, ap, ◌∙◌, subst}
-use mathlib.Core.Option.{none}
-use Rattle.atomic_table.specs.Table.{step, Allows}
-use Rattle.tag_layout.specs.Layout.{word_of, place_of}
-use Rattle.tag_layout.proofs.PlaceFacts.{word_of-below}
-use Rattle.tag_core.specs.declared.shape.Shape.{Shape}
-use Rattle.tag_core.specs.declared.step.Step.TheVariants.{Word}
-use Rattle.tag_core.specs.declared.word_step.WordStep.TheVariants.{Put}
+use Rattle.std.specs.Prelude.{◌%◌, ◌*◌, ◌+◌, ◌<◌, ◌^◌}
+use Rattle.tag_core.proofs.Uses.{Allows, ap, length-set, none, parted, place_of, Put, put_aside, record_after, record_of, refl, rules, Shape, Shown, step, Stepped, subst, sym, Word, word_of, word_of-below, ℕ, ◌∙◌}
 use Rattle.tag_core.specs.Spacing.{aside_at}
-use Rattle.tag_core.specs.Records.{record_after, parted}
-use Rattle.tag_core.specs.Plays.{put_aside, Stepped}
-use Rattle.tag_core.specs.Callers.{record_of}
-use Rattle.tag_core.specs.Rule.{Shown}
 use Rattle.tag_core.proofs.Stand.{aside_in}
 use Rattle.tag_core.proofs.Allowed.{put_allowed}
 use Rattle.tag_core.proofs.Asking.{narrow, asked, left, after, recorded, few, slots, bounded, plus_none}

@@ -1,8 +1,6 @@
 -- The slot comes to the front by one load and goes back to its place by another; between them its value is read.
-use Rattle.std.proofs.Common.{◌≡◌, ◌≢◌, ℕ, sym, ap, ◌∙◌}
-use mathlib.Core.Logic.{dite}
-use native.Mathlib.Decide.{ℕ_discrete}
-use Rattle.tag_core.specs.Records.{value_of}
+use Rattle.std.specs.Prelude.{◌≡◌, ◌≢◌}
+use Rattle.tag_core.proofs.Uses.{ap, dite, sym, value_of, ℕ, ℕ_discrete, ◌∙◌}
 use Rattle.tag_core.proofs.InFront.{Exchanged, front_asked, in_front, order_asked, exchanged, after, recorded}
 use Rattle.tag_core.proofs.map.Map.read.Given as given
 use Rattle.tag_core.proofs.map.Map.read.Goals.{After-load-2}

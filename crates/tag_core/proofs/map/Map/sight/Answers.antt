@@ -1,8 +1,6 @@
 -- A load changes no list. The record gains the step with the list that was found.
-use Rattle.std.proofs.Common.{ℕ, refl}
+use Rattle.tag_core.proofs.Uses.{record_of, refl, sighted, ℕ}
 use Rattle.tag_core.specs.Spacing.{list_at}
-use Rattle.tag_core.specs.Plays.{sighted}
-use Rattle.tag_core.specs.Callers.{record_of}
 use Rattle.tag_core.proofs.Stand.{list_in}
 use Rattle.tag_core.proofs.Allowed.{sight_allowed}
 use Rattle.tag_core.proofs.Asking.{narrow, asked, left, after, recorded, slots, plus_none}

@@ -1,6 +1,5 @@
 -- The caller's turn is one of the table's words.
-use Rattle.std.proofs.Common.{arith}
-use Rattle.tag_core.specs.Callers.{layout_of}
+use Rattle.tag_core.proofs.Uses.{arith, layout_of}
 use Rattle.tag_core.proofs.FewCallers.{few}
 use Rattle.tag_core.proofs.Stand.{turn_apart}
 use Rattle.tag_core.proofs.map.Map.sleep.Goals as goal

@@ -1,6 +1,5 @@
 -- The caller's record leaves its seat by a split, and the seat keeps its number and slots.
-use Rattle.std.proofs.Common.{[]}
-use Rattle.tag_core.specs.Callers.{record_of}
+use Rattle.tag_core.proofs.Uses.{[], record_of}
 use Rattle.tag_core.proofs.SeatMoves.{some_words, splits_off}
 use Rattle.tag_core.proofs.map.Map.start_lending.Goals as goal
 

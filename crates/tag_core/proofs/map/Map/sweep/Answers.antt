@@ -1,26 +1,12 @@
 -- The swap moves the cleared set into the caller's sweep, and a second step takes what it found out of the word. Where it
 -- found nothing, the sweep stays empty and there is no second step.
-use Rattle.std.proofs.Common.{arith, ◌≡◌, ℕ, ◌+◌, ◌-◌, ◌%◌, ◌^◌, ◌<◌, replicate, get_or, bit_or, refl, sym, ap, ◌∙◌, subst}
-use mathlib.Core.Option.{none}
-use Rattle.atomic_table.specs.Table.{step, Allows}
-use Rattle.step_ledger.specs.Views.{own_view}
-use Rattle.tag_layout.specs.Layout.{words}
-use Rattle.tag_core.specs.declared.step.Step.TheVariants.{Word}
-use Rattle.tag_core.specs.declared.word_step.WordStep.TheVariants.{Swap, Spill}
-use Rattle.tag_core.specs.declared.record.Record.{Record}
+use Rattle.std.specs.Prelude.{◌%◌, ◌+◌, ◌-◌, ◌<◌, ◌^◌, ◌∷◌, ◌≡◌}
+use Rattle.tag_core.proofs.Uses.{Allows, ap, arith, bit_or, Caller, get_or, Me, none, own_view, Record, record_after, record_of, refl, replicate, Shown, Spill, spilled, step, steps_of, subst, Swap, swapped, sym, View, Word, words, ℕ, ◌∙◌}
 use Rattle.tag_core.specs.Spacing.{word_at, aside_at}
-use Rattle.tag_core.specs.Records.{record_after}
-use Rattle.tag_core.specs.Plays.{swapped, spilled}
-use Rattle.tag_core.specs.Callers.{record_of}
 use Rattle.tag_core.proofs.Stand.{word_in, aside_in}
 use Rattle.tag_core.proofs.Sweepings.{nothing, clean, mask_of}
 use Rattle.tag_core.proofs.Allowed.{swap_allowed, spill_allowed}
 use Rattle.tag_core.proofs.Asking.{narrow, in_words, asked, left, after, recorded, slots, plus_none, shows}
-use Rattle.std.proofs.Common.{◌∷◌}
-use Rattle.atomic_table.specs.Table.{Me}
-use Rattle.tag_core.specs.declared.caller.Caller.{Caller}
-use Rattle.tag_core.specs.Views.{steps_of, View}
-use Rattle.tag_core.specs.Rule.{Shown}
 use Rattle.tag_core.proofs.Holdings.{adds_keeps, adds_two_keeps}
 use Rattle.tag_core.proofs.map.Map.sweep.Goals as goal
 

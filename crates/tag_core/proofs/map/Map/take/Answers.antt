@@ -1,14 +1,10 @@
 -- An exchange that finds 1 makes the caller the holder: its mask gains the tag's bit and its seat the slot. One that
 -- finds 0 changes nothing and stands in the record as a look.
-use Rattle.std.proofs.Common.{rules, ℕ, ◌<◌, length-set, bit_or, eqb, refl, sym, ap, ◌∙◌, subst}
-use prog.Atomic.{either}
-use Rattle.tag_layout.specs.Layout.{Layout}
-use Rattle.tag_core.specs.declared.shape.Shape.{Shape}
+use Rattle.std.specs.Prelude.{◌<◌}
+use Rattle.tag_core.proofs.Uses.{ap, bit_or, either, eqb, Layout, length-set, record_of, refl, rules, Shape, subst, sym, took, ℕ, ◌∙◌}
 use Rattle.tag_core.specs.Spacing.{state_at}
-use Rattle.tag_core.specs.Plays.{took}
-use Rattle.tag_core.specs.Callers.{record_of}
 use Rattle.tag_core.proofs.Stand.{state_in}
-use Rattle.tag_core.proofs.Allowed.{take_allowed}
+use Rattle.tag_core.proofs.AllowedStates.{take_allowed}
 use Rattle.tag_core.proofs.Asking.{narrow, asked, left, after, recorded, slots, plus_none}
 use Rattle.tag_core.proofs.Marking.{marked}
 use Rattle.tag_core.proofs.Holdings.{adds_keeps, adds_acquires_one}

@@ -1,12 +1,7 @@
 -- The step clears the bits of the mask, and changes nothing else.
-use Rattle.std.proofs.Common.{◌≡◌, ℕ, ◌-◌, ◌^◌, ◌<◌, bit_and, arith, refl, subst}
-use Rattle.std.specs.Int.{bit_not, w64}
-use Rattle.tag_core.specs.declared.step.Step.TheVariants.{Bell}
-use Rattle.tag_core.specs.declared.bell_step.BellStep.TheVariants.{Tell}
-use Rattle.tag_core.specs.Plays.{Stepped}
+use Rattle.std.specs.Prelude.{◌-◌, ◌<◌, ◌^◌, ◌≡◌}
+use Rattle.tag_core.proofs.Uses.{arith, Bell, bit_and, bit_not, record_of, refl, Stepped, subst, Tell, told, w64, ℕ}
 use Rattle.tag_core.specs.Spacing.{list_at}
-use Rattle.tag_core.specs.Plays.{told}
-use Rattle.tag_core.specs.Callers.{record_of}
 use Rattle.tag_core.proofs.Stand.{list_in}
 use Rattle.tag_core.proofs.Allowed.{tell_allowed}
 use Rattle.tag_core.proofs.Asking.{narrow, asked, left, after, recorded, slots, plus_none}

@@ -1,6 +1,6 @@
 -- The seat splits off the record of one caller, who has won and holds nothing.
-use Rattle.std.proofs.Common.{rules, arith, ◌≡◌, ℕ, replicate, ap, ◌∙◌}
-use Rattle.tag_layout.specs.Layout.{words}
+use Rattle.std.specs.Prelude.{◌≡◌}
+use Rattle.tag_core.proofs.Uses.{ap, arith, replicate, rules, words, ℕ, ◌∙◌}
 use Rattle.tag_core.proofs.SeatMoves.{some_words}
 use Rattle.tag_core.proofs.Seatings.{splits_next, knows, shown, carries, wide, is_fresh}
 use Rattle.tag_core.proofs.opens.MapMemberSource.next_member.Goals as goal

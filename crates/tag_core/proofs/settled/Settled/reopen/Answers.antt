@@ -1,10 +1,6 @@
 -- The counts with which the next map opens are those of the callers that settled, and so those of the history that
 -- showed them.
-use Rattle.std.proofs.Common.{arith, List, get_or, sym, ap, ◌∙◌, subst}
-use Rattle.tag_core.specs.declared.shape.Shape.{Shape}
-use Rattle.tag_core.specs.declared.caller.Caller.{Caller}
-use Rattle.tag_core.specs.Callers.{IsCallerOf}
-use Rattle.tag_core.specs.Chain.{GoesOn}
+use Rattle.tag_core.proofs.Uses.{ap, arith, Caller, get_or, GoesOn, IsCallerOf, List, Shape, subst, sym, ◌∙◌}
 use Rattle.tag_core.proofs.Entries.{entry_or, all_at}
 use Rattle.tag_core.proofs.Reopenings.{numbers_below, own_numbers, no_missing, may_open, chain_on, goes_on, free_again}
 use Rattle.tag_core.proofs.settled.Settled.reopen.Goals as goal

@@ -1,15 +1,8 @@
 -- The caller's record comes before those on the seat, which then has at most as many as the map has callers; what the
 -- caller won, gave back and holds is added to the sums.
-use Rattle.std.proofs.Common.{arith, ◌≡◌, ℕ, ◌+◌, ◌≤◌, suc, List, [], ◌∷◌, ◌++◌, length, sym, ap, ◌∙◌, subst}
-use Rattle.atomic_table.specs.Table.{Me}
+use Rattle.std.specs.Prelude.{◌++◌, ◌+◌, ◌∷◌, ◌≡◌, ◌≤◌}
+use Rattle.tag_core.proofs.Uses.{[], ap, arith, both_views, gathered, length, List, Me, Record, record_of, Shape, size_of, subst, suc, sym, total_of, View, viewing, ℕ, ◌∙◌}
 use Rattle.atomic_table.specs.declared.shared.Seat.{Seat}
-use Rattle.step_ledger.specs.Views.{both_views, viewing}
-use Rattle.tag_core.specs.Views.{View}
-use Rattle.tag_core.specs.declared.record.Record.{Record}
-use Rattle.tag_core.specs.declared.shape.Shape.{Shape}
-use Rattle.tag_core.specs.Sizes.{total_of, size_of}
-use Rattle.tag_core.specs.Callers.{record_of}
-use Rattle.tag_core.specs.Gathering.{gathered}
 use Rattle.tag_core.proofs.Countings.{count_allowed}
 use Rattle.tag_core.proofs.SeatMoves.{some_words, joins_in}
 use Rattle.tag_core.proofs.together.Gathering.lend.Goals as goal

@@ -1,10 +1,6 @@
 -- The load finds the records of all callers, so that one history shows them; the sums over them were kept all along.
-use Rattle.std.proofs.Common.{arith, ◌+◌, ◌-◌, ◌≤◌, subst}
-use Rattle.tag_model.specs.declared.totals.Totals.{Totals}
-use Rattle.tag_core.specs.declared.shape.Shape.{Shape}
-use Rattle.tag_core.specs.Gathering.{gathered}
-use Rattle.tag_core.specs.Settling.{HasRecords, AreSettled}
-use Rattle.step_ledger.proofs.Whole.{has_record}
+use Rattle.std.specs.Prelude.{◌+◌, ◌-◌, ◌≤◌}
+use Rattle.tag_core.proofs.Uses.{AreSettled, arith, gathered, has_record, HasRecords, Shape, subst, Totals}
 use Rattle.tag_core.proofs.SeatMoves.{some_words}
 use Rattle.tag_core.proofs.Settlings.{settle_allowed, totals_same}
 use Rattle.tag_core.proofs.together.Gathering.settle.Given as given

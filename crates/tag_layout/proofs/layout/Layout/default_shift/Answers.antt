@@ -1,9 +1,6 @@
 -- Four words of 2^s bits fit where 2^s fits into a quarter of the depth.
-use Rattle.std.proofs.Common.{ℕ, suc, ◌*◌, ◌/◌, ◌^◌, ◌<◌, ◌≤◌, min, arith, sym, subst}
-use mathlib.Core.Logic.{dite}
-use native.Mathlib.Decide.{dec_lt}
-use Rattle.std.proofs.Math.Nat.{pow-le-pow_right, pow-suc}
-use Rattle.tag_layout.specs.Layout.{IsDefaultShift}
+use Rattle.std.specs.Prelude.{◌*◌, ◌/◌, ◌<◌, ◌^◌, ◌≤◌}
+use Rattle.tag_layout.proofs.Uses.{arith, dec_lt, dite, IsDefaultShift, min, pow-le-pow_right, pow-suc, subst, suc, sym, ℕ}
 use Rattle.tag_layout.proofs.layout.Layout.default_shift.Goals as goal
 
 -- the floor of the logarithm, cut to 6

@@ -1,6 +1,6 @@
 -- The low bits of a tag are its place.
-use Rattle.std.proofs.Common.{ℕ, ◌<◌, ◌≤◌, arith, sym, ap, ◌∙◌, subst}
-use Rattle.tag_layout.specs.Layout.{Layout, word_of, place_of, tag_at, word_depth}
+use Rattle.std.specs.Prelude.{◌<◌, ◌≤◌}
+use Rattle.tag_layout.proofs.Uses.{ap, arith, Layout, place_of, subst, sym, tag_at, word_depth, word_of, ℕ, ◌∙◌}
 use Rattle.tag_layout.proofs.PlaceFacts.{word_bits-le, low_bits, place_of-below, tag_at-back}
 use Rattle.tag_layout.proofs.layout.Layout.place_of.Goals as goal
 

@@ -1,6 +1,6 @@
 -- The tag at a place has that word and that place.
-use Rattle.std.proofs.Common.{◌≡◌, ℕ, ◌+◌, ◌*◌, ◌%◌, ◌^◌, ◌<◌, arith, ap, ◌∙◌}
-use Rattle.tag_layout.specs.Layout.{Layout, word_bits, word_of, place_of, tag_at}
+use Rattle.std.specs.Prelude.{◌%◌, ◌*◌, ◌+◌, ◌<◌, ◌^◌, ◌≡◌}
+use Rattle.tag_layout.proofs.Uses.{ap, arith, Layout, place_of, tag_at, word_bits, word_of, ℕ, ◌∙◌}
 use Rattle.tag_layout.proofs.PlaceFacts.{word-start, word_of-tag_at, place_of-tag_at}
 use Rattle.tag_layout.proofs.layout.Layout.tag_at.Goals as goal
 

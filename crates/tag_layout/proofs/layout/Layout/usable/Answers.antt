@@ -1,11 +1,6 @@
 -- The low ones of a word are the places that it uses.
-use Rattle.std.proofs.Common.{◌≡◌, ℕ, ◌-◌, ◌/◌, ◌^◌, ◌≤◌, arith, ap, ◌∙◌}
-use Rattle.tag_layout.specs.Layout.{word_depth}
-use mathlib.Core.Logic.{dite}
-use native.Mathlib.Decide.{dec_lt}
-use Rattle.std.specs.Int.{bit_at}
-use Rattle.std.proofs.lemmas.Nat.{pow_pos}
-use Rattle.std.proofs.lemmas.Nat.Bits.{bit_at_ones, bit_at_ones_above, ones_shr}
+use Rattle.std.specs.Prelude.{◌-◌, ◌/◌, ◌^◌, ◌≡◌, ◌≤◌}
+use Rattle.tag_layout.proofs.Uses.{ap, arith, bit_at, bit_at_ones, bit_at_ones_above, dec_lt, dite, ones_shr, pow_pos, word_depth, ℕ, ◌∙◌}
 use Rattle.tag_layout.proofs.layout.Layout.usable.Goals as goal
 
 -- the mask is one less than the power

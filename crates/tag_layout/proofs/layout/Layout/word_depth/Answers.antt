@@ -1,7 +1,6 @@
 -- A word that there is uses a bit, and at most 64.
-use Rattle.std.proofs.Common.{◌≡◌, ℕ, ◌*◌, ◌^◌, ◌≤◌, arith, ap, subst}
-use Rattle.std.proofs.lemmas.Nat.{one_shl}
-use Rattle.tag_layout.specs.Layout.{Layout, word_bits}
+use Rattle.std.specs.Prelude.{◌*◌, ◌^◌, ◌≡◌, ◌≤◌}
+use Rattle.tag_layout.proofs.Uses.{ap, arith, Layout, one_shl, subst, word_bits, ℕ}
 use Rattle.tag_layout.proofs.PlaceFacts.{word-start, word_depth-pos, word_bits-le}
 use Rattle.tag_layout.proofs.layout.Layout.word_depth.Goals as goal
 

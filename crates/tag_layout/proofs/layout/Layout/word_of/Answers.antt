@@ -1,6 +1,6 @@
 -- A tag below the depth stands in a word that there is.
-use Rattle.std.proofs.Common.{◌/◌, ◌^◌, ◌<◌, sym, subst}
-use Rattle.tag_layout.specs.Layout.{Layout, words}
+use Rattle.std.specs.Prelude.{◌/◌, ◌<◌, ◌^◌}
+use Rattle.tag_layout.proofs.Uses.{Layout, subst, sym, words}
 use Rattle.tag_layout.proofs.PlaceFacts.{word_of-below}
 use Rattle.tag_layout.proofs.layout.Layout.word_of.Goals as goal
 

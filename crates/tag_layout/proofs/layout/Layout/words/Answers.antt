@@ -1,8 +1,6 @@
 -- The words use all tags.
-use Rattle.std.proofs.Common.{◌+◌, ◌-◌, ◌/◌, ◌^◌, arith, ap, ◌∙◌}
-use Rattle.sums.specs.Below.{sum_below}
-use Rattle.tag_layout.specs.Layout.{words, word_depth}
-use Rattle.std.proofs.lemmas.Nat.{one_shl}
+use Rattle.std.specs.Prelude.{◌+◌, ◌-◌, ◌/◌, ◌^◌}
+use Rattle.tag_layout.proofs.Uses.{ap, arith, one_shl, sum_below, word_depth, words, ◌∙◌}
 use Rattle.tag_layout.proofs.PlaceFacts.{word_depths-sum}
 use Rattle.tag_layout.proofs.layout.Layout.words.Goals as goal
 

@@ -1,6 +1,5 @@
 -- All entries are free.
-use Rattle.std.proofs.Common.{ℕ, replicate, ap, ◌∙◌}
-use Rattle.tag_model.specs.declared.place.Place.TheVariants.{Free}
+use Rattle.tag_model.proofs.Uses.{ap, Free, replicate, ℕ, ◌∙◌}
 use Rattle.tag_model.proofs.EntryFacts.{chosen-free}
 use Rattle.tag_model.proofs.entries.Entries.open.Goals as goal
 

@@ -1,8 +1,6 @@
 -- The entry that counts.
-use Rattle.std.proofs.Common.{ℕ, ◌<◌, List, get_or, sym, ap, ◌∙◌, subst}
-use Rattle.std.proofs.lemmas.List.{get_or_read}
-use Rattle.tag_model.specs.declared.place.Place.TheVariants.{Free}
-use Rattle.tag_model.specs.Entries.{KeptEntries, is_turned}
+use Rattle.std.specs.Prelude.{◌<◌}
+use Rattle.tag_model.proofs.Uses.{ap, Free, get_or, get_or_read, is_turned, KeptEntries, List, subst, sym, ℕ, ◌∙◌}
 use Rattle.tag_model.proofs.EntryFacts.{chosen-at, entry-turned, entry-not}
 use Rattle.tag_model.proofs.entries.Entries.place.Goals as goal
 

@@ -1,8 +1,6 @@
 -- So many tags are posted among those that were looked at.
-use Rattle.std.proofs.Common.{◌≡◌, ◌≤◌, get_or}
-use Rattle.sums.specs.Below.{count_below}
-use Rattle.tag_model.specs.declared.place.Place.TheVariants.{Free}
-use Rattle.tag_model.specs.Totals.{is_posted}
+use Rattle.std.specs.Prelude.{◌≡◌, ◌≤◌}
+use Rattle.tag_model.proofs.Uses.{count_below, Free, get_or, is_posted}
 use Rattle.tag_model.proofs.entries.Entries.posted.Given as goal
 
 abbrev pub invariant-loop-tag : goal.invariant-loop-tag

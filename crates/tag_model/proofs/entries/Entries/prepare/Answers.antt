@@ -1,12 +1,6 @@
 -- The tag that the loop is at is tested and its next place made ready, if it is named.
-use Rattle.std.proofs.Common.{rules, ◌≡◌, ◌≢◌, ℕ, ◌<◌, List, false, true≢false, get_or, arith, sym, ap, ◌∙◌, subst}
-use mathlib.Core.Logic.{dite}
-use native.Mathlib.Decide.{ℕ_discrete}
-use Rattle.tag_layout.specs.Layout.{Layout}
-use Rattle.tag_model.specs.declared.place.Place.{Place}
-use Rattle.tag_model.specs.declared.place.Place.TheVariants.{Free}
-use Rattle.tag_model.specs.Event.{names, Needs, brings}
-use Rattle.tag_model.specs.Entries.{KeptEntries, SamePlaces}
+use Rattle.std.specs.Prelude.{◌<◌, ◌≡◌, ◌≢◌}
+use Rattle.tag_model.proofs.Uses.{ap, arith, brings, dite, false, Free, get_or, KeptEntries, Layout, List, names, Needs, Place, rules, SamePlaces, subst, sym, true≢false, ℕ, ℕ_discrete, ◌∙◌}
 use Rattle.tag_model.proofs.entries.Entries.prepare.Goals as goal
 use Rattle.tag_model.proofs.entries.Entries.prepare.Goals.{then-names+else-not-accepts, else-names}
 

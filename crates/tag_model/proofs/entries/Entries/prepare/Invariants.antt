@@ -1,9 +1,7 @@
 -- Of the tags that were visited, each one that the event names is where the event needs it, and its next place is
 -- ready.
-use Rattle.std.proofs.Common.{◌≡◌, ℕ, ◌<◌, IsTrue, get_or}
-use Rattle.tag_model.specs.declared.place.Place.TheVariants.{Free}
-use Rattle.tag_model.specs.Event.{names, Needs, brings}
-use Rattle.tag_model.specs.Entries.{SamePlaces}
+use Rattle.std.specs.Prelude.{◌<◌, ◌≡◌}
+use Rattle.tag_model.proofs.Uses.{brings, Free, get_or, IsTrue, names, Needs, SamePlaces, ℕ}
 use Rattle.tag_model.proofs.entries.Entries.prepare.Given as goal
 
 abbrev pub invariant-loop-tag : goal.invariant-loop-tag

@@ -1,9 +1,6 @@
 -- The bits of the word are turned where the mask's are 1.
-use Rattle.std.proofs.Common.{◌≡◌, ℕ, ◌<◌, List, length, get_or, set, bit_xor, refl, sym, ap, ◌∙◌, subst}
-use Rattle.std.proofs.lemmas.List.{get_or_read}
-use Rattle.tag_layout.specs.Layout.{words}
-use Rattle.tag_model.specs.declared.place.Place.TheVariants.{Free}
-use Rattle.tag_model.specs.Entries.{KeptEntries, chosen, Turns}
+use Rattle.std.specs.Prelude.{◌<◌, ◌≡◌}
+use Rattle.tag_model.proofs.Uses.{ap, bit_xor, chosen, Free, get_or, get_or_read, KeptEntries, length, List, refl, set, subst, sym, Turns, words, ℕ, ◌∙◌}
 use Rattle.tag_model.proofs.EntryFacts.{length-chosen, chosen-after}
 use Rattle.tag_model.proofs.entries.Entries.turn.Goals as goal
 

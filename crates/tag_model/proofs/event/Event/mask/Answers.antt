@@ -1,8 +1,6 @@
 -- The tags that an event names are those of its mask.
-use Rattle.std.proofs.Common.{◌≡◌, ℕ, ◌^◌, ◌==◌, sym, ap, ◌∙◌, subst}
-use Rattle.tag_layout.specs.Layout.{Layout, word_of, place_of}
-use Rattle.tag_model.specs.declared.event.Event.{Event}
-use Rattle.tag_model.specs.Event.{is_in_mask, names, IsInLayout}
+use Rattle.std.specs.Prelude.{◌==◌, ◌^◌, ◌≡◌}
+use Rattle.tag_model.proofs.Uses.{ap, Event, is_in_mask, IsInLayout, Layout, names, place_of, subst, sym, word_of, ℕ, ◌∙◌}
 use Rattle.tag_model.proofs.MaskFacts.{names-one, names-word}
 use Rattle.tag_model.proofs.event.Event.mask.Goals as goal
 

@@ -1,7 +1,6 @@
 -- An opened world is kept soundly.
-use Rattle.std.proofs.Common.{◌≡◌, replicate, sym, subst}
-use Rattle.tag_model.specs.declared.place.Place.TheVariants.{Free}
-use Rattle.tag_model.specs.Kept.{KeptWorld, IsSound}
+use Rattle.std.specs.Prelude.{◌≡◌}
+use Rattle.tag_model.proofs.Uses.{Free, IsSound, KeptWorld, replicate, subst, sym}
 use Rattle.tag_model.proofs.KeptFacts.{sound-opened}
 use Rattle.tag_model.proofs.world.World.all_free.Goals as goal
 

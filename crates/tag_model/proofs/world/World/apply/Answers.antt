@@ -1,11 +1,7 @@
 -- The lists after the event.
-use Rattle.std.proofs.Common.{◌≡◌, ℕ, ◌+◌, List, get_or, set, arith, refl, sym, ap, ◌∙◌, subst}
-use Rattle.std.specs.Vec.{with_items}
-use Rattle.tag_model.specs.declared.event.Event.{Event}
+use Rattle.std.specs.Prelude.{◌+◌, ◌≡◌}
+use Rattle.tag_model.proofs.Uses.{ap, AreAccepted, arith, back_by, caller_of, callers_of, Event, get_or, Happens, IsInRoom, IsSound, KeptWorld, List, MayHappen, refl, set, subst, sym, with_items, won_by, world_of, ℕ, ◌∙◌}
 use Rattle.tag_model.specs.declared.world.World.TheInside.{Inside}
-use Rattle.tag_model.specs.Event.{caller_of, won_by, back_by}
-use Rattle.tag_model.specs.World.{MayHappen}
-use Rattle.tag_model.specs.Kept.{KeptWorld, callers_of, world_of, IsSound, Happens, IsInRoom, AreAccepted}
 use Rattle.tag_model.proofs.KeptFacts.{back_of-fits, happens-kept, sound-kept, written-after}
 use Rattle.tag_model.proofs.world.World.apply.Goals as goal
 

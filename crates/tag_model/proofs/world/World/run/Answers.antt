@@ -1,10 +1,6 @@
 -- The events before the index ran, and the one at the index comes next.
-use Rattle.std.proofs.Common.{◌≡◌, ℕ, suc, ◌+◌, ◌<◌, List, ◌∷◌, ◌++◌, get_or, take, drop, length, arith, sym, ap, ◌∙◌, subst, length-take-le, drop-cons}
-use Rattle.std.proofs.lemmas.List.{take_more, take-append-drop}
-use Rattle.tag_model.specs.declared.event.Event.{Event}
-use Rattle.tag_model.specs.declared.event.Event.TheVariants.{Look}
-use Rattle.tag_model.specs.Runs.{StopsAt, MayRun}
-use Rattle.tag_model.specs.Kept.{KeptWorld, callers_of, world_of, Ran}
+use Rattle.std.specs.Prelude.{◌++◌, ◌+◌, ◌<◌, ◌∷◌, ◌≡◌}
+use Rattle.tag_model.proofs.Uses.{ap, arith, callers_of, drop, drop-cons, Event, get_or, KeptWorld, length, length-take-le, List, Look, MayRun, Ran, StopsAt, subst, suc, sym, take, take-append-drop, take_more, world_of, ℕ, ◌∙◌}
 use Rattle.tag_model.proofs.RunFacts.{ran-more, stops-here, cannot-stop}
 use Rattle.tag_model.proofs.world.World.run.Goals as goal
 

@@ -1,6 +1,5 @@
 -- The events so far ran.
-use Rattle.std.proofs.Common.{take}
-use Rattle.tag_model.specs.Kept.{Ran}
+use Rattle.tag_model.proofs.Uses.{Ran, take}
 use Rattle.tag_model.proofs.world.World.run.Given as goal
 
 abbrev pub invariant-loop-index : goal.invariant-loop-index

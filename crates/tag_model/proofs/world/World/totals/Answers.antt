@@ -1,9 +1,5 @@
 -- Sums of lists are sums over tags and callers, and a sound world balances.
-use Rattle.std.proofs.Common.{get_or, sum, arith, ap, ◌∙◌, subst}
-use Rattle.sums.specs.Below.{sum_below}
-use Rattle.sums.proofs.Laws.{sum-below}
-use Rattle.tag_model.specs.Totals.{AreTotals}
-use Rattle.tag_model.specs.Kept.{KeptWorld, callers_of, world_of, IsSound}
+use Rattle.tag_model.proofs.Uses.{ap, AreTotals, arith, callers_of, get_or, IsSound, KeptWorld, subst, sum, sum-below, sum_below, world_of, ◌∙◌}
 use Rattle.tag_model.proofs.KeptFacts.{got-fits, back-fits}
 use Rattle.tag_model.proofs.world.World.totals.Goals as goal
 

@@ -1,8 +1,5 @@
 -- The steps are quiet, so the answer is the choice, and the tag of a choice is held afterwards.
-use Rattle.std.proofs.Common.{ℕ}
-use Rattle.tag_layout.specs.Layout.{Layout, word_of}
-use Rattle.tag_search.specs.Hints.{reduced}
-use Rattle.tag_search.specs.Visits.{plain_reach}
+use Rattle.tag_search.proofs.Uses.{Layout, plain_reach, reduced, word_of, ℕ}
 use Rattle.tag_search.proofs.GetFacts.{plain_within}
 use Rattle.tag_search.proofs.Held.{get_held}
 use Rattle.tag_search.proofs.plain.PlainPort.choose.Goals as goal

@@ -1,7 +1,5 @@
 -- The steps are quiet, so the answer is the choice, and the tags of a choice are held afterwards.
-use Rattle.std.proofs.Common.{ℕ}
-use Rattle.tag_layout.specs.Layout.{Layout, word_of}
-use Rattle.tag_search.specs.Hints.{reduced}
+use Rattle.tag_search.proofs.Uses.{Layout, reduced, word_of, ℕ}
 use Rattle.tag_search.proofs.Held.{batch_get_held}
 use Rattle.tag_search.proofs.plain.PlainPort.choose_batch.Goals as goal
 

@@ -1,9 +1,6 @@
 -- A give clears bits of one word at places that are not set aside, so the words stay tidy.
-use Rattle.std.proofs.Common.{◌≡◌, ℕ, ◌^◌, ◌<◌, length, set, arith, sym, subst}
-use Rattle.std.proofs.Math.ListN.{length-set}
-use Rattle.std.specs.Int.{bit_at}
-use Rattle.tag_core.specs.Steps.{without}
-use Rattle.tag_search.specs.Plain.{Plain, IsTaken}
+use Rattle.std.specs.Prelude.{◌<◌, ◌^◌, ◌≡◌}
+use Rattle.tag_search.proofs.Uses.{arith, bit_at, IsTaken, length, length-set, Plain, set, subst, sym, without, ℕ}
 use Rattle.tag_search.proofs.Seen.{seen, reads_word}
 use Rattle.tag_search.proofs.PlainFacts.{ran_give}
 use Rattle.tag_search.proofs.PlainPools.{ran_give_pool}

@@ -1,10 +1,6 @@
 -- A put sets one bit of a cleared set, at a place that is taken, so the words stay tidy.
-use Rattle.std.proofs.Common.{◌≡◌, ℕ, ◌^◌, [], ◌∷◌, get_or, set, bit_or, sym, ap, refl, ◌∙◌, subst}
-use Rattle.std.proofs.Math.ListN.{length-set}
-use Rattle.std.specs.Int.{bit_at}
-use Rattle.tag_layout.specs.Layout.{word_of, place_of}
-use Rattle.tag_search.specs.Plain.{Plain, RunsAlone, IsTaken}
-use Rattle.tag_core.specs.declared.word_step.WordStep.TheVariants.{Put}
+use Rattle.std.specs.Prelude.{◌^◌, ◌∷◌, ◌≡◌}
+use Rattle.tag_search.proofs.Uses.{[], ap, bit_at, bit_or, get_or, IsTaken, length-set, place_of, Plain, Put, refl, RunsAlone, set, subst, sym, word_of, ℕ, ◌∙◌}
 use Rattle.tag_search.proofs.Seen.{seen, reads_aside}
 use Rattle.tag_search.proofs.PlainFacts.{ran_put_at}
 use Rattle.tag_search.proofs.PlainPools.{ran_put_pool}

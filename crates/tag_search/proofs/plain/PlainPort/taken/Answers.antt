@@ -1,7 +1,6 @@
 -- The bit of the tag in the word is whether it is taken, and the bit in the cleared set whether it is aside.
-use Rattle.std.proofs.Common.{◌≡◌, ℕ, ◌<◌, get_or, ap, refl, ◌∙◌, subst}
-use Rattle.tag_layout.specs.Layout.{word_of, place_of}
-use Rattle.tag_search.specs.Plain.{Plain}
+use Rattle.std.specs.Prelude.{◌<◌, ◌≡◌}
+use Rattle.tag_search.proofs.Uses.{ap, get_or, place_of, Plain, refl, subst, word_of, ℕ, ◌∙◌}
 use Rattle.tag_search.proofs.Seen.{seen, reads_word, reads_aside}
 use Rattle.tag_search.proofs.PlainFacts.{tells_taken, tells_free}
 use Rattle.tag_search.proofs.PlainPools.{busy_iff}

@@ -1,8 +1,5 @@
 -- A claim sets bits of one word within its depth, so the words stay tidy and every other bit is unchanged.
-use Rattle.std.proofs.Common.{set, bit_or, sym, subst}
-use Rattle.std.proofs.Math.ListN.{length-set}
-use Rattle.tag_layout.specs.Layout.{IsWithin}
-use Rattle.tag_search.specs.Plain.{Plain}
+use Rattle.tag_search.proofs.Uses.{bit_or, IsWithin, length-set, Plain, set, subst, sym}
 use Rattle.tag_search.proofs.Seen.{seen, reads_word}
 use Rattle.tag_search.proofs.PlainFacts.{ran_claim}
 use Rattle.tag_search.proofs.Writings.{writes_or, tidy_claim}

@@ -1,6 +1,6 @@
 -- The mask is one bit, and a claim wins exactly if it found the bit clear.
-use Rattle.std.proofs.Common.{◌^◌, ◌<◌, arith, sym, ◌∙◌}
-use Rattle.std.proofs.lemmas.Nat.{one_shl, pow_below}
+use Rattle.std.specs.Prelude.{◌<◌, ◌^◌}
+use Rattle.tag_search.proofs.Uses.{arith, one_shl, pow_below, sym, ◌∙◌}
 use Rattle.tag_search.proofs.Claims.{clear_where_won, taken_where_lost}
 use Rattle.tag_search.proofs.plain_steps.PlainPortPort.claim_one.Goals as goal
 

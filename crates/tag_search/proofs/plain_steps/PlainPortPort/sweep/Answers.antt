@@ -1,21 +1,16 @@
 -- A sweep that finds nothing changes nothing, and one that finds a mask empties the cleared set and frees its places.
-use Rattle.std.proofs.Common.{◌≡◌, ℕ, ◌^◌, ◌<◌, [], ◌∷◌, get_or, set, sym, ◌∙◌, subst, arith}
-use Rattle.tag_core.specs.declared.word_step.WordStep.TheVariants.{LookAside, Swap, Spill}
-use Rattle.tag_search.specs.Search.{unseen, spilled}
-use Rattle.tag_core.specs.Steps.{without}
-use Rattle.tag_search.specs.Writes.{WritesBits, IsIn}
+use Rattle.std.specs.Prelude.{◌<◌, ◌^◌, ◌∷◌}
+use Rattle.tag_search.proofs.Uses.{[], arith, IsIn, LookAside, set, Spill, spilled, subst, Swap, without, WritesBits, ℕ}
 use Rattle.tag_search.proofs.Seen.{seen, reads_word, reads_aside}
-use Rattle.tag_search.proofs.PlainFacts.{ran_empty, ran_sweep}
+use Rattle.tag_search.proofs.PlainFacts.{sweeps_none, ran_sweep}
 use Rattle.tag_search.proofs.Writings.{writes_without, tidy_sweep}
 use Rattle.tag_search.proofs.plain_steps.PlainPortPort.sweep.Goals as goal
 
 pub returns-then-mask-eq0-clause-steps : goal.returns-then-mask-eq0-clause-steps
 returns-then-mask-eq0-clause-steps c =
-    let p = seen c.self.inside in let i = c.args.word in
-    let set_aside = reads_aside p _ c.self.view_is c.self.invariant i c.requires.word c.index-mask.result.now
-    c.index-mask.ensures in
-    let none : get_or p.aside i 0 ≡ 0 = sym set_aside.is ∙ c.if-mask-eq0.true in
-    rw (← c.self.view_is) (record { steps = LookAside i 0 ∷ []; added = ran_empty p i none; holds = unseen })
+    let p = seen c.self.inside in let i = c.args.word in let mask = c.index-mask.result.now in
+    rw (← c.self.view_is) (sweeps_none p i mask
+    (reads_aside p _ c.self.view_is c.self.invariant i c.requires.word mask c.index-mask.ensures) c.if-mask-eq0.true)
 
 pub invariant_of-self : goal.invariant_of-self
 invariant_of-self c =

@@ -1,17 +1,10 @@
 -- A sweep that finds nothing changes nothing. One that finds a mask empties the cleared set, and frees its places but for
 -- the least.
-use Rattle.std.proofs.Common.{◌≡◌, ◌≢◌, ℕ, ◌-◌, ◌*◌, ◌%◌, ◌^◌, ◌<◌, [], ◌∷◌, get_or, set, sym, ap, ◌∙◌, subst, arith}
-use Rattle.std.specs.Int.{bit_at, trailing_zeros, w64}
-use Rattle.std.proofs.lemmas.Nat.{one_shl, and_le_l}
-use Rattle.tag_layout.specs.Layout.{word_depth}
-use Rattle.tag_core.specs.declared.word_step.WordStep.TheVariants.{LookAside, Swap, Keep, Spill}
-use Rattle.tag_core.specs.Steps.{without}
+use Rattle.std.specs.Prelude.{◌%◌, ◌*◌, ◌-◌, ◌<◌, ◌^◌, ◌∷◌, ◌≡◌, ◌≢◌}
+use Rattle.tag_search.proofs.Uses.{[], and_le_l, ap, arith, bit_at, get_or, IsTidy, Keep, kept_alone, kept_one, LookAside, one_shl, Plain, RunsAlone, set, Spill, subst, Swap, sym, trailing_zeros, w64, without, word_depth, ℕ, ◌∙◌}
 use Rattle.tag_core.proofs.Keepings.{least_in, least_small}
-use Rattle.tag_search.specs.Plain.{Plain, RunsAlone}
-use Rattle.tag_search.specs.Search.{unseen, kept_alone, kept_one}
-use Rattle.tag_search.specs.Writes.{IsTidy}
 use Rattle.tag_search.proofs.Seen.{Reads, seen, reads_word, reads_aside}
-use Rattle.tag_search.proofs.PlainFacts.{ran_empty, ran_kept, ran_keeping}
+use Rattle.tag_search.proofs.PlainFacts.{sweeps_none, ran_kept, ran_keeping}
 use Rattle.tag_search.proofs.Writings.{tidy_sweep}
 use Rattle.tag_search.proofs.plain_steps.PlainPortPort.sweep_keeping.Goals as goal
 
@@ -30,11 +23,9 @@ place_low p i mask tidy aside some fits =
 
 pub returns-then-mask-eq0-clause-none : goal.returns-then-mask-eq0-clause-none
 returns-then-mask-eq0-clause-none c =
-    let p = seen c.self.inside in let i = c.args.word in
-    let set_aside = reads_aside p _ c.self.view_is c.self.invariant i c.requires.word c.index-mask.result.now
-    c.index-mask.ensures in
-    let none : get_or p.aside i 0 ≡ 0 = sym set_aside.is ∙ c.if-mask-eq0.true in
-    rw (← c.self.view_is) (record { steps = LookAside i 0 ∷ []; added = ran_empty p i none; holds = unseen })
+    let p = seen c.self.inside in let i = c.args.word in let mask = c.index-mask.result.now in
+    rw (← c.self.view_is) (sweeps_none p i mask
+    (reads_aside p _ c.self.view_is c.self.invariant i c.requires.word mask c.index-mask.ensures) c.if-mask-eq0.true)
 
 pub invariant_of-self : goal.invariant_of-self
 invariant_of-self c =

@@ -1,7 +1,6 @@
 -- Each place of a rank is below its limit, which is at most the word's depth.
-use Rattle.std.proofs.Common.{ℕ, ◌<◌, List, arith, subst, sym}
-use Rattle.std.specs.Prelude.{All}
-use Rattle.tag_layout.specs.Layout.{word_depth}
+use Rattle.std.specs.Prelude.{◌<◌}
+use Rattle.tag_search.proofs.Uses.{All, arith, List, subst, sym, word_depth, ℕ}
 use Rattle.tag_search.proofs.Orders.{all_scan}
 use Rattle.tag_search.proofs.scan.Scan.rank.Goals as goal
 

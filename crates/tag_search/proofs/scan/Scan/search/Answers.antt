@@ -1,10 +1,6 @@
 -- The words from the first on, and then those before it, are all words in cyclic order.
-use Rattle.std.proofs.Common.{ℕ, ◌++◌, map, Some, None, refl, sym, subst}
-use Rattle.tag_layout.specs.Layout.{words}
-use Rattle.tag_search.specs.Order.{numbers}
-use Rattle.tag_search.specs.Search.{Visit, IsSearch}
-use Rattle.tag_search.specs.Scans.{reach_of}
-use Rattle.tag_search.specs.Visits.{visit_of, visits}
+use Rattle.std.specs.Prelude.{◌++◌}
+use Rattle.tag_search.proofs.Uses.{IsSearch, map, None, numbers, reach_of, refl, Some, subst, sym, Visit, visit_of, visits, words, ℕ}
 use Rattle.tag_search.proofs.Joined.{adds_joined, adds_weaker}
 use Rattle.tag_search.proofs.Searches.{search_stops, search_goes_on, visits-split}
 use Rattle.tag_search.proofs.scan.Scan.search.Goals as goal

@@ -1,10 +1,6 @@
 -- Each visit that wins nothing adds its steps, and the search goes on with the words after it.
-use Rattle.std.proofs.Common.{ℕ, ◌+◌, List, [], ◌∷◌, map, Some, None, sym, ◌∙◌, subst}
-use Rattle.tag_search.specs.Added.{AddsSteps}
-use Rattle.tag_search.specs.Order.{numbers}
-use Rattle.tag_search.specs.Search.{Visit, IsVisit, IsSearch, over, won, passed}
-use Rattle.tag_search.specs.Scans.{reach_of}
-use Rattle.tag_search.specs.Visits.{visit_of}
+use Rattle.std.specs.Prelude.{◌+◌, ◌∷◌}
+use Rattle.tag_search.proofs.Uses.{[], AddsSteps, IsSearch, IsVisit, List, map, None, numbers, over, passed, reach_of, Some, subst, sym, Visit, visit_of, won, ℕ, ◌∙◌}
 use Rattle.tag_search.proofs.Joined.{Begins, adds_weaker, adds_over, adds_further, adds_ended, same_room_joined}
 use Rattle.tag_search.proofs.Orders.{numbers-none, numbers-cons}
 use Rattle.tag_search.proofs.scan.Scan.visit_between.Goals as goal

@@ -1,10 +1,6 @@
 -- So far every visit won nothing, and a search of the words left completes the search.
-use Rattle.std.proofs.Common.{◌≡◌, map}
-use Rattle.tag_search.specs.Added.{AddsSteps, SameRoom}
-use Rattle.tag_search.specs.Order.{numbers}
-use Rattle.tag_search.specs.Scans.{reach_of}
-use Rattle.tag_search.specs.Visits.{visit_of}
-use Rattle.tag_search.specs.Search.{IsSearch}
+use Rattle.std.specs.Prelude.{◌≡◌}
+use Rattle.tag_search.proofs.Uses.{AddsSteps, IsSearch, map, numbers, reach_of, SameRoom, visit_of}
 use Rattle.tag_search.proofs.Joined.{Begins}
 use Rattle.tag_search.proofs.scan.Scan.visit_between.Given as goal
 

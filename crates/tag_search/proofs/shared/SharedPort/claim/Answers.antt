@@ -1,10 +1,6 @@
 -- A claim only adds bits to the caller's held set, and it finds taken what the caller already holds.
-use Rattle.std.proofs.Common.{◌^◌, ◌<◌, length, refl, sym, ap, ◌∙◌, arith}
-use Rattle.std.specs.Int.{bit_at}
-use Rattle.tag_layout.specs.Layout.{word_of, place_of}
-use Rattle.tag_core.specs.declared.shape.Shape.{Shape}
-use Rattle.tag_core.specs.declared.word_step.WordStep.TheVariants.{Claimed}
-use Rattle.tag_search.specs.Shared.{FindsHeldBy}
+use Rattle.std.specs.Prelude.{◌<◌, ◌^◌}
+use Rattle.tag_search.proofs.Uses.{ap, arith, bit_at, Claimed, FindsHeldBy, length, place_of, refl, Shape, sym, word_of, ◌∙◌}
 use Rattle.tag_search.proofs.SharedCalls.{adds_claim}
 use Rattle.tag_search.proofs.shared.SharedPort.claim.Goals as goal
 

@@ -1,11 +1,7 @@
 -- A sweep that finds nothing set aside is a load alone; otherwise a swap follows, or a swap and a spill. All keep the
 -- held set.
-use Rattle.std.proofs.Common.{ℕ, [], ◌∷◌, arith, refl, subst}
-use Rattle.tag_core.specs.Callers.{Adds}
-use Rattle.tag_core.specs.declared.step.Step.TheVariants.{Word}
-use Rattle.tag_core.specs.declared.word_step.WordStep.TheVariants.{LookAside, Swap, Spill}
-use Rattle.tag_search.specs.Search.{unseen, empty, spilled}
-use Rattle.tag_search.specs.SharedLaws.{adds_nothing}
+use Rattle.std.specs.Prelude.{◌∷◌}
+use Rattle.tag_search.proofs.Uses.{[], Adds, adds_nothing, arith, empty, LookAside, refl, Spill, spilled, subst, Swap, unseen, Word, ℕ}
 use Rattle.tag_search.proofs.SharedCalls.{adds_one, adds_two, swept}
 use Rattle.tag_search.proofs.shared.SharedPort.sweep.Goals as goal
 

@@ -1,11 +1,7 @@
 -- Where nothing is set aside, it is a sweep that found nothing. Otherwise the least tag stays with the caller, and the port
 -- counts the others, if there are any, as freed.
-use Rattle.std.proofs.Common.{ℕ, ◌^◌, [], ◌∷◌, arith, refl, subst}
-use Rattle.tag_core.specs.Callers.{Adds}
-use Rattle.tag_core.specs.declared.step.Step.TheVariants.{Word}
-use Rattle.tag_core.specs.declared.word_step.WordStep.TheVariants.{LookAside, Swap, Keep, Spill}
-use Rattle.tag_search.specs.Search.{unseen, empty, IsLeastKept}
-use Rattle.tag_search.specs.SharedLaws.{adds_nothing}
+use Rattle.std.specs.Prelude.{◌^◌, ◌∷◌}
+use Rattle.tag_search.proofs.Uses.{[], Adds, adds_nothing, arith, empty, IsLeastKept, Keep, LookAside, refl, Spill, subst, Swap, unseen, Word, ℕ}
 use Rattle.tag_search.proofs.SharedCalls.{adds_one, swept, swept_so, adds_alone, adds_others, least_alone, least_others}
 use Rattle.tag_search.proofs.shared.SharedPort.sweep_keeping.Goals as goal
 

@@ -1,10 +1,6 @@
 -- The teller's own count stays within the cap, so the step may happen.
-use Rattle.std.proofs.Common.{arith, ◌^◌, ◌+◌, ◌≤◌, sym, ap, ◌∙◌, subst}
-use Rattle.step_ledger.specs.Records.{steps_of, push}
-use Rattle.step_ledger.specs.History.{total}
-use Rattle.wake_book.specs.declared.book.Limits.{Limits}
-use Rattle.wake_book.specs.declared.steps.BookStep.TheVariants.{Add}
-use Rattle.wake_book.specs.Charges.{added}
+use Rattle.std.specs.Prelude.{◌+◌, ◌^◌, ◌≤◌}
+use Rattle.wake_book.proofs.Uses.{Add, added, ap, arith, Limits, push, steps_of, subst, sym, total, ◌∙◌}
 use Rattle.wake_book.proofs.BookKeeps as keeps
 use Rattle.wake_book.proofs.book.Book.add.Goals as goal
 

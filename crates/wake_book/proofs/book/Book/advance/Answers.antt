@@ -1,11 +1,7 @@
 -- The teller has just found the interval's end counted, so the exchange may happen; it wins exactly if it found the
 -- start.
-use Rattle.std.proofs.Common.{arith, refl, ℕ, ◌^◌, ◌-◌, ◌≤◌, ◌∷◌, sym, ap, ◌∙◌, subst}
-use Rattle.step_ledger.specs.Records.{steps_of, push}
-use Rattle.step_ledger.specs.History.{total}
-use Rattle.wake_book.specs.declared.book.Limits.{Limits}
-use Rattle.wake_book.specs.declared.steps.BookStep.TheVariants.{Advance}
-use Rattle.wake_book.specs.Charges.{taken}
+use Rattle.std.specs.Prelude.{◌-◌, ◌^◌, ◌∷◌, ◌≤◌}
+use Rattle.wake_book.proofs.Uses.{Advance, ap, arith, Limits, push, refl, steps_of, subst, sym, taken, total, ℕ, ◌∙◌}
 use Rattle.wake_book.proofs.BookKeeps as keeps
 use Rattle.wake_book.proofs.GroupSteps.{yes_of, no_of}
 use Rattle.wake_book.proofs.book.Book.advance.Goals as goal

@@ -1,10 +1,7 @@
 -- Each turn so far found a batch due and lost its exchange, so nothing was charged; the completions are counted once.
-use Rattle.std.proofs.Common.{◌≡◌, ℕ, ◌+◌, ◌≤◌, ◌∷◌}
-use Rattle.step_ledger.specs.History.{total}
-use Rattle.wake_book.specs.declared.steps.BookStep.TheVariants.{Add}
-use Rattle.wake_book.specs.Book.{IsTellerOf, steps_of, number_of, charged_by}
-use Rattle.wake_book.specs.Charges.{added}
-use Rattle.wake_book.specs.Charging.{LosesTries}
+use Rattle.std.specs.Prelude.{◌+◌, ◌∷◌, ◌≡◌, ◌≤◌}
+use Rattle.wake_book.proofs.Uses.{Add, added, charged_by, IsTellerOf, LosesTries, number_of, total, ℕ}
+use Rattle.wake_book.specs.Book.{steps_of}
 use Rattle.wake_book.proofs.book.Book.count.Given as goal
 
 abbrev pub invariant-loop : goal.invariant-loop

@@ -1,10 +1,5 @@
 -- The gathering's seat has the records of all tellers, so the last words are those of the whole history.
-use Rattle.std.proofs.Common.{sym, subst}
-use Rattle.std.specs.Slots.{slots_items}
-use Rattle.atomic_table.specs.Table.{Final, Seen}
-use Rattle.step_ledger.proofs.Turned.{turned_back}
-use Rattle.wake_book.specs.declared.book.Limits.{Limits}
-use Rattle.wake_book.specs.Charges.{BookRule}
+use Rattle.wake_book.proofs.Uses.{BookRule, Final, Limits, Seen, slots_items, subst, sym, turned_back}
 use Rattle.wake_book.specs.Book.{gathered}
 use Rattle.wake_book.proofs.Ending.{booked}
 use Rattle.wake_book.proofs.book.Book.finish.Goals as goal

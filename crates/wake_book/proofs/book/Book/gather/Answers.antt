@@ -1,7 +1,6 @@
 -- The records of all tellers have the tellers' numbers.
-use Rattle.std.proofs.Common.{refl}
-use Rattle.step_ledger.proofs.Turned.{numbers_all}
-use Rattle.wake_book.specs.Book.{record_of, number_of, tellers_of, gathered}
+use Rattle.wake_book.proofs.Uses.{number_of, numbers_all, refl, tellers_of}
+use Rattle.wake_book.specs.Book.{record_of, gathered}
 use Rattle.wake_book.proofs.book.Book.gather.Goals as goal
 
 pub finish-requires-clause-all : goal.finish-requires-clause-all

@@ -1,9 +1,6 @@
 -- The empty history leaves the opening words, so the rule holds at the start; the tellers made have not made a step.
-use Rattle.std.proofs.Common.{[], refl}
-use Rattle.step_ledger.proofs.Members.{opens}
-use Rattle.step_ledger.specs.Records.{fresh_record}
-use Rattle.step_ledger.proofs.Numbers.{numbered_all, numbered_records}
-use Rattle.wake_book.specs.Charges.{opening_words, words_after, MayStep}
+use Rattle.wake_book.proofs.Uses.{[], fresh_record, numbered_all, numbered_records, opening_words, opens, refl}
+use Rattle.wake_book.specs.Charges.{words_after, MayStep}
 use Rattle.wake_book.specs.Book.{record_of}
 use Rattle.wake_book.proofs.book.Book.lay_out.Goals as goal
 

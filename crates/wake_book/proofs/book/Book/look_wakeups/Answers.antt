@@ -1,8 +1,6 @@
 -- A load may always happen, and finds the wakeups that the steps before it left.
-use Rattle.std.proofs.Common.{arith, ◌^◌, ◌≤◌, sym, ap, ◌∙◌, subst}
-use Rattle.step_ledger.specs.Records.{steps_of, push}
-use Rattle.wake_book.specs.declared.book.Limits.{Limits}
-use Rattle.wake_book.specs.declared.steps.BookStep.TheVariants.{LookWakeups}
+use Rattle.std.specs.Prelude.{◌^◌, ◌≤◌}
+use Rattle.wake_book.proofs.Uses.{ap, arith, Limits, LookWakeups, push, steps_of, subst, sym, ◌∙◌}
 use Rattle.wake_book.proofs.BookKeeps as keeps
 use Rattle.wake_book.proofs.book.Book.look_wakeups.Goals as goal
 

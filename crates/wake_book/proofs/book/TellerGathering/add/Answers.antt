@@ -1,9 +1,6 @@
 -- The teller's record joins those on the seat, and its charges are added to the sum.
-use Rattle.std.proofs.Common.{arith, ap, ◌∙◌}
-use Rattle.step_ledger.specs.History.{total}
-use Rattle.step_ledger.proofs.Members.{joins}
-use Rattle.step_ledger.proofs.Turned.{joined, sum_joined}
-use Rattle.wake_book.specs.Charges.{opening_words, words_after, MayStep, charged}
+use Rattle.wake_book.proofs.Uses.{ap, arith, charged, joined, joins, opening_words, sum_joined, total, ◌∙◌}
+use Rattle.wake_book.specs.Charges.{words_after, MayStep}
 use Rattle.wake_book.specs.Book.{record_of}
 use Rattle.wake_book.proofs.book.TellerGathering.add.Goals as goal
 

@@ -1,8 +1,6 @@
 -- The first of the records left goes to the new teller, and the others stay on the seat.
-use Rattle.std.proofs.Common.{arith, ap, ◌∙◌}
-use Rattle.step_ledger.proofs.Members.{splits_next}
-use Rattle.wake_book.specs.Charges.{opening_words, words_after, MayStep}
-use Rattle.wake_book.specs.Book.{tellers_of}
+use Rattle.wake_book.proofs.Uses.{ap, arith, opening_words, splits_next, tellers_of, ◌∙◌}
+use Rattle.wake_book.specs.Charges.{words_after, MayStep}
 use Rattle.wake_book.proofs.Rest.{next_member, still_rest}
 use Rattle.wake_book.proofs.book_opening.BookMemberSource.next_member.Goals as goal
 

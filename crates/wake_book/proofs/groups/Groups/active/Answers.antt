@@ -1,10 +1,7 @@
 -- A load may always happen, and a waiter that has raised the count is counted in it.
-use Rattle.std.proofs.Common.{arith, ap}
-use Rattle.wake_book.specs.declared.steps.GroupStep.TheVariants.{Look}
-use Rattle.wake_book.specs.Groups.{record_of}
+use Rattle.wake_book.proofs.Uses.{active_at, ap, arith, Look, record_of}
 use Rattle.wake_book.proofs.GroupKeeps as keeps
 use Rattle.wake_book.proofs.Waiters.{made_steps, few}
-use Rattle.wake_book.specs.Waits.{active_at}
 use Rattle.wake_book.proofs.groups.Groups.active.Goals as goal
 
 pub load-requires : goal.load-requires

@@ -1,15 +1,6 @@
 -- The waiter is in no group, so it may raise the active count, and then it may enter the group of its wait index.
-use Rattle.std.proofs.Common.{arith, ◌≡◌, ℕ, ◌+◌, ◌%◌, ◌^◌, length, ◌∷◌, [], Some, refl, sym, ap, ◌∙◌}
-use Rattle.atomic_table.specs.Table.{Me}
-use Rattle.step_ledger.specs.Records.{Records, steps_of, with_step, Stepped}
-use Rattle.step_ledger.specs.Views.{own_view}
-use Rattle.wake_book.specs.declared.groups.Waiter.{Waiter}
-use Rattle.wake_book.specs.declared.steps.GroupStep.{GroupStep}
-use Rattle.wake_book.specs.declared.steps.GroupStep.TheVariants.{Raise, Enter}
-use Rattle.wake_book.specs.Groups.{record_of}
-use Rattle.wake_book.specs.Waits.{one_waiting}
-use Rattle.wake_book.specs.WaitPlays.{entering}
-use Rattle.wake_book.specs.Stands.{stand_code}
+use Rattle.std.specs.Prelude.{◌%◌, ◌+◌, ◌^◌, ◌∷◌, ◌≡◌}
+use Rattle.wake_book.proofs.Uses.{[], ap, arith, Enter, entering, GroupStep, length, Me, one_waiting, own_view, Raise, record_of, Records, refl, Some, stand_code, Stepped, steps_of, sym, Waiter, with_step, ℕ, ◌∙◌}
 use Rattle.wake_book.proofs.GroupKeeps as keeps
 use Rattle.wake_book.proofs.Waiters.{Promises, made, made_steps, after, few}
 use Rattle.wake_book.proofs.groups.Groups.enter.Goals as goal

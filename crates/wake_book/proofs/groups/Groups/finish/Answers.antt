@@ -1,9 +1,5 @@
 -- The gathering's seat has the records of all waiters, so the last words are those of the whole history.
-use Rattle.std.proofs.Common.{ℕ, sym, subst}
-use Rattle.std.specs.Slots.{slots_items}
-use Rattle.atomic_table.specs.Table.{Final, Seen}
-use Rattle.step_ledger.proofs.Turned.{turned_back}
-use Rattle.wake_book.specs.Waits.{GroupsRule}
+use Rattle.wake_book.proofs.Uses.{Final, GroupsRule, Seen, slots_items, subst, sym, turned_back, ℕ}
 use Rattle.wake_book.specs.Groups.{gathered}
 use Rattle.wake_book.proofs.GroupsEnding.{enough, ended}
 use Rattle.wake_book.proofs.groups.Groups.finish.Goals as goal

@@ -1,7 +1,6 @@
 -- The records of all waiters have the waiters' numbers.
-use Rattle.std.proofs.Common.{refl}
-use Rattle.step_ledger.proofs.Turned.{numbers_all}
-use Rattle.wake_book.specs.Groups.{record_of, number_of, waiters_of, gathered}
+use Rattle.wake_book.proofs.Uses.{numbers_all, record_of, refl, waiters_of}
+use Rattle.wake_book.specs.Groups.{number_of, gathered}
 use Rattle.wake_book.proofs.groups.Groups.gather.Goals as goal
 
 pub finish-requires-clause-all : goal.finish-requires-clause-all

@@ -1,16 +1,7 @@
 -- At least as many wait as are moved, so neither half of the word overflows; the exchange wins exactly if it found what
 -- it expected.
-use Rattle.std.proofs.Common.{arith, ◌≡◌, ℕ, eqb, ◌+◌, ◌-◌, ◌*◌, ◌^◌, ◌≤◌, ◌∷◌, ap, ◌∙◌}
-use prog.Atomic.{either}
-use Rattle.atomic_table.specs.Table.{Me}
-use Rattle.step_ledger.specs.Records.{Records, steps_of, Stepped}
-use Rattle.step_ledger.specs.History.{total}
-use Rattle.wake_book.specs.declared.groups.Waiter.{Waiter}
-use Rattle.wake_book.specs.declared.steps.GroupStep.{GroupStep}
-use Rattle.wake_book.specs.declared.steps.GroupStep.TheVariants.{Grant}
-use Rattle.wake_book.specs.Groups.{record_of}
-use Rattle.wake_book.specs.Waits.{one_waiting, waiting, moved_in, moved_by}
-use Rattle.wake_book.specs.WaitPlays.{granting}
+use Rattle.std.specs.Prelude.{◌*◌, ◌+◌, ◌-◌, ◌^◌, ◌∷◌, ◌≡◌, ◌≤◌}
+use Rattle.wake_book.proofs.Uses.{ap, arith, either, eqb, Grant, granting, GroupStep, Me, moved_by, moved_in, one_waiting, record_of, Records, Stepped, steps_of, total, Waiter, waiting, ℕ, ◌∙◌}
 use Rattle.wake_book.proofs.GroupSteps.{yes_of, no_of}
 use Rattle.wake_book.proofs.GroupKeeps as keeps
 use Rattle.wake_book.proofs.Waiters.{Promises, made_steps, after, few}

@@ -1,10 +1,7 @@
 -- A load may always happen, and each wake index stored was one of the eight groups.
-use Rattle.std.proofs.Common.{arith, ap}
-use Rattle.wake_book.specs.declared.steps.GroupStep.TheVariants.{Look}
-use Rattle.wake_book.specs.Groups.{record_of}
+use Rattle.wake_book.proofs.Uses.{ap, arith, index_at, Look, record_of}
 use Rattle.wake_book.proofs.GroupKeeps as keeps
 use Rattle.wake_book.proofs.Waiters.{made_steps, few}
-use Rattle.wake_book.specs.Waits.{index_at}
 use Rattle.wake_book.proofs.groups.Groups.index.Goals as goal
 
 pub load-requires : goal.load-requires

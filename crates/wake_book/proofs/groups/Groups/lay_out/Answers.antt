@@ -1,10 +1,6 @@
 -- The empty history leaves the opening words, so the rule holds at the start; the waiters made have not made a step.
-use Rattle.std.proofs.Common.{[], refl}
-use Rattle.step_ledger.proofs.Members.{opens}
-use Rattle.step_ledger.specs.Records.{fresh_record}
-use Rattle.step_ledger.proofs.Numbers.{numbered_all, numbered_records}
-use Rattle.wake_book.specs.Waits.{opening_words, words_after, MayStep}
-use Rattle.wake_book.specs.Groups.{IsNew, record_of}
+use Rattle.wake_book.proofs.Uses.{[], fresh_record, IsNew, MayStep, numbered_all, numbered_records, opens, record_of, refl, words_after}
+use Rattle.wake_book.specs.Waits.{opening_words}
 use Rattle.wake_book.proofs.groups.Groups.lay_out.Goals as goal
 
 pub of_words-requires : goal.of_words-requires

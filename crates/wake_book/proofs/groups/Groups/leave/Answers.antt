@@ -1,11 +1,7 @@
 -- Each turn that doesn't end the call is one idle more, and the last turn leaves, after the idles before it.
-use Rattle.std.proofs.Common.{ℕ, zero, suc, ◌≡◌, List, Option, Some, None, refl, sym, subst, ◌∙◌}
-use Rattle.std.specs.Prelude.{IsSome}
-use Rattle.wake_book.specs.declared.steps.GroupStep.{GroupStep}
-use Rattle.wake_book.specs.declared.waiting.Left.{Left}
-use Rattle.wake_book.specs.declared.waiting.Left.TheVariants.{Woken, Unwoken}
+use Rattle.wake_book.proofs.Uses.{GroupStep, Idles, IsLeave, Left, List, None, Option, refl, Some, subst, suc, sym, Unwoken, Woken, zero, ℕ, ◌∙◌}
+use Rattle.std.specs.Prelude.{IsSome, ◌≡◌}
 use Rattle.wake_book.specs.Groups.{steps_of}
-use Rattle.wake_book.specs.Walks.{Idles, IsLeave}
 use Rattle.wake_book.proofs.groups.Groups.leave.Goals as goal
 
 group_of : (standing : Option ℕ) → IsSome standing → (group : ℕ) × (standing ≡ Some group)

@@ -1,7 +1,7 @@
 -- Until the waiter leaves, it stays in its group, and each turn added a look and a lost exchange.
-use Rattle.std.proofs.Common.{◌≡◌, ℕ, Some}
-use Rattle.wake_book.specs.Groups.{IsWaiterOf, steps_of, standing_of, moved_of, StandsSilent}
-use Rattle.wake_book.specs.Walks.{Idles}
+use Rattle.std.specs.Prelude.{◌≡◌}
+use Rattle.wake_book.proofs.Uses.{Idles, IsWaiterOf, moved_of, Some, standing_of, StandsSilent, ℕ}
+use Rattle.wake_book.specs.Groups.{steps_of}
 use Rattle.wake_book.proofs.groups.Groups.leave.Given as goal
 
 abbrev pub invariant-loop : goal.invariant-loop

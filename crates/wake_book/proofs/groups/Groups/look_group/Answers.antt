@@ -1,10 +1,6 @@
 -- A load may always happen, and if the waiter is in this group and the group has no grant, somebody waits there.
-use Rattle.std.proofs.Common.{arith, ℕ, ◌∷◌, sym, ap, ◌∙◌}
-use Rattle.step_ledger.specs.Records.{steps_of}
-use Rattle.wake_book.specs.declared.steps.GroupStep.TheVariants.{Look}
-use Rattle.wake_book.specs.WaitPlays.{looked_group}
-use Rattle.wake_book.specs.Stands.{stand_code}
-use Rattle.wake_book.specs.Groups.{record_of}
+use Rattle.std.specs.Prelude.{◌∷◌}
+use Rattle.wake_book.proofs.Uses.{ap, arith, Look, looked_group, record_of, stand_code, steps_of, sym, ℕ, ◌∙◌}
 use Rattle.wake_book.proofs.GroupKeeps as keeps
 use Rattle.wake_book.proofs.Waiters.{made_steps, few}
 use Rattle.wake_book.proofs.groups.Groups.look_group.Goals as goal

@@ -1,7 +1,5 @@
 -- The group is one of the eight, so the store may happen.
-use Rattle.std.proofs.Common.{arith, ap}
-use Rattle.wake_book.specs.declared.steps.GroupStep.TheVariants.{Store}
-use Rattle.wake_book.specs.Groups.{record_of}
+use Rattle.wake_book.proofs.Uses.{ap, arith, record_of, Store}
 use Rattle.wake_book.proofs.GroupKeeps as keeps
 use Rattle.wake_book.proofs.Waiters.{made_steps, few}
 use Rattle.wake_book.proofs.groups.Groups.store_index.Goals as goal

@@ -1,11 +1,7 @@
 -- The look tells what the exchange may do. If the exchange wins, the waiter is in no group and may lower the count; a lost
 -- one is an idle, with the look before it.
-use Rattle.std.proofs.Common.{arith, ◌≡◌, ℕ, eqb, suc, ◌<◌, ◌∷◌, List, refl, sym, ap, ◌∙◌}
-use prog.Atomic.{either}
-use Rattle.step_ledger.specs.Records.{steps_of, with_step}
-use Rattle.wake_book.specs.declared.steps.GroupStep.{GroupStep}
-use Rattle.wake_book.specs.WaitPlays.{leaving}
-use Rattle.wake_book.specs.Stands.{stand_code}
+use Rattle.std.specs.Prelude.{◌<◌, ◌∷◌, ◌≡◌}
+use Rattle.wake_book.proofs.Uses.{ap, arith, either, eqb, GroupStep, leaving, List, refl, stand_code, steps_of, suc, sym, with_step, ℕ, ◌∙◌}
 use Rattle.wake_book.proofs.Leaving.{tried, tried_steps, lost, gone, up, left, leaves}
 use Rattle.wake_book.proofs.GroupKeeps as keeps
 use Rattle.wake_book.proofs.Waiters.{few}

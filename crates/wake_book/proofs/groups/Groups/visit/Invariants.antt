@@ -1,7 +1,7 @@
 -- Each turn so far found somebody waiting and lost its exchange, so nobody was moved.
-use Rattle.std.proofs.Common.{◌≡◌}
-use Rattle.wake_book.specs.Groups.{IsWaiterOf, steps_of, StandsSilent}
-use Rattle.wake_book.specs.Walks.{LosesGrants}
+use Rattle.std.specs.Prelude.{◌≡◌}
+use Rattle.wake_book.proofs.Uses.{IsWaiterOf, LosesGrants, StandsSilent}
+use Rattle.wake_book.specs.Groups.{steps_of}
 use Rattle.wake_book.proofs.groups.Groups.visit.Given as goal
 
 abbrev pub invariant-loop : goal.invariant-loop

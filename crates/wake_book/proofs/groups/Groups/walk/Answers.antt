@@ -1,9 +1,7 @@
 -- A further visit keeps what is said of those before it; at the end the steps and the grants are those of all visits.
-use Rattle.std.proofs.Common.{arith, length-set, get_or, ℕ, ◌+◌, ◌<◌, length, ap, ◌∙◌}
+use Rattle.std.specs.Prelude.{◌+◌, ◌<◌}
+use Rattle.wake_book.proofs.Uses.{ap, arith, get_or, granted_in, length, length-set, moved_by, total, ℕ, ◌∙◌}
 use Rattle.wake_book.specs.Groups.{steps_of}
-use Rattle.step_ledger.specs.History.{total}
-use Rattle.wake_book.specs.Grants.{granted_in}
-use Rattle.wake_book.specs.Waits.{moved_by}
 use Rattle.wake_book.proofs.Granting.{granted_by_visit, counted_at, sum_set}
 use Rattle.wake_book.proofs.Walking.{one_more, visited_long}
 use Rattle.wake_book.proofs.groups.Groups.walk.Goals as goal

@@ -1,9 +1,8 @@
 -- The visits so far moved `nr - left` waiters, in cyclic order from the wake index, and as many in each group as its
 -- entry says; there are at most eight visits.
-use Rattle.std.proofs.Common.{length, get_or, sum, ◌≡◌, ℕ, ◌+◌, ◌-◌, ◌<◌, ◌≤◌}
-use Rattle.wake_book.specs.Groups.{IsWaiterOf, steps_of, StandsSilent}
-use Rattle.step_ledger.specs.History.{total}
-use Rattle.wake_book.specs.Grants.{granted_in}
+use Rattle.std.specs.Prelude.{◌+◌, ◌-◌, ◌<◌, ◌≡◌, ◌≤◌}
+use Rattle.wake_book.proofs.Uses.{get_or, granted_in, IsWaiterOf, length, StandsSilent, sum, total, ℕ}
+use Rattle.wake_book.specs.Groups.{steps_of}
 use Rattle.wake_book.proofs.Walking.{HasVisited}
 use Rattle.wake_book.proofs.groups.Groups.walk.Given as goal
 

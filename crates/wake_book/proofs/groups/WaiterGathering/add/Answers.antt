@@ -1,10 +1,6 @@
 -- The waiter's record joins those on the seat, and its moves are added to the sum.
-use Rattle.std.proofs.Common.{arith, ap, ◌∙◌}
-use Rattle.step_ledger.specs.History.{total}
-use Rattle.step_ledger.proofs.Members.{joins}
-use Rattle.step_ledger.proofs.Turned.{joined, sum_joined}
-use Rattle.wake_book.specs.Waits.{opening_words, words_after, MayStep, moved_by}
-use Rattle.wake_book.specs.Groups.{record_of}
+use Rattle.wake_book.proofs.Uses.{ap, arith, joined, joins, MayStep, moved_by, record_of, sum_joined, total, words_after, ◌∙◌}
+use Rattle.wake_book.specs.Waits.{opening_words}
 use Rattle.wake_book.proofs.groups.WaiterGathering.add.Goals as goal
 
 pub join_seat-requires : goal.join_seat-requires

@@ -1,8 +1,6 @@
 -- The first of the records left goes to the new waiter, and the others stay on the seat.
-use Rattle.std.proofs.Common.{arith, refl, ap, ◌∙◌}
-use Rattle.step_ledger.proofs.Members.{splits_next}
-use Rattle.wake_book.specs.Waits.{opening_words, words_after, MayStep}
-use Rattle.wake_book.specs.Groups.{waiters_of}
+use Rattle.wake_book.proofs.Uses.{ap, arith, MayStep, refl, splits_next, waiters_of, words_after, ◌∙◌}
+use Rattle.wake_book.specs.Waits.{opening_words}
 use Rattle.wake_book.proofs.Rest.{next_member, still_rest}
 use Rattle.wake_book.proofs.groups_opening.GroupsMemberSource.next_member.Goals as goal
 

@@ -1,15 +1,8 @@
 -- The mask of a held tag has only its bit, which is within its word and held.
-use Rattle.std.proofs.Common.{◌≡◌, ◌≢◌, ℕ, ◌*◌, ◌%◌, ◌^◌, ◌<◌, Bool, cond, IsTrue, arith, refl, sym, ap, ◌∙◌, subst, eq-eqb, ne_eqb}
-use mathlib.Core.Logic.{dite}
-use native.Mathlib.Decide.{ℕ_discrete}
-use Rattle.std.specs.Int.{bit_at}
-use Rattle.std.proofs.lemmas.Nat.{one_shl}
-use Rattle.std.proofs.lemmas.Nat.Bits.{bit_at-pow_other}
-use Rattle.tag_layout.specs.Layout.{Layout, words, word_of, place_of, IsWithin}
-use Rattle.tag_layout.proofs.PlaceFacts.{word_of-below}
+use Rattle.base_tests.proofs.Uses.{ap, arith, bit_at, bit_at-pow_other, Bool, cond, dite, eq-eqb, Holds, IsTrue, IsWithin, Layout, ne_eqb, one_shl, place_of, refl, subst, sym, word_of, word_of-below, words, ℕ, ℕ_discrete, ◌∙◌}
+use Rattle.std.proofs.Common.{◌≡◌, ◌≢◌, ◌*◌, ◌%◌, ◌^◌, ◌<◌}
 use Rattle.tag_model.specs.Event.{is_in_mask}
 use Rattle.tag_core.specs.declared.shape.Shape.{Shape}
-use Rattle.tag_core.specs.Callers.{Holds}
 use Rattle.tag_core.proofs.Picks.{among, among_one}
 use Rattle.tag_core.proofs.Stand.{same_tag, tag_mask_within}
 use Rattle.base_tests.proofs.tests.map.callers.give_tag.Goals as goal

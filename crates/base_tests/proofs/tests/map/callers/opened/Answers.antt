@@ -1,11 +1,9 @@
 -- Each caller of a new map is one of the map's own.
-use Rattle.std.proofs.Common.{◌≡◌, ℕ, zero, suc, ◌<◌, List, [], ◌∷◌, length, get_or, arith, refl}
-use mathlib.Core.Option.{some}
+use Rattle.base_tests.proofs.Uses.{[], All, arith, get_or, IsCallerOf, length, List, refl, some, suc, zero, ℕ}
+use Rattle.std.proofs.Common.{◌≡◌, ◌<◌, ◌∷◌}
 use lib.ListN.{get_elem?}
-use Rattle.std.specs.Prelude.{All}
 use Rattle.tag_core.specs.declared.caller.Caller.{Caller}
 use Rattle.tag_core.specs.declared.map.Map.{Map}
-use Rattle.tag_core.specs.Callers.{IsCallerOf}
 use Rattle.tag_core.specs.Opening.{AreNew}
 use Rattle.base_tests.proofs.tests.map.callers.opened.Goals as goal
 

@@ -1,7 +1,5 @@
 -- The threads' callers may be sent, and what they share may be shared.
-use denote.Param.Send.{sendable}
-use Rattle.std.proofs.Crossing.{crosses}
-use Rattle.tag_core.proofs.Crossing.{caller_send, map_sync}
+use Rattle.base_tests.proofs.Uses.{caller_send, crosses, map_sync, sendable}
 use Rattle.base_tests.proofs.tests.map.resizing_threads.play_and_resize.Goals as goal
 
 pub for_each_mut-requires-send-T : goal.for_each_mut-requires-send-T

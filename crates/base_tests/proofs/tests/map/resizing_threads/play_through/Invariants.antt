@@ -1,6 +1,5 @@
 -- The callers are those of the map on which they play next.
-use Rattle.std.specs.Prelude.{All}
-use Rattle.tag_core.specs.Callers.{IsCallerOf}
+use Rattle.base_tests.proofs.Uses.{All, IsCallerOf}
 use Rattle.base_tests.proofs.tests.map.resizing_threads.play_through.Given as goal
 
 abbrev pub invariant-loop-depth : goal.invariant-loop-depth

@@ -1,9 +1,6 @@
 -- The mask is the bit of the taken tag alone.
-use Rattle.std.proofs.Common.{◌≡◌, ℕ, ◌<◌, sym, ap, ◌∙◌, subst}
-use Rattle.std.specs.Int.{bit_at}
-use Rattle.std.proofs.lemmas.Nat.{one_shl, pow_below}
-use Rattle.tag_layout.specs.Layout.{Layout, word_of, place_of, word_depth}
-use Rattle.tag_search.specs.Plain.{IsTaken}
+use Rattle.base_tests.proofs.Uses.{ap, bit_at, IsTaken, Layout, one_shl, place_of, pow_below, subst, sym, word_depth, word_of, ℕ, ◌∙◌}
+use Rattle.std.proofs.Common.{◌≡◌, ◌<◌}
 use Rattle.tag_search.proofs.OneTag.{one_place}
 use Rattle.base_tests.proofs.tests.search.calls.give_plain.Goals as goal
 

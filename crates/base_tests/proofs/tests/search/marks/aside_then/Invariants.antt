@@ -1,7 +1,6 @@
 -- The marks so far are those of the tags so far.
-use Rattle.std.proofs.Common.{◌≡◌, ℕ, ◌<◌, false, length, get_or}
-use Rattle.tag_layout.specs.Layout.{word_of}
-use Rattle.base_tests.specs.Marks.{aside_then}
+use Rattle.base_tests.proofs.Uses.{aside_then, false, get_or, length, word_of, ℕ}
+use Rattle.std.proofs.Common.{◌≡◌, ◌<◌}
 use Rattle.base_tests.proofs.tests.search.marks.aside_then.Given as goal
 
 abbrev pub invariant-loop-tag : goal.invariant-loop-tag

@@ -1,9 +1,6 @@
 -- The mark added is that of the next tag, by its word and place.
-use Rattle.std.proofs.Common.{◌≡◌, ℕ, ◌+◌, Bool, false, ◌&&◌, ◌||◌, nat_eq, get_or, ap, ◌∙◌}
-use Rattle.std.specs.Prelude.{not, nat_lt, nat_le}
-use Rattle.tag_layout.specs.Layout.{word_of, place_of}
-use Rattle.base_tests.specs.Marks.{free_then}
-use Rattle.tag_search.specs.Pool.{is_in}
+use Rattle.base_tests.proofs.Uses.{ap, Bool, false, free_then, get_or, is_in, nat_le, nat_lt, not, place_of, word_of, ℕ, ◌∙◌}
+use Rattle.std.proofs.Common.{◌≡◌, ◌+◌, ◌&&◌, ◌||◌, nat_eq}
 use Rattle.base_tests.proofs.Reference.{mark_more, marks_count}
 use Rattle.base_tests.proofs.tests.search.marks.free_then.Goals as goal
 

@@ -1,7 +1,6 @@
 -- The marks so far are those of the tags so far.
-use Rattle.std.proofs.Common.{◌≡◌, ℕ, ◌<◌, false, length, get_or}
-use Rattle.tag_layout.specs.Layout.{word_of, place_of}
-use Rattle.base_tests.specs.Marks.{free_then}
+use Rattle.base_tests.proofs.Uses.{false, free_then, get_or, length, place_of, word_of, ℕ}
+use Rattle.std.proofs.Common.{◌≡◌, ◌<◌}
 use Rattle.base_tests.proofs.tests.search.marks.free_then.Given as goal
 
 abbrev pub invariant-loop-tag : goal.invariant-loop-tag

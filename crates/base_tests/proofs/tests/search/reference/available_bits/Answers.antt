@@ -1,7 +1,6 @@
 -- The next bit is set exactly if its place is available.
-use Rattle.std.proofs.Common.{◌≡◌, ℕ, ◌+◌, ◌<◌, true, false, arith, sym, ◌∙◌}
-use Rattle.tag_search.specs.Choice.{IsAvailable}
-use Rattle.base_tests.specs.Marks.{pool_of_marks}
+use Rattle.base_tests.proofs.Uses.{arith, false, IsAvailable, pool_of_marks, sym, true, ℕ, ◌∙◌}
+use Rattle.std.proofs.Common.{◌≡◌, ◌+◌, ◌<◌}
 use Rattle.base_tests.proofs.Reference.{bits_more, bits_skip}
 use Rattle.base_tests.proofs.tests.search.reference.available_bits.Goals as goal
 use Rattle.base_tests.proofs.tests.search.reference.available_bits.Goals.{then-is_available, else-is_available}

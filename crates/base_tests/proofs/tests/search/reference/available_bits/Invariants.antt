@@ -1,8 +1,6 @@
 -- The bits so far are those of the available places so far.
-use Rattle.std.proofs.Common.{◌≡◌, ◌↔◌, ℕ, ◌+◌, ◌<◌}
-use Rattle.std.specs.Int.{bit_at}
-use Rattle.tag_search.specs.Choice.{IsAvailable}
-use Rattle.base_tests.specs.Marks.{pool_of_marks}
+use Rattle.base_tests.proofs.Uses.{bit_at, IsAvailable, pool_of_marks, ℕ}
+use Rattle.std.proofs.Common.{◌≡◌, ◌↔◌, ◌+◌, ◌<◌}
 use Rattle.base_tests.proofs.tests.search.reference.available_bits.Given as goal
 
 abbrev pub invariant-loop-k : goal.invariant-loop-k

@@ -1,11 +1,6 @@
 -- The words passed have no run, so the first word with a run decides the choice.
-use Rattle.std.proofs.Common.{◌≡◌, ℕ, List, ◌∷◌, get_or, take, Some, arith, sym, ap, ◌∙◌, subst}
-use Rattle.tag_layout.specs.Layout.{words, word_of}
-use Rattle.tag_search.specs.Batch.{batch_words}
-use Rattle.tag_search.specs.Choice.{HasNoRun, IsAvailableRun, IsBatchChoice}
-use Rattle.tag_search.specs.Hints.{reduced}
-use Rattle.base_tests.specs.Marks.{pool_of_marks}
-use Rattle.tag_search.specs.Pool.{Pool}
+use Rattle.base_tests.proofs.Uses.{ap, arith, batch_words, get_or, HasNoRun, IsAvailableRun, IsBatchChoice, List, Pool, pool_of_marks, reduced, Some, subst, sym, take, word_of, words, ℕ, ◌∙◌}
+use Rattle.std.proofs.Common.{◌≡◌, ◌∷◌}
 use Rattle.base_tests.proofs.ReferenceOrders.{batch_from}
 use Rattle.base_tests.proofs.Reference.{reference_no_batch, reference_batch, order_within, insert_first, swept_more, all_more}
 use Rattle.base_tests.proofs.tests.search.reference.batch_choice.Goals as goal

@@ -1,8 +1,6 @@
 -- The words passed are those at the front of the order; none has a run, and all are swept.
-use Rattle.std.proofs.Common.{◌≡◌, take}
-use Rattle.std.specs.Prelude.{All}
-use Rattle.tag_search.specs.Choice.{HasNoRun}
-use Rattle.base_tests.specs.Marks.{pool_of_marks}
+use Rattle.base_tests.proofs.Uses.{All, HasNoRun, pool_of_marks, take}
+use Rattle.std.proofs.Common.{◌≡◌}
 use Rattle.base_tests.proofs.tests.search.reference.batch_choice.Given as goal
 
 abbrev pub invariant-loop-word : goal.invariant-loop-word

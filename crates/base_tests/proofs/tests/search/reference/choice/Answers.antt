@@ -1,10 +1,6 @@
 -- The words passed have no available place, so the first word with a free or aside place decides the choice.
-use Rattle.std.proofs.Common.{◌≡◌, ℕ, false, List, ◌∷◌, get_or, take, Some, sym, ap, ◌∙◌, subst}
-use Rattle.std.specs.Prelude.{All}
-use Rattle.tag_search.specs.Choice.{IsFree, IsSet, IsAside, IsFirst, IsFull, IsChoice}
-use Rattle.base_tests.specs.Marks.{pool_of_marks}
-use Rattle.tag_search.specs.Pool.{Pool}
-use Rattle.tag_search.specs.Visits.{visit_of, visits}
+use Rattle.base_tests.proofs.Uses.{All, ap, false, get_or, IsAside, IsChoice, IsFirst, IsFree, IsFull, IsSet, List, Pool, pool_of_marks, Some, subst, sym, take, visit_of, visits, ℕ, ◌∙◌}
+use Rattle.std.proofs.Common.{◌≡◌, ◌∷◌}
 use Rattle.base_tests.proofs.ReferenceOrders.{reach_of, words_from, word_there}
 use Rattle.base_tests.proofs.Reference.{reference_nothing, reference_free, reference_aside, first_aside, busy_all, insert_first, swept_more, all_more}
 use Rattle.base_tests.proofs.tests.search.reference.choice.Goals as goal

@@ -1,7 +1,6 @@
 -- The words passed are those at the front of the order; none has an available place in its rank, and all are swept.
-use Rattle.std.proofs.Common.{◌≡◌, take}
-use Rattle.base_tests.specs.Marks.{pool_of_marks}
-use Rattle.tag_search.specs.Scans.{limit_of}
+use Rattle.base_tests.proofs.Uses.{limit_of, pool_of_marks, take}
+use Rattle.std.proofs.Common.{◌≡◌}
 use Rattle.base_tests.proofs.Reference.{HavePassed}
 use Rattle.base_tests.proofs.tests.search.reference.choice.Given as goal
 

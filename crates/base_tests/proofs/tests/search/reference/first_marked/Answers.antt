@@ -1,6 +1,5 @@
 -- No earlier place of the rank is marked, so the place found is the first.
-use Rattle.std.proofs.Common.{sym, ◌∙◌, get_or}
-use Rattle.base_tests.specs.Marks.{mark_at}
+use Rattle.base_tests.proofs.Uses.{get_or, mark_at, sym, ◌∙◌}
 use Rattle.base_tests.proofs.Reference.{first_at}
 use Rattle.base_tests.proofs.tests.search.reference.first_marked.Goals as goal
 

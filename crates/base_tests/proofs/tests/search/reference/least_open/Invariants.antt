@@ -1,7 +1,6 @@
 -- The places passed are busy.
-use Rattle.std.proofs.Common.{ℕ, ◌<◌}
-use Rattle.tag_search.specs.Choice.{IsBusy}
-use Rattle.base_tests.specs.Marks.{pool_of_marks}
+use Rattle.base_tests.proofs.Uses.{IsBusy, pool_of_marks, ℕ}
+use Rattle.std.proofs.Common.{◌<◌}
 use Rattle.base_tests.proofs.tests.search.reference.least_open.Given as goal
 
 abbrev pub invariant-loop-place : goal.invariant-loop-place

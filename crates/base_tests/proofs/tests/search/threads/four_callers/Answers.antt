@@ -1,7 +1,6 @@
 -- The callers that the threads hand back are those of the map, so they can be gathered.
-use Rattle.std.proofs.Common.{length, drop, ◌++◌}
-use Rattle.std.proofs.lemmas.List.Elements.{All-take, All-append, All-drop}
-use Rattle.tag_core.specs.Callers.{IsCallerOf}
+use Rattle.base_tests.proofs.Uses.{All-append, All-drop, All-take, drop, IsCallerOf, length}
+use Rattle.std.proofs.Common.{◌++◌}
 use Rattle.base_tests.proofs.tests.search.threads.four_callers.Goals as goal
 
 pub gather-requires : goal.gather-requires

@@ -1,9 +1,8 @@
 -- Callers may be sent to other threads, and each keeps to its map there.
-use Rattle.std.proofs.Common.{rules, ◌<◌, length, arith}
+use Rattle.base_tests.proofs.Uses.{arith, crosses, IsSync, length, rules, sendable}
+use Rattle.std.proofs.Common.{◌<◌}
 use Rattle.std.proofs.Crossing as crossing
-use Rattle.std.proofs.Crossing.{crosses}
 use denote.Builtin.{u64}
-use denote.Param.Send.{IsSync, sendable}
 use Rattle.atomic_table.proofs.shared.Seat.TheSendSync.{the_send as send}
 use Rattle.atomic_table.proofs.shared.Shared.TheSendSync.{the_sync as sync}
 use Rattle.atomic_table.proofs.send_lease.SendLease.TheSendSync.{the_sync as lease}

@@ -1,9 +1,7 @@
 -- The groups have two waiters, so the two numbers that the test checks are all.
-use Rattle.std.proofs.Common.{arith, ◌≡◌, ℕ, zero, suc, List, [], ◌∷◌, sym, ap, ◌∙◌, subst}
-use mathlib.Core.Option.{some}
+use Rattle.base_tests.proofs.Uses.{[], ap, arith, HasAll, List, Record, some, subst, suc, sym, zero, ℕ, ◌∙◌}
+use Rattle.std.proofs.Common.{◌≡◌, ◌∷◌}
 use Rattle.step_ledger.specs.Records.{numbers}
-use Rattle.step_ledger.specs.Gather.{HasAll}
-use Rattle.step_ledger.specs.declared.record.Record.{Record}
 use Rattle.wake_book.specs.declared.steps.GroupStep.{GroupStep}
 use Rattle.wake_book.specs.Groups.{record_of}
 use Rattle.base_tests.proofs.tests.wakeups.groups.waiters_come_together_one_after_another.Goals as goal

@@ -1,6 +1,5 @@
 -- Each thread is sent a waiter of its own, by the row of `Crossing`.
-use denote.Param.Send.{sendable}
-use Rattle.wake_book.proofs.Crossing.{waiter_send}
+use Rattle.base_tests.proofs.Uses.{sendable, waiter_send}
 use Rattle.base_tests.proofs.tests.wakeups.rings.a_nudge_wakes_as_many_threads_as_it_is_for.Goals as goal
 
 pub for_each_mut-requires-send-T : goal.for_each_mut-requires-send-T

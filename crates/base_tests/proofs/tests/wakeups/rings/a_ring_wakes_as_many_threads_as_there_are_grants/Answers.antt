@@ -1,6 +1,5 @@
 -- Each thread is sent a waiter of its own, by the row of `Crossing`.
-use denote.Param.Send.{sendable}
-use Rattle.wake_book.proofs.Crossing.{waiter_send}
+use Rattle.base_tests.proofs.Uses.{sendable, waiter_send}
 use Rattle.base_tests.proofs.tests.wakeups.rings.a_ring_wakes_as_many_threads_as_there_are_grants.Goals as goal
 
 pub for_each_mut-requires-send-T : goal.for_each_mut-requires-send-T
