@@ -32,7 +32,7 @@ pub fn flush_after_batch(cache: &mut Cache<u64>, tags: &Tags<u64>) -> Result<u32
     requires { IsCacheOf tags.now cache.old }
     ensures { IsCacheOf tags.now cache.new }
 {
-    cache.list_self(tags, SLEEPERS);
+    cache.list_self(tags, SLEEPERS)?;
     let batch = cache.get_batch(tags, 2)?;
     cache.get_up(tags, SLEEPERS);
     let Some((first, mask)) = batch else {

@@ -32,7 +32,7 @@ pub fn see_to_others(queue: &Queue<u64>, agent: &mut Agent<u64>) -> Result<u32, 
     requires { IsAgentOf queue.now agent.old }
     ensures { IsAgentOf queue.now agent.new }
 {
-    queue.list_self(agent, LISTENERS);
+    queue.list_self(agent, LISTENERS)?;
     let batch = queue.get_batch(agent, 2)?;
     let told = queue.get_up(agent, LISTENERS);
     let Some((first, mask)) = batch else {

@@ -1,8 +1,7 @@
 -- The bit of one tag as a mask.
-use Rattle.std.proofs.Common.{◌≡◌, ℕ, ◌*◌, ◌%◌, ◌^◌, ◌<◌, sym, subst}
+use Rattle.tag_bench.proofs.Uses.{IsWithin, Layout, one_shl, subst, sym, word_depth, word_of, ℕ}
+use Rattle.std.proofs.Common.{◌≡◌, ◌*◌, ◌%◌, ◌^◌, ◌<◌}
 use Rattle.std.proofs.Math.Pow.{pow-lt}
-use Rattle.std.proofs.lemmas.Nat.{one_shl}
-use Rattle.tag_layout.specs.Layout.{Layout, word_of, word_depth, IsWithin}
 
 -- a tag's bit, as the code shifts it, is one that its word uses
 pub bit-within : (l : Layout) (word tag place : ℕ) → word ≡ word_of l tag → place < word_depth l (word_of l tag)

@@ -1,12 +1,8 @@
 -- A thread's cache may go to another thread, and threads may share the tags; the user holds the tag that a get answers.
+use Rattle.tag_bench.proofs.Uses.{Cache, IfSome, IsSync, None, Option, recorded_sync, refl, sendable, Some, struct_sync, tags_field_sync, ℕ}
 use denote.Struct.Field.{u64-field}
 use denote.Struct.Declared.{shape as fields_of}
-use denote.Param.Send.{IsSync, recorded_sync, struct_sync, sendable}
-use Rattle.std.proofs.Common.{ℕ, Option, Some, None, refl}
-use Rattle.std.specs.Prelude.{IfSome}
 use Rattle.tag_sets.specs.Gets.{IsAnswer}
-use Rattle.tag_sets.proofs.Crossing.{tags_field_sync}
-use Rattle.tag_cache.specs.declared.cache.Cache.{Cache}
 use Rattle.tag_cache.specs.Caches.{Holds}
 use Rattle.tag_cache.specs.Holding.{HoldsMore}
 use Rattle.tag_bench.specs.contracts.shared_cache.Cached as cached

@@ -1,10 +1,6 @@
 -- What a get won is held.
-use Rattle.std.proofs.Common.{ℕ, Option, Some, None, refl}
-use Rattle.std.specs.Prelude.{IfSome}
-use Rattle.tag_layout.specs.Layout.{Layout}
-use Rattle.tag_core.specs.declared.caller.Caller.{Caller}
+use Rattle.tag_bench.proofs.Uses.{Caller, Gains, IfSome, Layout, None, Option, refl, Some, ℕ}
 use Rattle.tag_core.specs.Callers.{Holds}
-use Rattle.tag_search.specs.Gains.{Gains}
 
 pub holds_answer : {R : Type 0} (l : Layout) (answer : Option ℕ) (old new : Caller R) → Gains l answer old new
     → IfSome answer (Holds new)

@@ -1,3 +1,4 @@
+mod Uses
 pub mod Bits
 pub mod Cached
 pub mod Gained

@@ -1,15 +1,6 @@
 -- What a clear owes its user, from what becomes of the tag.
-use Rattle.std.proofs.Common.{ℕ, Ok}
-use Rattle.refusals.specs.Refusals.{PassesAll}
-use Rattle.wake_book.specs.declared.groups.Waiter.{Waiter}
-use Rattle.tag_sets.specs.Hands.{waiter_of}
-use Rattle.tag_sets.specs.declared.tags.Tags.{Tags}
-use Rattle.tag_cache.specs.declared.cache.Cache.{Cache}
+use Rattle.tag_cache.proofs.Uses.{Cache, Goes, IsCacheOf, IsKnown, KnowsLess, LeavesWindow, Ok, PassesAll, tag_checks, Tags, Waiter, waiter_of, ℕ}
 use Rattle.tag_cache.specs.Calls.{DoesClear}
-use Rattle.tag_cache.specs.Caches.{IsCacheOf, IsKnown, LeavesWindow}
-use Rattle.tag_cache.specs.Changes.{KnowsLess}
-use Rattle.tag_cache.specs.Clears.{Goes}
-use Rattle.tag_cache.specs.Refusals.{tag_checks}
 use Rattle.tag_cache.proofs.Below.{held_below}
 use Rattle.tag_cache.proofs.Going.{goes_less, goes_tallies}
 use Rattle.tag_cache.proofs.Reusing.{known_held}

@@ -1,24 +1,13 @@
 -- A held tag is one of the tags, and a call on it is not refused.
-use Rattle.std.proofs.Common.{◌≡◌, ℕ, ◌<◌, arith, subst, ⊎_elim}
+use Rattle.std.specs.Prelude.{◌<◌, ◌≡◌}
+use Rattle.tag_cache.proofs.Uses.{agent_of, arith, Cache, Err, FailsFirst, Hand, inl, inr, IsCacheOf, IsHandOf, IsKept, IsOrdinary, IsReserved, Kind, kind_of, layout_of, number_in_set, Ok, Ordinary, refl, RefusesBy, Result, split_of, stands, subst, tag_checks, TagFault, Tags, total_of, ℕ, ⊎_elim}
 use Rattle.tag_core.specs.declared.shape.Shape.{Shape}
 use Rattle.tag_queue.specs.Agents as queue
-use Rattle.tag_sets.specs.declared.hand.Hand.{Hand}
-use Rattle.tag_sets.specs.declared.kind.Kind.{Kind}
-use Rattle.tag_sets.specs.declared.kind.Kind.TheVariants.{Ordinary}
-use Rattle.tag_sets.specs.declared.tags.Tags.{Tags}
-use Rattle.tag_sets.specs.Sets.{kind_of, number_in_set}
-use Rattle.tag_sets.specs.Hands.{agent_of, split_of, layout_of, total_of, IsHandOf, Holds}
-use Rattle.tag_sets.proofs.Numbering.{IsReserved, IsOrdinary, stands}
-use Rattle.std.proofs.Common.{Result, Ok, Err, inl, inr, refl}
-use Rattle.refusals.specs.Refusals.{FailsFirst, RefusesBy}
-use Rattle.tag_sets.specs.declared.fault.TagFault.{TagFault}
+use Rattle.tag_sets.specs.Hands.{Holds}
 use Rattle.tag_sets.specs.Hands as hands
 use Rattle.tag_sets.specs.Refusals as of_hand
 use Rattle.tag_sets.proofs.Told.{fails_alike}
-use Rattle.tag_cache.specs.declared.cache.Cache.{Cache}
 use Rattle.tag_cache.specs.Caches as caches
-use Rattle.tag_cache.specs.Caches.{IsCacheOf, IsKept}
-use Rattle.tag_cache.specs.Refusals.{tag_checks}
 
 module _ {R : Type 0} (tags : Tags R) (hand : Hand R) (tag : ℕ) (own : IsHandOf tags hand) (h : Holds hand tag) where
   -- the tag's number is below the depth of its set, as its agent knows it

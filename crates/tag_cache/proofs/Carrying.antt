@@ -1,22 +1,11 @@
 -- What a change of the hand, or of the kept tags, is for the user of a cache.
-use Rattle.std.specs.Prelude.{◌+◌, ◌^◌, ◌<◌, IsTrue, IsOk, count_ones}
+use Rattle.tag_cache.proofs.Uses.{ap, AreOwn, Bool, Cache, count_ones, Err, false, false≢true, Hand, HoldsLess, HoldsMore, HoldsSame, IfErr, IfOk, inl, inr, IsIn, IsKept, IsKnown, IsLeftWith, IsOk, IsTrue, KeepsNone, KeepsSame, MOST_REUSED, NoSuchTag, NotPosted, Ok, OnErr, OnOk, refl, Result}
+use Rattle.tag_cache.proofs.Uses.{SameHand, SameTerms, subst, sym, TagFault, Tags, true, WhileHolding, Writes, ℕ, ⊎_elim, ◌∙◌}
+use Rattle.std.specs.Prelude.{◌+◌, ◌^◌, ◌<◌, ◌↔◌, ◌≡◌, ◌≢◌, ◌≤◌}
 use mathlib.Core.Bool.{not}
-use Rattle.std.proofs.lemmas.Bool.{false≢true}
-use Rattle.std.proofs.Common.{Bool, true, false, ◌↔◌, Result, Ok, Err, OnOk, OnErr, IfOk, IfErr, ◌≡◌, ◌≢◌, ℕ, ◌≤◌, inl, inr, refl, sym, ap, ◌∙◌, subst, ⊎_elim}
-use Rattle.tag_sets.specs.declared.fault.TagFault.{TagFault}
-use Rattle.tag_sets.specs.declared.fault.TagFault.TheVariants.{NoSuchTag, NotPosted}
-use Rattle.tag_sets.specs.declared.hand.Hand.{Hand}
-use Rattle.tag_sets.specs.declared.tags.Tags.{Tags}
 use Rattle.tag_sets.specs.Hands as hands
 use Rattle.tag_sets.specs.Holding as hand_holding
 use Rattle.tag_sets.specs.Slots as hand_slots
-use Rattle.tag_cache.specs.declared.cache.Cache.{Cache}
-use Rattle.tag_cache.specs.declared.cache.TheConstants.{MOST_REUSED}
-use Rattle.tag_cache.specs.declared.keeping.Keeping.TheVariants.{WhileHolding}
-use Rattle.tag_cache.specs.Windows.{IsIn, AreOwn}
-use Rattle.tag_cache.specs.Caches.{IsKept, IsKnown, KeepsNone}
-use Rattle.tag_cache.specs.Changes.{KeepsSame, SameHand, SameTerms}
-use Rattle.tag_cache.specs.Holding.{HoldsMore, HoldsLess, HoldsSame, Writes, IsLeftWith}
 
 -- what a test that failed says
 pub not_true : (b : Bool) (P : Type 0) → (IsTrue b ↔ P) → b ≡ false → ¬ P

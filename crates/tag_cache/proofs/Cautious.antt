@@ -1,8 +1,6 @@
 -- A tag that is kept instead of all kept ones, after these went back.
-use Rattle.std.proofs.Common.{arith, ◌≡◌, ℕ, ◌≤◌, sym, ◌∙◌, subst, ⊎_elim}
-use Rattle.tag_cache.specs.declared.cache.Cache.{Cache}
-use Rattle.tag_cache.specs.Caches.{IsKept, IsLast, KeepsNone, CanBeKept, HasNoPlace, count_of, reused_of}
-use Rattle.tag_cache.specs.Changes.{KeepsAlso, KeepsOnly, SameTerms}
+use Rattle.std.specs.Prelude.{◌≡◌, ◌≤◌}
+use Rattle.tag_cache.proofs.Uses.{arith, Cache, CanBeKept, count_of, HasNoPlace, IsKept, IsLast, KeepsAlso, KeepsNone, KeepsOnly, reused_of, SameTerms, subst, sym, ℕ, ⊎_elim, ◌∙◌}
 use Rattle.tag_cache.proofs.Carrying.{terms_twice}
 use Rattle.tag_cache.proofs.Looking.{same_known}
 use Rattle.tag_cache.proofs.Moving.{can_also}

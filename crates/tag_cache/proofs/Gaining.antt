@@ -1,30 +1,13 @@
 -- What gets of the hand give the user of a cache.
-use Rattle.std.specs.Prelude.{IsTrue, IsOkAnd}
-use Rattle.std.proofs.Common.{arith, ◌≡◌, ◌<◌, ◌≤◌, ◌^◌, Bool, true, false, ℕ, Option, Some, None, Result, Ok, Err, IfOk, OnErr, ◌∷◌, refl, sym, ap, ◌∙◌, subst, inl}
-use Rattle.std.proofs.lemmas.Result.{IfOk-weaker}
-use Rattle.refusals.specs.Refusals.{Checks, RefusesBy}
-use Rattle.tag_layout.specs.Layout.{Layout}
-use Rattle.tag_search.specs.declared.found.Found.{Found}
-use Rattle.tag_search.specs.Gains.{count_of, count_of_run}
-use Rattle.tag_queue.specs.declared.agent.Agent.{Agent}
-use Rattle.tag_sets.specs.declared.fault.TagFault.{TagFault}
+use Rattle.std.specs.Prelude.{◌<◌, ◌^◌, ◌∷◌, ◌≡◌, ◌≤◌}
+use Rattle.tag_cache.proofs.Uses.{Agent, answered, answered_run, ap, arith, Bool, Cache, Checks, count_of_run, Err, false, Found, GetsAndLooks, Hand, HoldsMore, IfOk, IfOk-weaker, inl, IsAnswer, IsInRun, IsKept, IsOkAnd, IsOrdinaryTag, IsTrue, KeepsNone, KeepsSame, Layout, layout_of, None, Ok}
+use Rattle.tag_cache.proofs.Uses.{OnErr, Option, Ordinary, refl, RefusesBy, Result, Some, subst, sym, TagFault, Tags, true, whole_run, ℕ, ◌∙◌}
+use Rattle.tag_search.specs.Gains.{count_of}
 use Rattle.tag_queue.specs.Gets as queue_gets
-use Rattle.tag_sets.specs.declared.hand.Hand.{Hand}
-use Rattle.tag_sets.specs.declared.kind.Kind.TheVariants.{Ordinary}
-use Rattle.tag_sets.specs.declared.tags.Tags.{Tags}
 use Rattle.tag_sets.specs.Calls.{DoesGet, DoesGetReserved, DoesGetShallow}
 use Rattle.tag_sets.specs.Hands as hands
-use Rattle.tag_sets.specs.Hands.{layout_of}
-use Rattle.tag_sets.specs.Freed.{GetsAndLooks}
 use Rattle.tag_sets.specs.Gets as hand_gets
-use Rattle.tag_sets.specs.Gets.{IsAnswer, IsInRun, IsOrdinaryTag, whole_run}
 use Rattle.tag_sets.specs.Holding as hand_holding
-use Rattle.tag_cache.specs.declared.cache.Cache.{Cache}
-use Rattle.tag_cache.specs.Batches.{answered_run}
-use Rattle.tag_cache.specs.Caches.{IsKept, KeepsNone}
-use Rattle.tag_cache.specs.Changes.{KeepsSame}
-use Rattle.tag_cache.specs.Holding.{HoldsMore}
-use Rattle.tag_cache.specs.Tallies.{answered}
 use Rattle.tag_cache.proofs.Carrying.{more, still_on}
 use Rattle.tag_cache.proofs.Steady.{looked_rests, rests_unchanged}
 use Rattle.tag_cache.proofs.Tallying.{Moves, MovesAgent, as_many, moves_in, gets_moves, reserved_moves}

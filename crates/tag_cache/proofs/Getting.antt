@@ -1,18 +1,6 @@
 -- What a get gives the user where nothing is kept.
-use Rattle.std.proofs.Common.{ℕ, Option, Result, IfOk, inr}
-use Rattle.std.proofs.lemmas.Result.{IfOk-weaker}
-use Rattle.tag_search.specs.declared.found.Found.{Found}
-use Rattle.tag_sets.specs.declared.fault.TagFault.{TagFault}
-use Rattle.tag_sets.specs.declared.hand.Hand.{Hand}
-use Rattle.tag_sets.specs.declared.tags.Tags.{Tags}
-use Rattle.tag_sets.specs.Freed.{GetsAndLooks}
+use Rattle.tag_cache.proofs.Uses.{answered, Cache, Found, Gets, GetsAndLooks, GetsBy, GetsFreed, Hand, IfOk, IfOk-weaker, inr, IsAnswer, IsOrdinaryTag, KeepsNone, KeepsSame, Option, Result, TagFault, Tags, Tallies, ℕ}
 use Rattle.tag_sets.specs.Gets as hand_gets
-use Rattle.tag_sets.specs.Gets.{IsAnswer, IsOrdinaryTag}
-use Rattle.tag_cache.specs.declared.cache.Cache.{Cache}
-use Rattle.tag_cache.specs.Caches.{KeepsNone}
-use Rattle.tag_cache.specs.Changes.{KeepsSame}
-use Rattle.tag_cache.specs.Gets.{GetsBy, Gets, GetsFreed}
-use Rattle.tag_cache.specs.Tallies.{Tallies, answered}
 use Rattle.tag_cache.proofs.Carrying.{more}
 use Rattle.tag_cache.proofs.Gaining.{Gains, plain_gains, get_gains}
 use Rattle.tag_cache.proofs.Tallying.{gets_moves, moves_tallies}

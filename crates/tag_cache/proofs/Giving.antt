@@ -1,35 +1,17 @@
 -- Tags that are given back.
-use Rattle.std.proofs.Common.{arith, ◌≡◌, ◌≢◌, ◌⊎◌, ℕ, ◌+◌, ◌^◌, ◌<◌, ◌≤◌, ◌↔◌, List, [], ◌∷◌, length, get_or, refl, sym, ap, ◌∙◌, subst, ⊎_elim}
-use Rattle.std.specs.Prelude.{All, Contains, count_ones}
+use Rattle.tag_cache.proofs.Uses.{[], Agent, ap, AreOrdinary, arith, bit_from, ByBell, Cache, Contains, count_of, count_ones, dite, get_or, GivesBack, GivesKept, GivesList, GivesOne, GroupStep, Hand, HoldsSame, InGroups, IsIn, IsKept, KeepsNone, kept_tags, Kind, length, List, one_in-tags, Ordinary}
+use Rattle.tag_cache.proofs.Uses.{place_one, Record, record_of, refl, Reserved, reused_of, subst, sym, Tags, tags_in, tags_in-length, tags_in-one, Tallies, Waits, won_of, ℕ, ℕ_discrete, ⊎_elim, ◌∙◌}
+use Rattle.std.specs.Prelude.{All, ◌+◌, ◌<◌, ◌^◌, ◌↔◌, ◌∷◌, ◌≡◌, ◌≢◌, ◌≤◌, ◌⊎◌}
 use Rattle.std.proofs.lemmas.List.Elements.{Contains-get_or}
-use mathlib.Core.Logic.{dite}
-use native.Mathlib.Decide.{ℕ_discrete}
-use Rattle.tag_core.specs.declared.record.Record.{Record}
-use Rattle.tag_core.specs.Callers.{record_of}
 use Rattle.wake_book.specs.declared.charge.Charge.{Charge}
 use Rattle.wake_book.specs.declared.charge.Charge.TheVariants.{Full, Below, Won, Busy}
-use Rattle.wake_book.specs.declared.steps.GroupStep.{GroupStep}
 use Rattle.wake_book.proofs.Walking.{walk_few}
 use Rattle.tag_queue.specs.Agents as queue
 use Rattle.tag_queue.specs.Batches.{Run, record_after_runs}
 use Rattle.tag_queue.specs.Clears as queue_clears
-use Rattle.tag_queue.proofs.RunTags.{tags_in-one, one_in-tags, tags_in-length, place_one, bit_from}
-use Rattle.tag_sets.specs.declared.hand.Hand.{Hand}
-use Rattle.tag_sets.specs.declared.kind.Kind.{Kind}
-use Rattle.tag_sets.specs.declared.kind.Kind.TheVariants.{Ordinary, Reserved}
-use Rattle.tag_sets.specs.declared.tags.Tags.{Tags}
 use Rattle.tag_sets.specs.Hands as hands
 use Rattle.tag_sets.specs.Holding as hand_holding
-use Rattle.tag_sets.specs.Batches.{AreOrdinary, GivesBack}
 use Rattle.tag_sets.specs.Clears as hand_clears
-use Rattle.tag_sets.specs.Tallies.{won_of}
-use Rattle.tag_cache.specs.declared.cache.Cache.{Cache}
-use Rattle.tag_cache.specs.Windows.{IsIn}
-use Rattle.tag_cache.specs.Caches.{IsKept, KeepsNone, kept_tags, count_of, reused_of}
-use Rattle.tag_cache.specs.Holding.{HoldsSame}
-use Rattle.tag_cache.specs.Tallies.{Tallies}
-use Rattle.tag_cache.specs.Clears.{GivesOne, GivesList, GivesKept}
-use Rattle.tag_queue.specs.Masks.{tags_in}
 use Rattle.tag_cache.proofs.Below.{held_below}
 use Rattle.tag_cache.proofs.Reusing.{no_count, none_kept}
 use Rattle.tag_cache.proofs.Steady.{rests_unchanged}
@@ -58,14 +40,18 @@ runs_win (run ∷ runs) r = let rest = runs_win runs r in
     let one : (record_after_runs (run ∷ runs) r).won ≡ (record_after_runs runs r).won + 0 = refl in omega arith
 
 module _ {R : Type 0} (tags : Tags R) where
+  counts_for_few : (waits : Waits) (n : ℕ) (a b : Agent R) (woken : ℕ)
+      → queue_clears.CountsFor waits tags.ordinary n a b woken → woken ≤ 8
+  counts_for_few InGroups n a b woken c = let batch : queue.batch_of tags.ordinary ≤ 8 = tags.ordinary.book.small.3 in
+      ⊎_elim (λ (n : queue_clears.FindsNoneActive a b woken). let none = n.none in omega arith)
+      (λ (s : queue_clears.Charges tags.ordinary n a b woken).
+      let few = follows_few (queue.batch_of tags.ordinary) s.charge _ _ woken s.follows in omega arith) c
+  counts_for_few ByBell n a b woken c = let none = c.none in omega arith
+
   -- a clear wakes no more than a batch
   pub counts_few : (kind : Kind) (n : ℕ) (a b : Hand R) (woken : ℕ) → hand_clears.Counts tags kind n a b woken
       → woken ≤ 8
-  counts_few Ordinary n a b woken c = let batch : queue.batch_of tags.ordinary ≤ 8 = tags.ordinary.book.small.3 in
-      ⊎_elim (λ (n : queue_clears.FindsNoneActive a.ordinary b.ordinary woken). let none = n.none in omega arith)
-      (λ (s : queue_clears.Charges tags.ordinary n a.ordinary b.ordinary woken).
-      let few = follows_few (queue.batch_of tags.ordinary) s.charge _ _ woken s.follows in omega arith)
-      c.counts
+  counts_few Ordinary n a b woken c = counts_for_few (queue.waits_of tags.ordinary) n a.ordinary b.ordinary woken c.counts
   counts_few Reserved n a b woken c = let none = c.0 in omega arith
 
   pub gives_few : (tag woken : ℕ) (a b : Hand R) → GivesOne tags tag woken a b → woken ≤ 8

@@ -1,17 +1,7 @@
 -- What becomes of a tag that is cleared, and what that is for the user and for the tallies.
-use Rattle.std.proofs.Common.{arith, ◌≡◌, ℕ, ◌<◌, ◌≤◌, sym, ap, ◌∙◌, subst, ⊎_elim}
-use Rattle.tag_sets.specs.declared.hand.Hand.{Hand}
-use Rattle.tag_sets.specs.declared.tags.Tags.{Tags}
-use Rattle.tag_sets.specs.Hands.{reserved_of}
-use Rattle.tag_sets.specs.Tallies.{won_in_both, back_in_both}
+use Rattle.std.specs.Prelude.{◌<◌, ◌≡◌, ◌≤◌}
+use Rattle.tag_cache.proofs.Uses.{ap, arith, back_in_both, Cache, GiveBack, GiveBackAll, GivesAlone, GivesKept, Goes, GoesBy, GoesOrdinary, Hand, HoldsLess, Keep, KeepInstead, KeepsNone, LooksInGroups, reserved_of, subst, sym, Tags, Tallies, Way, won_in_both, ℕ, ⊎_elim, ◌∙◌}
 use Rattle.tag_sets.specs.Holding as hand_holding
-use Rattle.tag_cache.specs.declared.cache.Cache.{Cache}
-use Rattle.tag_cache.specs.declared.way.Way.{Way}
-use Rattle.tag_cache.specs.declared.way.Way.TheVariants.{Keep, KeepInstead, GiveBack, GiveBackAll}
-use Rattle.tag_cache.specs.Caches.{KeepsNone}
-use Rattle.tag_cache.specs.Holding.{HoldsLess}
-use Rattle.tag_cache.specs.Tallies.{Tallies}
-use Rattle.tag_cache.specs.Clears.{LooksOnce, GivesKept, GivesAlone, GoesBy, GoesOrdinary, Goes}
 use Rattle.tag_cache.proofs.Carrying.{less}
 use Rattle.tag_cache.proofs.Reusing.{keeping, no_count}
 use Rattle.tag_cache.proofs.Tallying.{Moves, stays_moves}
@@ -97,5 +87,5 @@ module _ {R : Type 0} (tags : Tags R) where
       way_tallies GiveBack tag woken old new old.hand (record { won_is = omega arith; back_is = omega arith }) r.1) g
 
   -- the look found nobody
-  pub found_none : (found : ℕ) (a b : Hand R) → found ≡ 0 → LooksOnce found a b → LooksOnce 0 a b
-  found_none found a b e l = subst (λ (n : ℕ). LooksOnce n a b) e l
+  pub found_none : (found : ℕ) (a b : Hand R) → found ≡ 0 → LooksInGroups tags found a b → LooksInGroups tags 0 a b
+  found_none found a b e l = subst (λ (n : ℕ). LooksInGroups tags n a b) e l

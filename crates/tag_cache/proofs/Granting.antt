@@ -1,22 +1,10 @@
 -- Grants of calls that were made one after the other.
-use Rattle.std.proofs.Common.{arith, ◌≡◌, ℕ, zero, suc, [], ◌∷◌, List, get_or, sum, refl, ap, ◌∙◌, ◌+◌, ◌≤◌}
-use Rattle.std.specs.Prelude.{slice_index}
-use Rattle.std.proofs.lemmas.List.{get_or-replicate}
-use Rattle.std.proofs.lemmas.List.Sums.{sum_by-cons}
+use Rattle.std.specs.Prelude.{◌+◌, ◌∷◌, ◌≡◌, ◌≤◌}
+use Rattle.tag_cache.proofs.Uses.{[], ap, arith, ByBell, Enters, get_or, get_or-replicate, GrantsNone, GrantsUnrung, GroupStep, Hand, InGroups, List, look_grants_none, LooksInGroups, LookSteps, moved_by, NO_GRANTS, none_granted, refl, RingsNobody, slice_index, subst, suc, sum, sum_by-cons, sym}
+use Rattle.tag_cache.proofs.Uses.{Tags, TellsSince, Waiter, waiter_of, Waits, waits_of, zero, ℕ, ◌∙◌}
 use Rattle.step_ledger.specs.History.{total}
 use Rattle.wake_book.specs.declared.grants.Grants.{Grants}
-use Rattle.wake_book.specs.declared.groups.Waiter.{Waiter}
-use Rattle.wake_book.specs.declared.grants.TheConstants.{NO_GRANTS}
-use Rattle.wake_book.specs.declared.steps.GroupStep.{GroupStep}
 use Rattle.wake_book.specs.Grants.{AreGrantsOf, granted_in}
-use Rattle.wake_book.specs.Groups.{GrantsUnrung, RingsNobody}
-use Rattle.wake_book.specs.Waits.{moved_by}
-use Rattle.tag_queue.proofs.Granted.{look_grants_none}
-use Rattle.tag_sets.specs.declared.hand.Hand.{Hand}
-use Rattle.tag_sets.specs.Hands.{waiter_of}
-use Rattle.tag_sets.specs.Waits.{Enters}
-use Rattle.tag_cache.specs.Clears.{LooksOnce}
-use Rattle.tag_cache.specs.Rings.{TellsSince}
 
 -- an entry is at most the sum
 at_most_sum : (xs : List ℕ) (k : ℕ) → get_or xs k 0 ≤ sum xs
@@ -40,11 +28,20 @@ pub as_none : (grants : Grants) (old new : Waiter) → grants.woken ≡ 0 → Gr
 as_none grants old new none g = record { are = none_woken grants _ _ none g.are; silent = g.silent }
 
 module _ {R : Type 0} where
+  -- a look for hands that wait in groups grants nobody a wakeup
+  steps_grant_none : (waits : Waits) (found : ℕ) (a b : Hand R) → LookSteps waits found a b
+      → RingsNobody (waiter_of a) (waiter_of b) → GrantsNone a b
+  steps_grant_none InGroups found a b steps silent = look_grants_none found (waiter_of a) (waiter_of b) steps silent
+  steps_grant_none ByBell found a b steps silent = subst (λ (h : Hand R). GrantsNone a h) (sym steps.1)
+      (none_granted (waiter_of a))
+
+  pub looked_none : {tags : Tags R} (found : ℕ) (a b : Hand R) → LooksInGroups tags found a b → GrantsNone a b
+  looked_none {tags} found a b l = steps_grant_none (waits_of tags) found a b l.steps l.silent
+
   -- what is told of every earlier moment since which nobody was granted a wakeup, is told of one look before
-  pub looked_told : {Told : Type 0} (Tells : Told → Waiter → Waiter → Type 0) (told : Told) (found : ℕ) (a b c : Hand R)
-      → LooksOnce found a b → TellsSince Tells told b c → Tells told (waiter_of a) (waiter_of c)
-  looked_told Tells told found a b c l t = t a
-      (look_grants_none found (waiter_of a) (waiter_of b) l.looks l.silent)
+  pub looked_told : {Told : Type 0} {tags : Tags R} (Tells : Told → Waiter → Waiter → Type 0) (told : Told) (found : ℕ)
+      (a b c : Hand R) → LooksInGroups tags found a b → TellsSince Tells told b c → Tells told (waiter_of a) (waiter_of c)
+  looked_told Tells told found a b c l t = t a (looked_none found a b l)
 
   -- a hand that then enters a wait group
   pub then_enters : (grants : Grants) (group : ℕ) (a b c : Hand R) → GrantsUnrung grants (waiter_of a) (waiter_of b)

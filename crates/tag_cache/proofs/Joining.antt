@@ -1,13 +1,8 @@
 -- One more tag of the window is kept, and is no longer known to be the user's.
-use Rattle.std.proofs.Common.{arith, ◌≡◌, ◌≢◌, ◌⊎◌, ◌↔◌, ℕ, ◌+◌, ◌-◌, ◌^◌, ◌<◌, ◌≤◌, sym, subst, ⊎_elim}
-use Rattle.std.specs.Prelude.{count_ones}
-use Rattle.std.specs.Int.{bit_at}
+use Rattle.std.specs.Prelude.{◌+◌, ◌-◌, ◌<◌, ◌^◌, ◌↔◌, ◌≡◌, ◌≢◌, ◌≤◌, ◌⊎◌}
+use Rattle.tag_cache.proofs.Uses.{AreOwn, arith, bit_at, Cache, count_of, count_ones, Holds, IsIn, IsKept, IsKnown, IsLast, MOST_REUSED, subst, sym, WhileHolding, ℕ, ⊎_elim}
 use Rattle.tag_sets.specs.Hands as hands
-use Rattle.tag_cache.specs.declared.cache.Cache.{Cache}
-use Rattle.tag_cache.specs.declared.cache.TheConstants.{MOST_REUSED}
-use Rattle.tag_cache.specs.declared.keeping.Keeping.TheVariants.{WhileHolding}
-use Rattle.tag_cache.specs.Windows.{IsIn, AreOwn}
-use Rattle.tag_cache.specs.Caches.{IsKept, IsKnown, IsLast, Holds, count_of, split_of}
+use Rattle.tag_cache.specs.Caches.{split_of}
 use Rattle.tag_cache.proofs.Reusing.{another_known}
 use Rattle.tag_cache.proofs.Windows.{joined_fits, not_set, now_in, ones_added, still_in, was_in, with_bit}
 

@@ -1,3 +1,4 @@
+mod Uses
 pub mod Ringing
 pub mod Windows
 pub mod Below
@@ -25,3 +26,4 @@ pub mod Telling
 pub mod Told
 pub mod Joining
 pub mod Refused
+pub mod Uncounted

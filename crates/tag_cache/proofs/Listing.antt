@@ -1,16 +1,8 @@
 -- What becomes of a list of tags that is cleared, and what that is for the user and for the tallies.
-use Rattle.std.proofs.Common.{arith, ◌↔◌, ℕ, ◌^◌, ◌<◌, ◌≤◌, List, length, All, inl, inr, sym, ◌∙◌, subst, ⊎_elim}
-use Rattle.std.specs.Prelude.{Contains}
-use Rattle.tag_sets.specs.declared.tags.Tags.{Tags}
+use Rattle.std.specs.Prelude.{◌<◌, ◌^◌, ◌↔◌, ◌≤◌}
+use Rattle.tag_cache.proofs.Uses.{All, AreHeldOnce, AreLast, arith, Cache, CallsForKept, Contains, GivesKeptAndList, GivesList, GoesOn, Holds, HoldsLess, HoldsSame, inl, inr, IsIn, IsKept, IsKnown, KeepsSame, KnowsNoneOf, LeavesNone, length, List, ListGoes, ListGoesAlone, ListGoesWithKept}
+use Rattle.tag_cache.proofs.Uses.{SameFields, subst, sym, Tags, Tallies, ℕ, ⊎_elim, ◌∙◌}
 use Rattle.tag_sets.specs.Batches as hand_batches
-use Rattle.tag_cache.specs.declared.cache.Cache.{Cache}
-use Rattle.tag_cache.specs.Windows.{IsIn}
-use Rattle.tag_cache.specs.Batches.{AreHeldOnce, AreLast, LeavesNone, GoesOn, CallsForKept, GivesKeptAndList, ListGoesAlone, ListGoesWithKept, ListGoes}
-use Rattle.tag_cache.specs.Caches.{IsKept, IsKnown, Holds}
-use Rattle.tag_cache.specs.Changes.{KeepsSame, KnowsNoneOf, SameFields}
-use Rattle.tag_cache.specs.Clears.{GivesList}
-use Rattle.tag_cache.specs.Holding.{HoldsLess, HoldsSame}
-use Rattle.tag_cache.specs.Tallies.{Tallies}
 use Rattle.tag_cache.proofs.Carrying.{less, same, same_fields, keeps_twice}
 use Rattle.tag_cache.proofs.Giving.{kept_moves, list_moves}
 use Rattle.tag_cache.proofs.Going.{looks_less, both_less}
@@ -34,11 +26,11 @@ module _ {R : Type 0} where
   none_is_kept cache list h = λ k d l. (h.0 k d l).1
 
   -- the user still holds the tags after the look, whether the kept ones may stay or not
-  pub on_same : (left : ℕ) (old mid : Cache R) → GoesOn left old mid → HoldsSame old mid
-  on_same left old mid o = same old mid o.kept o.looked.stays.same
+  pub on_same : (tags : Tags R) (left : ℕ) (old mid : Cache R) → GoesOn tags left old mid → HoldsSame old mid
+  on_same tags left old mid o = same old mid o.kept o.looked.stays.same
 
-  pub call_same : (left : ℕ) (old mid : Cache R) → CallsForKept left old mid → HoldsSame old mid
-  call_same left old mid k = let f = k.fields in
+  pub call_same : (tags : Tags R) (left : ℕ) (old mid : Cache R) → CallsForKept tags left old mid → HoldsSame old mid
+  call_same tags left old mid k = let f = k.fields in
       same old mid (same_fields old mid f.first f.kept f.most f.keeping f.reused) k.looked.stays.same
 
   pub all_still : (old mid : Cache R) (list : List ℕ) → HoldsSame old mid → All (Holds old) list → All (Holds mid) list
@@ -58,7 +50,7 @@ module _ {R : Type 0} (tags : Tags R) (list : List ℕ) (left : ℕ) (old : Cach
   one_last l = (l.0, emptied old.first left fits (λ other i. let a = (is other).0 i in l.1 other a.1 a.0))
 
   -- where the kept tags may stay, the list goes alone
-  pub goes_alone : (woken : ℕ) (mid new : Cache R) → GoesOn left old mid → GivesList tags list woken mid.hand new.hand
+  pub goes_alone : (woken : ℕ) (mid new : Cache R) → GoesOn tags left old mid → GivesList tags list woken mid.hand new.hand
       → KeepsSame mid new → ListGoes tags list woken old new
   goes_alone woken mid new o gives k = inl (record {
     more = λ last. o.more (one_last last);
@@ -69,7 +61,7 @@ module _ {R : Type 0} (tags : Tags R) (list : List ℕ) (left : ℕ) (old : Cach
   })
 
   -- where they have to go, it goes after them
-  pub goes_after : (woken : ℕ) (mid new : Cache R) → CallsForKept left old mid
+  pub goes_after : (woken : ℕ) (mid new : Cache R) → CallsForKept tags left old mid
       → GivesKeptAndList tags list woken mid new → ListGoes tags list woken old new
   goes_after woken mid new c g = let f = c.fields in inr (record {
     found = c.found;
@@ -89,8 +81,8 @@ module _ {R : Type 0} (tags : Tags R) (list : List ℕ) (left : ℕ) (old : Cach
 
 module _ {R : Type 0} (list : List ℕ) (old mid : Cache R) where
   -- what the user is known to hold after the list went alone
-  pub learns_alone : (left : ℕ) → ((other : ℕ) → IsIn old.first left other ↔ (IsKnown old other × ¬ (Contains list other)))
-      → GoesOn left old mid → KnowsNoneOf list old mid
+  pub learns_alone : {tags : Tags R} (left : ℕ) → ((other : ℕ) → IsIn old.first left other ↔ (IsKnown old other × ¬ (Contains list other)))
+      → GoesOn tags left old mid → KnowsNoneOf list old mid
   learns_alone left is o other = (
     (λ l. (is other).0 ((o.knows other).0 l)),
     (λ l. (o.knows other).1 ((is other).1 l)),

@@ -1,16 +1,7 @@
 -- What becomes of a tag after a look at the active count, which changes the hand alone.
-use Rattle.std.proofs.Common.{arith, ◌≡◌, ◌↔◌, ℕ, ◌≤◌, List, inl, inr, sym, ap, ◌∙◌, subst, ⊎_elim}
-use Rattle.tag_queue.specs.Masks.{tags_in}
-use Rattle.tag_sets.specs.declared.hand.Hand.{Hand}
-use Rattle.tag_sets.specs.declared.tags.Tags.{Tags}
-use Rattle.tag_cache.specs.declared.cache.Cache.{Cache}
-use Rattle.tag_cache.specs.declared.way.Way.{Way}
-use Rattle.tag_cache.specs.declared.way.Way.TheVariants.{Keep, KeepInstead, GiveBack, GiveBackAll}
-use Rattle.tag_cache.specs.Windows.{IsIn}
-use Rattle.tag_cache.specs.Caches.{IsKnown, IsLast, KeepsNone, HasNoPlace, CanBeKept, Holds, LeavesWindow, kept_tags, count_of}
-use Rattle.tag_cache.specs.Changes.{KeepsSame, SameFields, SameWindow, KnowsLess}
-use Rattle.tag_cache.specs.Holding.{HoldsLess, HoldsSame}
-use Rattle.tag_cache.specs.Clears.{LooksOnce, GivesList, GivesKept, CallsFor, GoesBy, GoesOrdinary, MayStay}
+use Rattle.std.specs.Prelude.{◌↔◌, ◌≡◌, ◌≤◌}
+use Rattle.tag_cache.proofs.Uses.{ap, arith, Cache, CallsFor, CanBeKept, count_of, GiveBack, GiveBackAll, GivesKept, GivesList, GoesBy, GoesOrdinary, Hand, HasNoPlace, Holds, HoldsLess, HoldsSame, inl, inr, IsIn, IsKnown, IsLast, Keep, KeepInstead, KeepsNone, KeepsSame, kept_tags, KnowsLess}
+use Rattle.tag_cache.proofs.Uses.{LeavesWindow, List, LooksInGroups, MayStay, SameFields, SameWindow, subst, sym, Tags, tags_in, Way, ℕ, ⊎_elim, ◌∙◌}
 use Rattle.tag_cache.proofs.Carrying.{same, same_fields, keeps_twice, terms_twice}
 use Rattle.tag_cache.proofs.Moving.{also_from, can_also, only_from}
 
@@ -108,7 +99,7 @@ module _ {R : Type 0} (tag : ℕ) (old mid : Cache R) (s : SameFields old mid) w
   last_from : IsLast tag mid → IsLast tag old
   last_from l = (sym s.keeping ∙ l.0, λ other i. l.1 other ((same_known old mid s.first s.known other).1 i))
 
-  pub held_on : {found : ℕ} → LooksOnce found old.hand mid.hand → Holds old tag → Holds mid tag
+  pub held_on : {tags : Tags R} {found : ℕ} → LooksInGroups tags found old.hand mid.hand → Holds old tag → Holds mid tag
   held_on looked h = ((same old mid (fields_keep old mid s) looked.stays.same).kept tag h).0
 
   pub knows_on : (new : Cache R) → KnowsLess tag mid new → KnowsLess tag old new
@@ -181,7 +172,7 @@ module _ {R : Type 0} (tags : Tags R) (old mid : Cache R) (s : SameFields old mi
   }
 
   -- the look, what it called for, and what became of the tag then
-  pub went : (way : Way) (tag found woken : ℕ) (new : Cache R) → LooksOnce found old.hand mid.hand
+  pub went : (way : Way) (tag found woken : ℕ) (new : Cache R) → LooksInGroups tags found old.hand mid.hand
       → CallsFor way tag found old → GoesBy way tags tag woken mid mid.hand new → GoesOrdinary tags tag woken old new
   went way tag found woken new looked why goes = record {
     found = found;

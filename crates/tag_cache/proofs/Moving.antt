@@ -1,10 +1,6 @@
 -- A tag that is kept after the window moved to it, or did not.
-use Rattle.std.proofs.Common.{arith, ◌≡◌, ◌⊎◌, ℕ, ◌+◌, ◌<◌, ◌≤◌, inl, inr, sym, ◌∙◌, subst, ⊎_elim}
-use Rattle.std.proofs.lemmas.Bool.{cases_lt}
-use Rattle.tag_cache.specs.declared.cache.Cache.{Cache}
-use Rattle.tag_cache.specs.declared.keeping.Keeping.TheVariants.{WhileHolding}
-use Rattle.tag_cache.specs.Caches.{IsFixed, IsKept, IsWithin, KeepsNone, HasNoPlace, CanBeKept, count_of, keeping_of, reused_of}
-use Rattle.tag_cache.specs.Changes.{KeepsSame, KeepsAlso, KeepsOnly, SameHand, SameTerms}
+use Rattle.std.specs.Prelude.{◌+◌, ◌<◌, ◌≡◌, ◌≤◌, ◌⊎◌}
+use Rattle.tag_cache.proofs.Uses.{arith, Cache, CanBeKept, cases_lt, count_of, HasNoPlace, inl, inr, IsFixed, IsKept, IsWithin, keeping_of, KeepsAlso, KeepsNone, KeepsOnly, KeepsSame, reused_of, SameHand, SameTerms, subst, sym, WhileHolding, ℕ, ⊎_elim, ◌∙◌}
 use Rattle.tag_cache.proofs.Carrying.{terms_twice}
 
 -- a tag is kept besides the tags of a cache that keeps the same

@@ -1,28 +1,9 @@
 -- A tag that is posted leaves the hand's steps on the wait groups as they are, and what it won and gave back.
-use Rattle.std.proofs.Common.{◌≡◌, ℕ, Result, Ok, Err, OnOk, OnErr, refl, sym, ap, subst}
-use Rattle.tag_core.specs.declared.record.Record.{Record}
-use Rattle.wake_book.specs.declared.groups.Waiter.{Waiter}
-use Rattle.wake_book.specs.declared.grants.TheConstants.{NO_GRANTS}
-use Rattle.wake_book.specs.Groups.{GrantsUnrung}
-use Rattle.tag_queue.proofs.Granted.{none_granted}
-use Rattle.tag_queue.specs.declared.agent.Agent.{Agent}
+use Rattle.std.specs.Prelude.{◌≡◌}
+use Rattle.tag_cache.proofs.Uses.{Agent, ap, Cache, Changes, Err, Forgets, GrantsNone, GrantsUnrung, Hand, HoldsSame, IsKnown, IsLast, KeepsNone, KeepsSame, Kind, kind_of, NO_GRANTS, none_granted, Ok, OnErr, OnOk, Ordinary, Passes, PassesAlone, Posts, PostsLast, Record, refl, Reserved, Result}
+use Rattle.tag_cache.proofs.Uses.{SameTerms, SameWindow, split_of, subst, sym, TagFault, Tags, Tallies, Waiter, waiter_of, ℕ}
 use Rattle.tag_queue.specs.Agents as queue
 use Rattle.tag_queue.specs.Slots as queue_slots
-use Rattle.tag_sets.specs.declared.fault.TagFault.{TagFault}
-use Rattle.tag_sets.specs.declared.hand.Hand.{Hand}
-use Rattle.tag_sets.specs.declared.kind.Kind.{Kind}
-use Rattle.tag_sets.specs.declared.kind.Kind.TheVariants.{Ordinary, Reserved}
-use Rattle.tag_sets.specs.declared.tags.Tags.{Tags}
-use Rattle.tag_sets.specs.Sets.{kind_of}
-use Rattle.tag_sets.specs.Hands.{Changes, split_of, waiter_of}
-use Rattle.tag_sets.specs.Slots.{Posts}
-use Rattle.tag_cache.specs.declared.cache.Cache.{Cache}
-use Rattle.tag_cache.specs.Caches.{IsLast, IsKnown, KeepsNone}
-use Rattle.tag_cache.specs.Changes.{Forgets, KeepsSame, SameTerms, SameWindow}
-use Rattle.tag_cache.specs.Holding.{HoldsSame}
-use Rattle.tag_cache.specs.Rings.{GrantsNone}
-use Rattle.tag_cache.specs.Slots.{Passes, PassesAlone, PostsLast}
-use Rattle.tag_cache.specs.Tallies.{Tallies}
 use Rattle.tag_cache.proofs.Carrying.{keeps_twice, less, none_after, same_then_less, same_user, terms_twice}
 use Rattle.tag_cache.proofs.Looking.{knows_less_then_same, same_then_knows_less, unknown_less}
 use Rattle.tag_cache.proofs.Reusing.{last_unknown}

@@ -1,7 +1,7 @@
 -- A refusal of the hand's is one of the user's, who holds no more than the hand.
-use Rattle.std.proofs.Common.{◌≡◌, Result, Ok, Err, [], ◌∷◌, inl, inr}
+use Rattle.std.specs.Prelude.{◌∷◌, ◌≡◌}
+use Rattle.tag_cache.proofs.Uses.{[], Checks, Err, FailsFirst, inl, inr, Ok, Result}
 use Rattle.std.specs.Result.{IsErrAnd, IfErr}
-use Rattle.refusals.specs.Refusals.{Checks, FailsFirst}
 
 module _ {F : Type 0} (counts ordinary : Type 0) (bad_count no_such_tag not_held : F) where
   -- the checks of several tags, the last of which is that they are held

@@ -1,23 +1,10 @@
 -- What a change of the kept tags is for the user of a cache, and what is known of known ones.
-use Rattle.std.proofs.Common.{arith, ◌⊎◌, ◌↔◌, Some, ◌≡◌, ◌≢◌, ℕ, ◌+◌, ◌^◌, ◌<◌, ◌≤◌, inl, inr, refl, sym, ap, subst, ⊎_elim}
-use mathlib.Core.Logic.{dite}
-use native.Mathlib.Decide.{ℕ_discrete}
-use Rattle.std.specs.Prelude.{count_ones}
-use Rattle.std.specs.Int.{trailing_zeros, w64}
-use Rattle.std.proofs.lemmas.Bool.{cases_lt}
-use Rattle.std.proofs.lemmas.Nat.{ones_le_self}
-use Rattle.tag_sets.specs.declared.hand.Hand.{Hand}
-use Rattle.tag_sets.specs.declared.tags.Tags.{Tags}
+use Rattle.std.specs.Prelude.{◌+◌, ◌<◌, ◌^◌, ◌↔◌, ◌≡◌, ◌≢◌, ◌≤◌, ◌⊎◌}
+use Rattle.tag_cache.proofs.Uses.{ap, arith, Cache, cases_lt, count_of, count_ones, dite, GetsBy, Hand, Holds, HoldsLess, HoldsMore, inl, inr, IsIn, IsKept, IsKnown, IsLast, IsOrdinaryTag, IsWithin, KeepsAlso, KeepsNone, KeepsWithCare, ones_le_self, refl, Reuses, SameHand, Some, subst, sym, Tags}
+use Rattle.tag_cache.proofs.Uses.{TakesLeast, trailing_zeros, w64, WhileHolding, ℕ, ℕ_discrete, ⊎_elim}
 use Rattle.tag_sets.specs.Hands as hands
 use Rattle.tag_sets.specs.Holding as hand_holding
-use Rattle.tag_sets.specs.Gets.{IsOrdinaryTag}
-use Rattle.tag_cache.specs.declared.cache.Cache.{Cache}
-use Rattle.tag_cache.specs.declared.keeping.Keeping.TheVariants.{WhileHolding}
-use Rattle.tag_cache.specs.Windows.{IsIn}
-use Rattle.tag_cache.specs.Caches.{IsKept, IsKnown, IsLast, IsWithin, KeepsNone, KeepsWithCare, Holds, count_of, split_of}
-use Rattle.tag_cache.specs.Changes.{SameHand, KeepsAlso, TakesLeast, Reuses}
-use Rattle.tag_cache.specs.Gets.{GetsBy}
-use Rattle.tag_cache.specs.Holding.{HoldsMore, HoldsLess}
+use Rattle.tag_cache.specs.Caches.{split_of}
 use Rattle.tag_cache.proofs.Below.{held_below}
 use Rattle.tag_cache.proofs.Windows.{below_end, emptied, none_else, none_in, some_in, least_in}
 

@@ -1,18 +1,10 @@
 -- Steps on lists of who waits win no tags and give none back.
-use Rattle.std.proofs.Common.{◌≡◌, ℕ, Bool, ap, arith}
-use Rattle.tag_core.specs.declared.record.Record.{Record}
+use Rattle.tag_cache.proofs.Uses.{Agent, ap, arith, Bool, caller_of, Changes, Err, Hand, Ok, OnErr, OnlyAdds, Ordinary, Record, Result, TagFault, Told, waiter_of, ℕ}
 use Rattle.tag_core.specs.declared.step.Step.{Step}
-use Rattle.std.specs.Prelude.{List}
-use Rattle.tag_bell.specs.declared.told.Told.{Told}
-use Rattle.tag_bell.specs.Calls.{OnlyAdds}
-use Rattle.tag_queue.specs.declared.agent.Agent.{Agent}
-use Rattle.tag_queue.specs.Agents.{caller_of}
+use Rattle.std.specs.Prelude.{List, OnOk, ◌≡◌}
 use Rattle.tag_queue.specs.Bell as queue
-use Rattle.tag_sets.specs.declared.hand.Hand.{Hand}
-use Rattle.tag_sets.specs.declared.kind.Kind.TheVariants.{Ordinary}
-use Rattle.tag_sets.specs.Hands.{waiter_of, Changes}
 use Rattle.tag_sets.specs.Holding.{HoldsSame}
-use Rattle.tag_cache.proofs.Steady.{Rests}
+use Rattle.tag_cache.proofs.Steady.{Rests, rests_unchanged}
 use Rattle.tag_cache.proofs.Tallying.{MovesAgent, moves_in}
 
 module _ {R : Type 0} where
@@ -25,6 +17,12 @@ module _ {R : Type 0} where
     held = held;
     moves = moves_in Ordinary 0 0 _ a b (λ c d (l : queue.ListsSelf list c d). adds_rests _ c d l.step.1) x;
   }
+
+  -- the same where it is refused
+  pub listed_rests : {A : Type 0} (list : ℕ) (r : Result A TagFault) (a b : Hand R) → HoldsSame a b
+      → OnOk r (Changes Ordinary (queue.ListsSelf list) a b) → OnErr r (b ≡ a) → Rests a b
+  listed_rests list (Ok x) a b held lists same = lists_rests list a b held lists
+  listed_rests list (Err fault) a b held lists same = rests_unchanged a b same
 
   pub gets_up_rests : (list : ℕ) (told : Bool) (a b : Hand R) → HoldsSame a b
       → Changes Ordinary (queue.GetsUp list told) a b → Rests a b
@@ -40,17 +38,17 @@ module _ {R : Type 0} where
     moves = moves_in Ordinary 0 0 _ a b (λ c d (l : queue.LooksForWaiters found c d). adds_rests _ c d l.finds.looks) x;
   }
 
-  pub sees_rests : (most : ℕ) (told : Told) (a b : Hand R) → HoldsSame a b
-      → Changes Ordinary (queue.SeesTo most told) a b → Rests a b
-  sees_rests most told a b held x = record {
+  pub sees_rests : (limit most : ℕ) (told : Told) (a b : Hand R) → HoldsSame a b
+      → Changes Ordinary (queue.SeesTo limit most told) a b → Rests a b
+  sees_rests limit most told a b held x = record {
     held = held;
-    moves = moves_in Ordinary 0 0 _ a b (λ c d (l : queue.SeesTo most told c d). adds_rests _ c d l.tells.only) x;
+    moves = moves_in Ordinary 0 0 _ a b (λ c d (l : queue.SeesTo limit most told c d). adds_rests _ c d l.tells.only) x;
   }
 
   -- who sees to tags, or looks, is in the same wait group, and made no step there
-  pub sees_waiter : (most : ℕ) (told : Told) (a b : Hand R) → Changes Ordinary (queue.SeesTo most told) a b
+  pub sees_waiter : (limit most : ℕ) (told : Told) (a b : Hand R) → Changes Ordinary (queue.SeesTo limit most told) a b
       → waiter_of b ≡ waiter_of a
-  sees_waiter most told a b x = x.changed.same.1.1
+  sees_waiter limit most told a b x = x.changed.same.1.1
 
   pub looks_waiter : (found : Bool) (a b : Hand R) → Changes Ordinary (queue.LooksForWaiters found) a b
       → waiter_of b ≡ waiter_of a

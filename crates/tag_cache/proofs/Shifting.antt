@@ -1,14 +1,8 @@
 -- The tags of a mask as a mask of another window.
-use Rattle.std.proofs.Common.{arith, ◌≡◌, ◌↔◌, ℕ, ◌+◌, ◌-◌, ◌*◌, ◌/◌, ◌%◌, ◌^◌, ◌<◌, ◌≤◌, sym, ap, ◌∙◌}
-use Rattle.std.specs.Prelude.{All, bit_and}
-use Rattle.std.specs.Int.{bit_at, bit_not, w64}
-use Rattle.std.proofs.lemmas.Nat.{and_le_l}
-use Rattle.std.proofs.lemmas.Nat.Bits.{bit_at-lt, bit_at_and, bit_at_not}
-use Rattle.tag_queue.specs.Masks.{mask_bit, tags_in}
+use Rattle.tag_cache.proofs.Uses.{and_le_l, ap, arith, bit_and, bit_at, bit_at-lt, bit_at_and, bit_at_not, bit_from, bit_not, IsIn, mask_bit, place_one, sym, tags_in, w64, ℕ, ◌∙◌}
+use Rattle.std.specs.Prelude.{All, ◌%◌, ◌*◌, ◌+◌, ◌-◌, ◌/◌, ◌<◌, ◌^◌, ◌↔◌, ◌≡◌, ◌≤◌}
 use Rattle.tag_queue.proofs.MaskHolds.{all_in, each_in}
 use Rattle.tag_queue.proofs.MaskParts.{moved_up, moved_down}
-use Rattle.tag_queue.proofs.RunTags.{place_one, bit_from}
-use Rattle.tag_cache.specs.Windows.{IsIn}
 use Rattle.tag_cache.proofs.Windows.{bit_low, below_end, emptied, none_in, not_set}
 
 module _ (start first mask : ℕ) (fits : mask < 2 ^ 64) (tag : ℕ) where

@@ -1,39 +1,18 @@
 -- What a get that sleeps gives the user of a cache, and what waking those whom the hand told leaves as it was.
-use Rattle.std.proofs.Common.{arith, ◌≡◌, ℕ, zero, suc, Option, Some, None, Result, Ok, Err, IfOk, inl, inr, refl, sym, ◌∙◌, subst, ⊎_elim}
-use Rattle.refusals.specs.Refusals.{FailsFirst, RefusesBy}
-use Rattle.tag_layout.specs.Layout.{Layout}
-use Rattle.tag_core.specs.declared.caller.Caller.{Caller}
-use Rattle.tag_core.specs.Holdings.{KeepsAll}
-use Rattle.tag_bell.specs.declared.sleeping.Woken.{Woken}
-use Rattle.tag_bell.specs.declared.told.Told.{Told}
+use Rattle.std.specs.Prelude.{◌≡◌}
+use Rattle.tag_cache.proofs.Uses.{Agent, arith, blocking_checks, Cache, Caller, Changes, count_of, DoesSeeTo, Err, FailsFirst, FindsNobody, GetsSleeping, Hand, IfOk, inl, inr, IsHandOf, IsUnchanged, KeepsAll, KeepsNone, KeepsSame, Layout, layout_of, Learns, max, nobody, None, Ok, Option, Ordinary}
+use Rattle.tag_cache.proofs.Uses.{refl, RefusesBy, Result, Reuses, SameTags, Some, subst, suc, sym, TagFault, Tags, Tallies, TellsWithKept, Told, told_by, Waiter, waiter_of, Waits, Woken, won_by, zero, ℕ, ⊎_elim, ◌∙◌}
 use Rattle.tag_bell.specs.Callers as callers
-use Rattle.tag_bell.specs.Calls.{nobody}
-use Rattle.tag_bell.specs.Sleeping.{told_by}
-use Rattle.tag_bell.proofs.StillThere.{owes_still, waits_still, keeps_still, tells_still}
-use Rattle.tag_search.specs.Gains.{count_of as won_by}
-use Rattle.wake_book.specs.declared.groups.Waiter.{Waiter}
-use Rattle.tag_queue.specs.declared.agent.Agent.{Agent}
+use Rattle.tag_bell.proofs.StillThere.{owes_still, waits_still, keeps_still, tells_still, few_still}
 use Rattle.tag_queue.specs.Agents as queue
 use Rattle.tag_queue.specs.Bell as queue_bell
 use Rattle.tag_queue.specs.Blocking.{GetsPlainAndLooks}
 use Rattle.tag_queue.specs.Sleeping as queue_sleeping
 use Rattle.tag_queue.proofs.Looking.{searched_plain}
-use Rattle.tag_sets.specs.declared.fault.TagFault.{TagFault}
-use Rattle.tag_sets.specs.declared.hand.Hand.{Hand}
-use Rattle.tag_sets.specs.declared.kind.Kind.TheVariants.{Ordinary}
-use Rattle.tag_sets.specs.declared.tags.Tags.{Tags}
-use Rattle.tag_sets.specs.Hands.{Changes, IsHandOf, caller_of, layout_of, waiter_of}
+use Rattle.tag_sets.specs.Hands.{caller_of}
 use Rattle.tag_sets.specs.Refusals as of_hand
 use Rattle.tag_sets.specs.Sleeping as hands
 use Rattle.tag_sets.proofs.Lifting as lifting
-use Rattle.tag_cache.specs.declared.cache.Cache.{Cache}
-use Rattle.tag_cache.specs.Bell.{FindsNobody, TellsWithKept, DoesSeeTo}
-use Rattle.tag_cache.specs.Caches.{KeepsNone}
-use Rattle.tag_cache.specs.Changes.{IsUnchanged, KeepsSame, Learns, Reuses}
-use Rattle.tag_cache.specs.Refusals.{blocking_checks}
-use Rattle.tag_cache.specs.Same.{SameTags}
-use Rattle.tag_cache.specs.Sleeping.{GetsSleeping}
-use Rattle.tag_cache.specs.Tallies.{Tallies}
 use Rattle.tag_cache.proofs.Carrying.{more, none_after, same_then_same, terms_twice}
 use Rattle.tag_cache.proofs.Looking.{window_twice}
 use Rattle.tag_cache.proofs.Reusing.{reuse_ordinary, taken}
@@ -87,24 +66,26 @@ module _ {R : Type 0} where
 
 module _ {R : Type 0} (tags : Tags R) (old new : Cache R) where
   -- where nothing is kept, the hand's checks are all that count
-  fails_empty : KeepsNone old → (fault : TagFault) → FailsFirst (of_hand.blocking_checks tags old.hand) fault
-      → FailsFirst (blocking_checks tags old) fault
-  fails_empty none fault (inl first) = inl ((λ all. first.0 (all none)), first.1)
-  fails_empty none fault (inr (some, inl first)) = inr ((λ n. some), inl ((λ all. first.0 (all none)), first.1))
-  fails_empty none fault (inr (some, inr (out, inl first))) =
-      inr ((λ n. some), inr ((λ n. out), inl ((λ all. first.0 (all none)), first.1)))
-  fails_empty none fault (inr (some, inr (out, inr last))) = absurd last.1
+  fails_empty : (waits : Waits) → KeepsNone old → (fault : TagFault)
+      → FailsFirst (of_hand.blocking_checks waits tags old.hand) fault → FailsFirst (blocking_checks waits tags old) fault
+  fails_empty waits none fault (inl first) = inl first
+  fails_empty waits none fault (inr (so, inl first)) = inr (so, inl ((λ all. first.0 (all none)), first.1))
+  fails_empty waits none fault (inr (so, inr (some, inl first))) =
+      inr (so, inr ((λ n. some), inl ((λ all. first.0 (all none)), first.1)))
+  fails_empty waits none fault (inr (so, inr (some, inr (out, inl first)))) =
+      inr (so, inr ((λ n. some), inr ((λ n. out), inl ((λ all. first.0 (all none)), first.1))))
+  fails_empty waits none fault (inr (so, inr (some, inr (out, inr last)))) = absurd last.1
 
-  pub refused_empty : {A : Type 0} → KeepsNone old → (r : Result A TagFault)
-      → RefusesBy (of_hand.blocking_checks tags old.hand) (IsUnchanged old new) r
-      → RefusesBy (blocking_checks tags old) (IsUnchanged old new) r
-  refused_empty none (Ok x) refuses = let all = refuses.passes in record {
+  pub refused_empty : {A : Type 0} (waits : Waits) → KeepsNone old → (r : Result A TagFault)
+      → RefusesBy (of_hand.blocking_checks waits tags old.hand) (IsUnchanged old new) r
+      → RefusesBy (blocking_checks waits tags old) (IsUnchanged old new) r
+  refused_empty waits none (Ok x) refuses = let all = refuses.passes in record {
     first = tt;
-    passes = ((λ n. all.0), ((λ n. all.1.0), ((λ n. all.1.1.0), tt)));
+    passes = (all.0, ((λ n. all.1.0), ((λ n. all.1.1.0), ((λ n. all.1.1.1.0), tt))));
     same = tt;
   }
-  refused_empty none (Err fault) refuses =
-      record { first = fails_empty none fault refuses.first; passes = tt; same = refuses.same }
+  refused_empty waits none (Err fault) refuses =
+      record { first = fails_empty waits none fault refuses.first; passes = tt; same = refuses.same }
 
   -- the hand slept for the tag, since none was kept, and the user gains it alone
   pub slept_for : KeepsSame old new → KeepsNone old → (r : Result (ℕ × Woken) TagFault)
@@ -144,14 +125,15 @@ module _ {R : Type 0} (a b : Hand R) (unchanged : Changes Ordinary queue.IsUncha
     moves = moves_in Ordinary 0 0 _ a b (λ c d (u : queue.IsUnchanged c d). record_rests c d u.caller.known) unchanged;
   }
 
-  sees_still : (most : ℕ) (told : Told) (first : Hand R) → Changes Ordinary (queue_bell.SeesTo most told) first a
-      → Changes Ordinary (queue_bell.SeesTo most told) first b
-  sees_still most told first x =
+  sees_still : (limit most : ℕ) (told : Told) (first : Hand R) → Changes Ordinary (queue_bell.SeesTo limit most told) first a
+      → Changes Ordinary (queue_bell.SeesTo limit most told) first b
+  sees_still limit most told first x =
       let sees = x.changed in let u = unchanged.changed in let from = caller_of first in
       let c = caller_of a in let d = caller_of b in record {
         changed = record {
           done = λ list low. owes_still c d u.caller list (sees.done list low);
           tells = tells_still c d u.caller most told from sees.tells;
+          few = few_still c d u.caller limit told from sees.few;
           waits = λ list. waits_still c d u.caller from list (sees.waits list);
           holds = keeps_still c d u.caller from sees.holds;
           same = (u.same_else.0 ∙ sees.same.0, (u.same_else.1.0 ∙ sees.same.1.0, u.same_else.1.1 ∙ sees.same.1.1));
@@ -163,20 +145,20 @@ module _ {R : Type 0} (a b : Hand R) (unchanged : Changes Ordinary queue.IsUncha
 -- what a hand did that saw to tags is so of it once those told are woken
 module _ {R : Type 0} (tags : Tags R) (old mid new : Cache R) (told : Told) {Answer : Type 0} (woken : Answer → ℕ)
     (Tells : Answer → Waiter → Waiter → Type 0) (answer : Answer) where
-  pub seen_and_woken : DoesSeeTo woken Tells tags (told, answer) old mid
+  pub seen_and_woken : (freed : ℕ) → DoesSeeTo freed woken Tells tags (told, answer) old mid
       → Changes Ordinary queue.IsUnchanged mid.hand new.hand → (told ≡ nobody → new ≡ mid) → SameTags mid new
-      → DoesSeeTo woken Tells tags (told, answer) old new
-  seen_and_woken sees unchanged none rest = record {
+      → DoesSeeTo freed woken Tells tags (told, answer) old new
+  seen_and_woken freed sees unchanged none rest = record {
     way = ⊎_elim
         (λ (f : FindsNobody told (woken answer) old mid).
         inl (subst (λ (x : Cache R). FindsNobody told (woken answer) old x) (sym (none f.none.0)) f))
-        (λ (t : TellsWithKept tags told (woken answer) old mid). inr (record {
+        (λ (t : TellsWithKept freed tags told (woken answer) old mid). inr (record {
           looked = t.looked;
           looks = t.looks;
           gives = record {
             between = t.gives.between;
             gives = record { none = t.gives.gives.none; some = t.gives.gives.some };
-            tells = sees_still mid.hand new.hand unchanged 6 told t.gives.between t.gives.tells;
+            tells = sees_still mid.hand new.hand unchanged (max (max freed (count_of old)) 1) 6 told t.gives.between t.gives.tells;
           };
           none = none_after mid new t.none rest.kept;
         })) sees.way;

@@ -1,11 +1,6 @@
 -- Tags that are given back leave the hand in its wait group.
-use Rattle.std.specs.Prelude.{IsSome}
-use Rattle.std.proofs.Common.{◌≡◌, ℕ, Option, Some, None, ap, refl}
-use Rattle.tag_sets.specs.declared.hand.Hand.{Hand}
-use Rattle.tag_sets.specs.declared.tags.Tags.{Tags}
-use Rattle.tag_sets.specs.Hands.{standing_of}
-use Rattle.tag_cache.specs.declared.cache.Cache.{Cache}
-use Rattle.tag_cache.specs.Clears.{GivesKept}
+use Rattle.std.specs.Prelude.{◌≡◌}
+use Rattle.tag_cache.proofs.Uses.{ap, Cache, GivesKept, Hand, IsSome, None, Option, refl, Some, standing_of, Tags, ℕ}
 use Rattle.tag_cache.proofs.Giving.{by_kept}
 
 -- a hand that is not in a group is in none

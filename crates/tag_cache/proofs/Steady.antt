@@ -1,35 +1,20 @@
 -- What a call of the hand leaves as it is that neither wins tags nor gives any back.
-use Rattle.std.proofs.Common.{arith, ◌≡◌, ℕ, suc, ◌+◌, Option, Some, None, List, [], ◌∷◌, Result, Ok, Err, IfOk, OnErr, IfSome, IfNone, refl, sym, ap, ◌∙◌, subst}
-use Rattle.tag_layout.specs.Layout.{Layout}
-use Rattle.tag_core.specs.declared.record.Record.{Record}
-use Rattle.tag_core.specs.declared.step.Step.TheVariants.{Word}
-use Rattle.tag_core.specs.declared.word_step.WordStep.TheVariants.{Look, LookAside}
-use Rattle.tag_core.specs.Callers.{record_of}
+use Rattle.std.specs.Prelude.{◌+◌, ◌∷◌, ◌≡◌}
+use Rattle.tag_cache.proofs.Uses.{[], Agent, ap, AreOwn, arith, Cache, Err, Hand, IfNone, IfOk, IfSome, IsIn, KeepsSame, Kind, Layout, layout_of, List, Look, LookAside, LooksAfter, None, Ok, OnErr, Option, Ordinary, Record, record_of, refl, Reserved, Result, SameTags, SameWindow, Some, subst, suc}
+use Rattle.tag_cache.proofs.Uses.{sym, TagFault, Tags, Word, ℕ, ◌∙◌}
 use Rattle.tag_core.specs.Records.{record_after}
 use Rattle.tag_search.specs.Shared.{record_after_all}
 use Rattle.wake_book.specs.declared.waiting.Left.{Left}
-use Rattle.tag_queue.specs.declared.agent.Agent.{Agent}
-use Rattle.tag_sets.specs.declared.fault.TagFault.{TagFault}
 use Rattle.tag_queue.specs.Agents as queue
 use Rattle.tag_queue.specs.Freed as queue_freed
 use Rattle.tag_queue.specs.Waits as queue_waits
-use Rattle.tag_sets.specs.declared.hand.Hand.{Hand}
-use Rattle.tag_sets.specs.declared.kind.Kind.{Kind}
-use Rattle.tag_sets.specs.declared.kind.Kind.TheVariants.{Ordinary, Reserved}
-use Rattle.tag_sets.specs.declared.tags.Tags.{Tags}
 use Rattle.tag_sets.specs.Hands as hands
-use Rattle.tag_sets.specs.Hands.{layout_of}
 use Rattle.tag_sets.specs.Holding.{HoldsSame}
 use Rattle.tag_sets.specs.Looks.{looks_from, MakesLooks}
 use Rattle.tag_sets.specs.Shows.{LooksAround}
 use Rattle.tag_sets.specs.Busy.{ListsBusy}
-use Rattle.tag_sets.specs.Freed.{LooksAfter}
 use Rattle.tag_sets.specs.Meeting.{IsUnchanged}
 use Rattle.tag_sets.specs.Waits as hand_waits
-use Rattle.tag_cache.specs.declared.cache.Cache.{Cache}
-use Rattle.tag_cache.specs.Windows.{IsIn, AreOwn}
-use Rattle.tag_cache.specs.Changes.{KeepsSame, SameWindow}
-use Rattle.tag_cache.specs.Same.{SameTags}
 use Rattle.tag_cache.proofs.Carrying.{Owns, same, own_after, owns}
 use Rattle.tag_cache.proofs.Tallying.{Moves, MovesAgent, caller_rests, moves_in, moves_tallies, record_rests, stays_moves}
 

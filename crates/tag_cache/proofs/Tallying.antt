@@ -1,31 +1,14 @@
 -- What the calls of the hand add to what it won and gave back.
-use Rattle.std.proofs.Common.{arith, ◌≡◌, ℕ, zero, suc, ◌+◌, Option, Some, None, refl, sym, ap, subst}
-use Rattle.tag_layout.specs.Layout.{Layout}
-use Rattle.tag_core.specs.declared.caller.Caller.{Caller}
-use Rattle.tag_core.specs.declared.record.Record.{Record}
-use Rattle.tag_core.specs.Callers.{record_of}
-use Rattle.tag_search.specs.declared.hint.Hint.{Hint}
-use Rattle.tag_search.specs.Gains.{count_of as won_by}
-use Rattle.tag_queue.specs.declared.agent.Agent.{Agent}
+use Rattle.std.specs.Prelude.{◌+◌, ◌≡◌}
+use Rattle.tag_cache.proofs.Uses.{Agent, AgentStays, answered, ap, arith, back_in_both, Cache, Caller, Changes, Hand, Hint, KeepsSame, Kind, kind_of, Layout, layout_of, None, Option, Ordinary, Record, record_of, refl, Reserved, SameHand, Some, split_of, Stays, subst, suc, sym, Tags, Tallies, whole}
+use Rattle.tag_cache.proofs.Uses.{won_by, won_in_both, zero, ℕ}
 use Rattle.tag_queue.specs.Agents as queue
 use Rattle.tag_queue.specs.Clears as queue_clears
 use Rattle.tag_queue.specs.Gets as queue_gets
 use Rattle.tag_queue.specs.Blocking as queue_blocking
 use Rattle.tag_queue.specs.Tallies as queue_tallies
-use Rattle.tag_sets.specs.declared.hand.Hand.{Hand}
-use Rattle.tag_sets.specs.declared.kind.Kind.{Kind}
-use Rattle.tag_sets.specs.declared.kind.Kind.TheVariants.{Ordinary, Reserved}
-use Rattle.tag_sets.specs.declared.tags.Tags.{Tags}
-use Rattle.tag_sets.specs.Sets.{kind_of}
-use Rattle.tag_sets.specs.Hands.{Changes, split_of, layout_of}
 use Rattle.tag_sets.specs.Clears.{Clears}
 use Rattle.tag_sets.specs.Gets as hand_gets
-use Rattle.tag_sets.specs.Gets.{whole}
-use Rattle.tag_sets.specs.Tallies.{won_in_both, back_in_both}
-use Rattle.tag_sets.specs.Waits.{AgentStays, Stays}
-use Rattle.tag_cache.specs.declared.cache.Cache.{Cache}
-use Rattle.tag_cache.specs.Changes.{KeepsSame, SameHand}
-use Rattle.tag_cache.specs.Tallies.{Tallies, answered}
 
 -- that many more tags were won and that many more given back
 pub record Moves {R : Type 0} (won back : ℕ) (old new : Hand R) : Type 0 where

@@ -1,40 +1,20 @@
 -- Telling whom a call granted a wakeup makes no step, so what the call did is what both did.
-use Rattle.std.proofs.Common.{arith, ◌≡◌, ℕ, ◌^◌, ◌≤◌, ◌-◌, ◌∷◌, List, length, inl, inr, sym, ap, ◌∙◌, subst, ⊎_elim}
-use Rattle.std.specs.Prelude.{slice_index}
-use Rattle.tag_layout.specs.Layout.{Layout, word_of, place_of}
-use Rattle.tag_core.specs.declared.caller.Caller.{Caller}
-use Rattle.tag_core.specs.declared.step.Step.TheVariants.{Word}
-use Rattle.tag_core.specs.declared.word_step.WordStep.TheVariants.{Put}
-use Rattle.tag_core.specs.Callers.{Adds, record_of}
-use Rattle.tag_core.specs.Holdings.{Releases}
-use Rattle.tag_search.specs.declared.hint.Hint.{Hint}
+use Rattle.std.specs.Prelude.{◌-◌, ◌^◌, ◌∷◌, ◌≡◌, ◌≤◌}
+use Rattle.tag_cache.proofs.Uses.{active_at, Adds, Agent, ap, arith, batch_of, ByBell, Cache, Caller, caller_of, cap_of, Changes, GivesKept, GivesList, GivesOne, group_steps, GroupStep, Hand, Hint, hint_of, InGroups, inl, inr, Kind, kind_of, Layout, layout_of, length, List, MakesNoStep}
+use Rattle.tag_cache.proofs.Uses.{number_in_set, Ordinary, ordinary_above, place_of, Put, record_of, Releases, Reserved, reserved_of, sighted_beside, sighted_steps, sighting_of, slice_index, split_of, StandsAsBefore, subst, sym, Tags, teller_of, Waits, Word, word_of, ℕ, ⊎_elim, ◌∙◌}
 use Rattle.tag_search.specs.Follows.{ClearFollows}
 use Rattle.wake_book.specs.declared.book.Teller.{Teller}
-use Rattle.wake_book.specs.declared.steps.GroupStep.{GroupStep}
 use Rattle.wake_book.specs.declared.steps.GroupStep.TheVariants.{Look}
 use Rattle.wake_book.specs.Book as book
 use Rattle.wake_book.specs.Charging.{IsCharge}
-use Rattle.wake_book.specs.Groups.{StandsAsBefore, sighted_beside, sighted_steps}
-use Rattle.wake_book.specs.Waits.{active_at}
-use Rattle.tag_queue.specs.declared.agent.Agent.{Agent}
 use Rattle.tag_queue.specs.declared.queue.Queue.{Queue}
-use Rattle.tag_queue.specs.Agents.{caller_of, hint_of, teller_of, waiter_of, sighting_of, group_steps, batch_of, cap_of}
+use Rattle.tag_queue.specs.Agents.{waiter_of, waits_of}
 use Rattle.tag_queue.specs.Batches as queue_batches
 use Rattle.tag_queue.specs.Clears as queue_clears
 use Rattle.tag_queue.specs.Waits as queue_waits
-use Rattle.tag_sets.specs.declared.hand.Hand.{Hand}
-use Rattle.tag_sets.specs.declared.kind.Kind.{Kind}
-use Rattle.tag_sets.specs.declared.kind.Kind.TheVariants.{Ordinary, Reserved}
-use Rattle.tag_sets.specs.declared.tags.Tags.{Tags}
-use Rattle.tag_sets.specs.Sets.{kind_of, number_in_set}
-use Rattle.tag_sets.specs.Hands.{reserved_of, layout_of, split_of, Changes}
 use Rattle.tag_sets.specs.Clears as hand_clears
 use Rattle.tag_sets.specs.Holding as hand_holding
 use Rattle.tag_sets.specs.Waits as hand_waits
-use Rattle.tag_sets.proofs.Numbering.{ordinary_above}
-use Rattle.tag_cache.specs.declared.cache.Cache.{Cache}
-use Rattle.tag_cache.specs.Clears.{GivesOne, GivesList, GivesKept}
-use Rattle.tag_cache.specs.Rings.{MakesNoStep}
 
 -- an agent whose tags, hint, counts and steps are as before
 module _ {R : Type 0} (a b c : Agent R) (caller : caller_of c ≡ caller_of b) (hint : hint_of c ≡ hint_of b) where
@@ -62,26 +42,35 @@ module _ {R : Type 0} (a b c : Agent R) (caller : caller_of c ≡ caller_of b) (
 
   module _ (teller : teller_of c ≡ teller_of b) (steps : group_steps c ≡ group_steps b)
       (stands : StandsAsBefore (waiter_of b) (waiter_of c)) where
+    counts_for_still : sighting_of c ≡ sighting_of b → (waits : Waits) (queue : Queue R) (n woken : ℕ)
+        → queue_clears.CountsFor waits queue n a b woken → queue_clears.CountsFor waits queue n a c woken
+    counts_for_still sighted InGroups queue n woken k = ⊎_elim
+        (λ (f : queue_clears.FindsNoneActive a b woken). inl (record {
+          sights = sights_still sighted 0 f.sights;
+          teller = teller ∙ f.teller;
+          looks = steps ∙ f.looks;
+          none = f.none;
+        }))
+        (λ (s : queue_clears.Charges queue n a b woken). inr (record {
+          active = s.active;
+          some = s.some;
+          sights = sights_still sighted s.active s.sights;
+          charge = s.charge;
+          lawful = subst (λ (t : Teller). IsCharge (cap_of queue) (batch_of queue) n (book.steps_of a.teller)
+              (book.steps_of t) s.charge) (sym teller) s.lawful;
+          follows = subst (λ (x : List GroupStep). queue_clears.Follows (batch_of queue) s.charge
+              (Look active_at s.active ∷ group_steps a) x woken) (sym steps) s.follows;
+        })) k
+    counts_for_still sighted ByBell queue n woken k = record {
+      teller = teller ∙ k.teller;
+      steps = steps ∙ k.steps;
+      none = k.none;
+    }
+
     counts_still : sighting_of c ≡ sighting_of b → (queue : Queue R) (n woken : ℕ)
         → queue_clears.Counts queue n a b woken → queue_clears.Counts queue n a c woken
     counts_still sighted queue n woken k = record {
-      counts = ⊎_elim
-          (λ (f : queue_clears.FindsNoneActive a b woken). inl (record {
-            sights = sights_still sighted 0 f.sights;
-            teller = teller ∙ f.teller;
-            looks = steps ∙ f.looks;
-            none = f.none;
-          }))
-          (λ (s : queue_clears.Charges queue n a b woken). inr (record {
-            active = s.active;
-            some = s.some;
-            sights = sights_still sighted s.active s.sights;
-            charge = s.charge;
-            lawful = subst (λ (t : Teller). IsCharge (cap_of queue) (batch_of queue) n (book.steps_of a.teller)
-                (book.steps_of t) s.charge) (sym teller) s.lawful;
-            follows = subst (λ (x : List GroupStep). queue_clears.Follows (batch_of queue) s.charge
-                (Look active_at s.active ∷ group_steps a) x woken) (sym steps) s.follows;
-          })) k.counts;
+      counts = counts_for_still sighted (waits_of queue) queue n woken k.counts;
       stands = (stands.0 ∙ k.stands.0, stands.1 ∙ k.stands.1, stands.2 ∙ k.stands.2);
     }
 

@@ -1,16 +1,6 @@
 -- What becomes of tags that go back, if it is then told whom that granted a wakeup.
-use Rattle.std.proofs.Common.{arith, ◌≡◌, ℕ, ◌+◌, ◌≤◌, ◌<◌, List, sym, ◌∙◌, subst, ⊎_elim}
-use Rattle.std.proofs.lemmas.Bool.{cases_lt}
-use Rattle.tag_sets.specs.declared.hand.Hand.{Hand}
-use Rattle.tag_sets.specs.declared.tags.Tags.{Tags}
-use Rattle.tag_sets.specs.Hands.{IsHandOf, reserved_of}
-use Rattle.tag_cache.specs.declared.cache.Cache.{Cache}
-use Rattle.tag_cache.specs.Batches.{GivesKeptAndList}
-use Rattle.tag_cache.specs.Caches.{KeepsNone, reused_of}
-use Rattle.tag_cache.specs.Changes.{KeepsOnly, KeepsSame, SameTerms}
-use Rattle.tag_cache.specs.Clears.{GivesKept, GivesList, GivesWith}
-use Rattle.tag_cache.specs.Rings.{MakesNoStep}
-use Rattle.tag_cache.specs.Same.{SameTags}
+use Rattle.std.specs.Prelude.{◌+◌, ◌<◌, ◌≡◌, ◌≤◌}
+use Rattle.tag_cache.proofs.Uses.{arith, Cache, cases_lt, GivesKept, GivesKeptAndList, GivesList, GivesWith, Hand, IsHandOf, KeepsNone, KeepsOnly, KeepsSame, List, MakesNoStep, reserved_of, reused_of, SameTags, SameTerms, subst, sym, Tags, ℕ, ⊎_elim, ◌∙◌}
 use Rattle.tag_cache.specs.Waits.{Enters}
 use Rattle.tag_cache.proofs.Carrying.{keeps_twice, none_after, terms_twice}
 use Rattle.tag_cache.proofs.Telling.{one_still, list_still, kept_still, hand_enters_still}

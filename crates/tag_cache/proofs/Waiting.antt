@@ -1,15 +1,8 @@
 -- Where a tag comes from that a call waited for.
-use Rattle.std.proofs.Common.{ℕ, ◌≡◌, Result, IfOk, Ok, Err, OnOk, inr}
-use Rattle.tag_sets.specs.declared.fault.TagFault.{TagFault}
-use Rattle.tag_sets.specs.declared.tags.Tags.{Tags}
+use Rattle.std.specs.Prelude.{◌≡◌}
+use Rattle.tag_cache.proofs.Uses.{Cache, Err, HoldsMore, IfOk, inr, KeepsNone, KeepsSame, Ok, OnOk, Result, TagFault, Tags, Tallies, WaitsFor, ℕ}
 use Rattle.tag_sets.specs.Gets as hand_gets
 use Rattle.tag_sets.specs.Waits as hand_waits
-use Rattle.tag_cache.specs.declared.cache.Cache.{Cache}
-use Rattle.tag_cache.specs.Caches.{KeepsNone}
-use Rattle.tag_cache.specs.Changes.{KeepsSame}
-use Rattle.tag_cache.specs.Gets.{WaitsFor}
-use Rattle.tag_cache.specs.Holding.{HoldsMore}
-use Rattle.tag_cache.specs.Tallies.{Tallies}
 use Rattle.tag_cache.proofs.Carrying.{more}
 use Rattle.tag_cache.proofs.Tallying.{blocking_moves, moves_tallies}
 

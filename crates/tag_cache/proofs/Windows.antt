@@ -1,14 +1,8 @@
 -- Windows of tags: what is in one after a bit was set or cleared.
-use Rattle.std.proofs.Common.{arith, ◌≡◌, ◌≢◌, ◌⊎◌, ◌↔◌, ℕ, ◌+◌, ◌-◌, ◌*◌, ◌%◌, ◌^◌, ◌<◌, ◌≤◌, inl, inr, sym, ap, ◌∙◌, subst, ⊎_elim}
-use Rattle.std.specs.Prelude.{bit_and, bit_or, count_ones}
-use Rattle.std.specs.Int.{bit_at, bit_not, trailing_zeros, w64}
-use mathlib.Core.Logic.{dite}
-use native.Mathlib.Decide.{ℕ_discrete}
-use Rattle.std.proofs.lemmas.Bool.{cases_lt}
-use Rattle.std.proofs.lemmas.Nat.{one_shl, and_le_l, or_lt}
-use Rattle.std.proofs.lemmas.Nat.Bits.{bit_at-zero, bit_at-lt, bit_at_and, bit_at_or, bit_at-pow_same, bit_at-pow_other, bit_at_above, bit_at-trailing_zeros, bit_at_set_same, bit_at_set_other, bit_at_clear_same, bit_at_clear_other, same_from_bits}
+use Rattle.std.specs.Prelude.{◌%◌, ◌*◌, ◌+◌, ◌-◌, ◌<◌, ◌^◌, ◌↔◌, ◌≡◌, ◌≢◌, ◌≤◌, ◌⊎◌}
+use Rattle.tag_cache.proofs.Uses.{and_le_l, ap, arith, bit_and, bit_at, bit_at-lt, bit_at-pow_other, bit_at-pow_same, bit_at-trailing_zeros, bit_at-zero, bit_at_above, bit_at_and, bit_at_clear_other, bit_at_clear_same, bit_at_or, bit_at_set_other, bit_at_set_same, bit_not, bit_or, cases_lt}
+use Rattle.tag_cache.proofs.Uses.{count_ones, dite, inl, inr, IsIn, one_shl, or_lt, same_from_bits, subst, sym, trailing_zeros, w64, ℕ, ℕ_discrete, ⊎_elim, ◌∙◌}
 use Rattle.tag_queue.proofs.Giving.{ones_more}
-use Rattle.tag_cache.specs.Windows.{IsIn}
 
 -- the mask without the bit at this place
 abbrev pub without_bit : ℕ → ℕ → ℕ

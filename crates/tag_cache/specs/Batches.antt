@@ -1,13 +1,12 @@
 -- Batches of tags over a cache.
-use Rattle.std.specs.Prelude.{◌≡◌, ◌≢◌, ◌⊎◌, ◌↔◌, ℕ, ◌+◌, ◌≤◌, List, All, AllPairs, Contains, Option, Some, None, count_ones}
-use Rattle.tag_sets.specs.declared.hand.Hand.{Hand}
-use Rattle.tag_sets.specs.declared.tags.Tags.{Tags}
+use Rattle.std.specs.Prelude.{◌+◌, ◌↔◌, ◌≡◌, ◌≢◌, ◌≤◌, ◌⊎◌}
+use Rattle.tag_cache.specs.Uses.{All, AllPairs, Contains, count_ones, Hand, List, LooksInGroups, None, Option, Some, Tags, ℕ}
 use Rattle.tag_cache.specs.declared.cache.Cache.{Cache}
 use Rattle.tag_cache.specs.declared.keeping.Keeping.TheVariants.{WhileHolding}
 use Rattle.tag_cache.specs.Caches.{IsKnown, KeepsNone, Holds, keeping_of, reused_of}
 use Rattle.tag_cache.specs.Changes.{KeepsSame, SameFields, SameTerms}
 use Rattle.tag_cache.specs.Windows.{IsIn}
-use Rattle.tag_cache.specs.Clears.{LooksOnce, GivesList, GivesKept}
+use Rattle.tag_cache.specs.Clears.{GivesList, GivesKept}
 
 -- how many tags an answer has: bit 0 of the mask is the first tag
 abbrev pub answered_run : Option (ℕ × ℕ) → ℕ
@@ -33,16 +32,16 @@ abbrev pub LeavesNone : {R : Type 0} → ℕ → Cache R → Type 0
 LeavesNone left cache = (keeping_of cache ≡ WhileHolding) × (left ≡ 0)
 
 -- a look found nobody waiting, and the same tags are kept; the user is known to hold those of this mask of the window
-pub record GoesOn {R : Type 0} (left : ℕ) (old new : Cache R) : Type 0 where
+pub record GoesOn {R : Type 0} (tags : Tags R) (left : ℕ) (old new : Cache R) : Type 0 where
   pub more : ¬ (LeavesNone left old)
-  pub looked : LooksOnce 0 old.hand new.hand
+  pub looked : LooksInGroups tags 0 old.hand new.hand
   pub kept : KeepsSame old new
   pub knows : (other : ℕ) → IsKnown new other ↔ IsIn old.first left other
 
 -- a look called for all kept tags to go back, and changed the hand alone
-pub record CallsForKept {R : Type 0} (left : ℕ) (old new : Cache R) : Type 0 where
+pub record CallsForKept {R : Type 0} (tags : Tags R) (left : ℕ) (old new : Cache R) : Type 0 where
   pub found : ℕ
-  pub looked : LooksOnce found old.hand new.hand
+  pub looked : LooksInGroups tags found old.hand new.hand
   pub why : (1 ≤ found) ⊎ LeavesNone left old
   pub fields : SameFields old new
 
@@ -62,7 +61,7 @@ pub record GivesKeptAndList {R : Type 0} (tags : Tags R) (list : List ℕ) (woke
 pub record ListGoesAlone {R : Type 0} (tags : Tags R) (list : List ℕ) (woken : ℕ) (old new : Cache R) : Type 0 where
   pub more : ¬ (AreLast list old)
   pub between : Hand R
-  pub looked : LooksOnce 0 old.hand between
+  pub looked : LooksInGroups tags 0 old.hand between
   pub gives : GivesList tags list woken between new.hand
   pub kept : KeepsSame old new
 
@@ -70,7 +69,7 @@ pub record ListGoesAlone {R : Type 0} (tags : Tags R) (list : List ℕ) (woken :
 pub record ListGoesWithKept {R : Type 0} (tags : Tags R) (list : List ℕ) (woken : ℕ) (old new : Cache R) : Type 0 where
   pub found : ℕ
   pub between : Hand R
-  pub looked : LooksOnce found old.hand between
+  pub looked : LooksInGroups tags found old.hand between
   pub why : CallsForAll found list old
   pub flushed : Hand R
   pub sooner : ℕ

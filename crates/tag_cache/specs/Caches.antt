@@ -1,9 +1,7 @@
 -- The terms in which contracts speak about a cache.
-use Rattle.std.specs.Prelude.{◌≡◌, ◌⊎◌, ℕ, ◌+◌, ◌<◌, ◌≤◌, List, count_ones}
+use Rattle.std.specs.Prelude.{◌+◌, ◌<◌, ◌≡◌, ◌≤◌, ◌⊎◌}
+use Rattle.tag_cache.specs.Uses.{count_ones, Hand, List, Tags, tags_in, ℕ}
 use mathlib.Core.Option as maybe
-use Rattle.tag_queue.specs.Masks.{tags_in}
-use Rattle.tag_sets.specs.declared.hand.Hand.{Hand}
-use Rattle.tag_sets.specs.declared.tags.Tags.{Tags}
 use Rattle.tag_sets.specs.Hands as hands
 use Rattle.tag_cache.specs.declared.cache.Cache.{Cache}
 use Rattle.tag_cache.specs.declared.cache.TheConstants.{MOST_REUSED}

@@ -1,22 +1,12 @@
 -- What a call does to the cache that makes it, and when it is refused: one record for each call.
-use Rattle.std.specs.Prelude.{◌≡◌, ℕ, ◌<◌, ◌≤◌, ◌↔◌, false, IsTrue, List, length, Contains, count_ones, Option, None, Result, Err, IfOk, IfErr, IfSome, IfNone, OnOk, OnErr, IsOkAnd, ⊤}
-use mathlib.Core.Option.{some}
-use Rattle.refusals.specs.Refusals.{RefusesBy}
-use Rattle.wake_book.specs.declared.groups.Waiter.{Waiter}
+use Rattle.std.specs.Prelude.{◌<◌, ◌↔◌, ◌≡◌, ◌≤◌}
+use Rattle.tag_cache.specs.Uses.{Contains, count_ones, CountsBatch, Err, false, hint_of, IfErr, IfNone, IfOk, IfSome, IsAnswer, IsInRun, IsOkAnd, IsTrue, Leaves, left_free, length, List, None, NoSuchTag, OnErr, OnOk, Option, Ordinary, RefusesBy, reserved_of, Result, some, standing_of, StandsOn}
+use Rattle.tag_cache.specs.Uses.{TagFault, Tags, tags_in, total_of, wait_index_of, Waiter, waiter_of, ℕ, ⊤}
 use Rattle.wake_book.specs.declared.waiting.Left.{Left}
 use Rattle.tag_search.specs.declared.found.Found.{Found}
-use Rattle.tag_queue.specs.Masks.{tags_in}
-use Rattle.tag_sets.specs.declared.fault.TagFault.{TagFault}
-use Rattle.tag_sets.specs.declared.fault.TagFault.TheVariants.{NoSuchTag}
-use Rattle.tag_sets.specs.declared.kind.Kind.TheVariants.{Ordinary}
-use Rattle.tag_sets.specs.declared.tags.Tags.{Tags}
-use Rattle.tag_sets.specs.Freed.{left_free}
 use Rattle.tag_sets.specs.Gets as hands
-use Rattle.tag_sets.specs.Gets.{IsAnswer, IsInRun, CountsBatch}
-use Rattle.tag_sets.specs.Hands.{reserved_of, total_of, hint_of, standing_of, wait_index_of, waiter_of}
 use Rattle.tag_sets.specs.Refusals.{reserved_checks, shallow_checks, batch_checks, wait_checks, leave_checks}
 use Rattle.tag_sets.specs.Slots as hand_slots
-use Rattle.tag_sets.specs.Waits.{Leaves, StandsOn}
 use Rattle.tag_cache.specs.declared.cache.Cache.{Cache}
 use Rattle.tag_cache.specs.Batches.{ListGoes, answered_run}
 use Rattle.tag_cache.specs.Caches.{KeepsNone, IsLast, LeavesWindow, hand_of, slot_of, reused_of}
@@ -151,7 +141,7 @@ pub record DoesTake {R : Type 0} (tag : ℕ) (tags : Tags R) (result : Result �
 -- gives all kept tags back and enters a wait group, and tells in this way whom the kept tags granted a wakeup
 pub record DoesPrepare {R Told : Type 0} (Tells : Told → Waiter → Waiter → Type 0) (tags : Tags R)
     (result : Result (ℕ × Told) TagFault) (old new : Cache R) : Type 0 where
-  pub refusals : RefusesBy (wait_checks (hand_of old)) (IsUnchanged old new) result
+  pub refusals : RefusesBy (wait_checks tags (hand_of old)) (IsUnchanged old new) result
   pub enters : IfOk result (λ found. Enters tags found.0 old new)
   pub tells : IfOk result (λ found. Tells found.1 (waiter_of (hand_of old)) (waiter_of (hand_of new)))
   pub same : HoldsSame old new

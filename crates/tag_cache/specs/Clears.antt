@@ -1,17 +1,11 @@
 -- The effect of clears on the cache that makes them.
-use Rattle.std.specs.Prelude.{◌≡◌, ◌⊎◌, ℕ, ◌+◌, ◌<◌, ◌≤◌, List, ◌∷◌, length}
-use Rattle.wake_book.specs.Groups.{RingsNobody}
+use Rattle.std.specs.Prelude.{◌+◌, ◌<◌, ◌∷◌, ◌≡◌, ◌≤◌, ◌⊎◌}
+use Rattle.tag_cache.specs.Uses.{Hand, kind_of, length, List, LooksInGroups, Ordinary, RingsNobody, Stays, Tags, teller_of, ℕ}
 use Rattle.wake_book.specs.Waits.{active_at}
 use Rattle.wake_book.specs.declared.steps.GroupStep.TheVariants.{Look}
-use Rattle.tag_queue.specs.Agents.{teller_of}
-use Rattle.tag_sets.specs.declared.hand.Hand.{Hand}
-use Rattle.tag_sets.specs.declared.kind.Kind.TheVariants.{Ordinary}
-use Rattle.tag_sets.specs.declared.tags.Tags.{Tags}
-use Rattle.tag_sets.specs.Sets.{kind_of}
 use Rattle.tag_sets.specs.Hands as hands
 use Rattle.tag_sets.specs.Batches as hand_batches
 use Rattle.tag_sets.specs.Clears as hand_clears
-use Rattle.tag_sets.specs.Waits.{Stays}
 use Rattle.tag_cache.specs.declared.cache.Cache.{Cache}
 use Rattle.tag_cache.specs.declared.way.Way.{Way}
 use Rattle.tag_cache.specs.declared.way.Way.TheVariants.{Keep, KeepInstead, GiveBack, GiveBackAll}
@@ -95,12 +89,12 @@ GoesBy KeepInstead tags tag woken old looked new = KeepsInstead tags tag woken o
 GoesBy GiveBack tags tag woken old looked new = GivesAlone tags tag woken old looked new
 GoesBy GiveBackAll tags tag woken old looked new = GivesAll tags tag woken old looked new
 
--- what becomes of an ordinary tag that is cleared: the hand looks once at the active count, and the tag goes the way
+-- what becomes of an ordinary tag that is cleared: the hand looks for others that wait in groups, and the tag goes the way
 -- that this calls for
 pub record GoesOrdinary {R : Type 0} (tags : Tags R) (tag woken : ℕ) (old new : Cache R) : Type 0 where
   pub found : ℕ
   pub between : Hand R
-  pub looked : LooksOnce found old.hand between
+  pub looked : LooksInGroups tags found old.hand between
   pub way : Way
   pub why : CallsFor way tag found old
   pub goes : GoesBy way tags tag woken old between new

@@ -1,9 +1,6 @@
 -- The effect of gets on the cache that makes them.
-use Rattle.std.specs.Prelude.{◌≡◌, ◌⊎◌, ℕ, Option, Some, None}
-use Rattle.tag_sets.specs.declared.hand.Hand.{Hand}
-use Rattle.tag_sets.specs.declared.tags.Tags.{Tags}
-use Rattle.tag_sets.specs.Freed.{GetsAndLooks}
-use Rattle.tag_sets.specs.Gets.{IsAnswer, IsOrdinaryTag}
+use Rattle.std.specs.Prelude.{◌≡◌, ◌⊎◌}
+use Rattle.tag_cache.specs.Uses.{GetsAndLooks, Hand, IsAnswer, IsOrdinaryTag, None, Option, Some, Tags, ℕ}
 use Rattle.tag_sets.specs.Gets as hands
 use Rattle.tag_sets.specs.Waits as hand_waits
 use Rattle.tag_cache.specs.declared.cache.Cache.{Cache}

@@ -1,7 +1,6 @@
 -- How the tags that the user of a cache holds change, and the values of their slots.
-use Rattle.std.specs.Prelude.{◌≡◌, ◌≢◌, ◌⊎◌, ℕ}
-use mathlib.Core.Option.{some}
-use Rattle.tag_sets.specs.declared.hand.Hand.{Hand}
+use Rattle.std.specs.Prelude.{◌≡◌, ◌≢◌, ◌⊎◌}
+use Rattle.tag_cache.specs.Uses.{Hand, some, ℕ}
 use Rattle.tag_sets.specs.Hands as hands
 use Rattle.tag_cache.specs.declared.cache.Cache.{Cache}
 use Rattle.tag_cache.specs.Caches.{Holds, slot_of}

@@ -1,3 +1,4 @@
+mod Uses
 pub mod Bell
 pub mod Sleeping
 pub mod Windows

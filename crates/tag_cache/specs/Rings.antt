@@ -1,13 +1,7 @@
 -- Grants that are passed on.
 use Rattle.std.specs.Prelude.{◌≡◌}
+use Rattle.tag_cache.specs.Uses.{agent_of, GrantsUnrung, group_steps, Hand, Ordinary, sighting_of, Stays, teller_of, Waiter, waiter_of}
 use Rattle.wake_book.specs.declared.grants.TheConstants.{NO_GRANTS}
-use Rattle.wake_book.specs.Groups.{GrantsUnrung}
-use Rattle.wake_book.specs.declared.groups.Waiter.{Waiter}
-use Rattle.tag_queue.specs.Agents.{teller_of, sighting_of}
-use Rattle.tag_sets.specs.declared.hand.Hand.{Hand}
-use Rattle.tag_sets.specs.declared.kind.Kind.TheVariants.{Ordinary}
-use Rattle.tag_sets.specs.Hands.{agent_of, group_steps, waiter_of}
-use Rattle.tag_sets.specs.Waits.{Stays}
 
 -- the hand granted nobody a wakeup in between, and rang for nobody
 abbrev pub GrantsNone : {R : Type 0} → Hand R → Hand R → Type 0

@@ -1,7 +1,6 @@
 -- How tags pass on from the users of caches.
-use Rattle.std.specs.Prelude.{◌≡◌, ℕ}
-use Rattle.tag_sets.specs.declared.hand.Hand.{Hand}
-use Rattle.tag_sets.specs.declared.tags.Tags.{Tags}
+use Rattle.std.specs.Prelude.{◌≡◌}
+use Rattle.tag_cache.specs.Uses.{Hand, Tags, ℕ}
 use Rattle.tag_sets.specs.Slots as hands
 use Rattle.tag_cache.specs.declared.cache.Cache.{Cache}
 use Rattle.tag_cache.specs.Caches.{IsLast, KeepsNone, hand_of}

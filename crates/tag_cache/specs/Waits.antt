@@ -1,7 +1,5 @@
 -- How the users of caches wait.
-use Rattle.std.specs.Prelude.{ℕ}
-use Rattle.tag_sets.specs.declared.hand.Hand.{Hand}
-use Rattle.tag_sets.specs.declared.tags.Tags.{Tags}
+use Rattle.tag_cache.specs.Uses.{Hand, Tags, ℕ}
 use Rattle.tag_sets.specs.Waits as hands
 use Rattle.tag_cache.specs.declared.cache.Cache.{Cache}
 use Rattle.tag_cache.specs.Caches.{KeepsNone, hand_of}

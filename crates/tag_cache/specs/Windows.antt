@@ -1,7 +1,7 @@
 -- Sets of tags by a window: its first tag and a mask.
-use Rattle.std.specs.Prelude.{◌≡◌, ℕ, ◌-◌, ◌≤◌}
+use Rattle.std.specs.Prelude.{◌-◌, ◌≡◌, ◌≤◌}
+use Rattle.tag_cache.specs.Uses.{Hand, ℕ}
 use Rattle.std.specs.Int.{bit_at}
-use Rattle.tag_sets.specs.declared.hand.Hand.{Hand}
 use Rattle.tag_sets.specs.Hands as hands
 
 -- the tag is in the window that begins with this number, and its bit there is 1

@@ -14,17 +14,17 @@ use tag_sets::{Grants, Tags};
 
 impl<R: Copy> Cache<R> {
     /// Returns whether the kept tags may stay, and if so says that the user is known to hold only the tags that are
-    /// `left`, which are a mask of the window. They have to go back if somebody waits, or if nothing may be kept any more
+    /// `left`, which are a mask of the window. They have to go back if somebody waits in a group, or if nothing may be kept any more
     /// once the user is known to hold no others.
     #[inline]
     pub(crate) fn goes_on(&mut self, tags: &Tags<R>, left: u64) -> bool
         requires cache { IsCacheOf tags.now self.old }
         requires left { (other : ℕ) → IsIn self.old.first left other → IsKnown self.old other }
         ensures cache { IsCacheOf tags.now self.new }
-        ensures on { IsTrue result → GoesOn left self.old self.new }
-        ensures ends { IsFalse result → CallsForKept left self.old self.new }
+        ensures on { IsTrue result → GoesOn tags.now left self.old self.new }
+        ensures ends { IsFalse result → CallsForKept tags.now left self.old self.new }
     {
-        if tags.active(&mut self.hand) != 0 {
+        if tags.active_in_groups(&mut self.hand) != 0 {
             return false;
         }
         if self.leaves_none(left) {

@@ -1,21 +1,23 @@
 //! Waits for an ordinary tag by the bell: a hand lists itself, learns that it was told, and gets up; and whoever makes
 //! ordinary tags free, or keeps them, sees to them. A hand that waits so is in no wait group.
-ghost use Rattle.std.specs.Prelude.{◌≡◌, ◌+◌, ◌*◌, ◌<◌};
+ghost use Rattle.std.specs.Prelude.{◌≡◌, ◌+◌, ◌*◌, ◌<◌, OnOk};
+ghost use Rattle.refusals.specs.Refusals.{RefusesBy};
 ghost use Rattle.tag_layout.specs.Layout.{words};
 ghost use Rattle.tag_core.specs.declared.bell.TheConstants.{LISTS};
 ghost use Rattle.tag_queue.specs.Bell as queue;
 ghost use Rattle.tag_sets.specs.Hands.{layout_of, waiter_of, Changes};
 ghost use Rattle.tag_sets.specs.declared.kind.Kind.TheVariants.{Ordinary};
+ghost use Rattle.tag_sets.specs.Refusals.{bell_checks};
 ghost use Rattle.tag_cache.specs.Bell.{GivesAndTells, DoesSeeTo};
 ghost use Rattle.tag_cache.specs.Caches.{IsCacheOf, KeepsNone, hand_of, reused_of};
-ghost use Rattle.tag_cache.specs.Changes.{SameTerms, SameWindow};
+ghost use Rattle.tag_cache.specs.Changes.{IsUnchanged, SameTerms, SameWindow};
 ghost use Rattle.tag_cache.specs.Holding.{HoldsSame};
 ghost use Rattle.tag_cache.specs.Same.{SameTags};
 ghost use Rattle.tag_cache.specs.Tallies.{Tallies};
 
 use crate::cache::Cache;
 use tag_bell::Told;
-use tag_sets::{Tags, Waking};
+use tag_sets::{TagFault, Tags, Waking};
 
 impl<R> Cache<R> {
     ghost use Rattle.std.specs.Prelude.{◌↔◌, IsSome, IsTrue};
@@ -32,26 +34,30 @@ impl<R> Cache<R> {
 }
 
 impl<R: Copy> Cache<R> {
-    /// Lists the hand among those that wait, with the next turn, as `Tags::list_self` does. A get that finds no tag keeps none either.
-    pub fn list_self(&mut self, tags: &Tags<R>, list: u32)
+    /// Lists the hand among those that wait, with the next turn, as `Tags::list_self` does. A get that finds no tag keeps
+    /// none either. `OtherWait` means that hands wait in groups.
+    pub fn list_self(&mut self, tags: &Tags<R>, list: u32) -> Result<(), TagFault>
         requires cache { IsCacheOf tags.now self.old }
         requires within { list < LISTS }
         ensures cache { IsCacheOf tags.now self.new }
-        ensures lists { Changes Ordinary (queue.ListsSelf list) (hand_of self.old) (hand_of self.new) }
+        ensures refusals { RefusesBy (bell_checks tags.now) (IsUnchanged self.old self.new) result }
+        ensures lists { OnOk result (Changes Ordinary (queue.ListsSelf list) (hand_of self.old) (hand_of self.new)) }
         ensures same { SameTags self.old self.new }
     {
-        tags.list_self(&mut self.hand, list);
+        tags.list_self(&mut self.hand, list)
     }
 
     /// Lists the hand with the turn that it had, as `Tags::list_again` does: for one that was told and found no tag.
-    pub fn list_again(&mut self, tags: &Tags<R>, list: u32)
+    /// It is refused as `list_self` is: `OtherWait`.
+    pub fn list_again(&mut self, tags: &Tags<R>, list: u32) -> Result<(), TagFault>
         requires cache { IsCacheOf tags.now self.old }
         requires within { list < LISTS }
         ensures cache { IsCacheOf tags.now self.new }
-        ensures lists { Changes Ordinary (queue.ListsSelf list) (hand_of self.old) (hand_of self.new) }
+        ensures refusals { RefusesBy (bell_checks tags.now) (IsUnchanged self.old self.new) result }
+        ensures lists { OnOk result (Changes Ordinary (queue.ListsSelf list) (hand_of self.old) (hand_of self.new)) }
         ensures same { SameTags self.old self.new }
     {
-        tags.list_again(&mut self.hand, list);
+        tags.list_again(&mut self.hand, list)
     }
 
     /// Ends the hand's wait, and returns whether somebody had told it, or it did not wait there, as `Tags::get_up` does.
@@ -81,7 +87,7 @@ impl<R: Copy> Cache<R> {
     pub fn see_to<W: Waking>(&mut self, tags: &Tags<R>, freed: u32) -> (Told, W::Answer)
         requires { IsCacheOf tags.now self.old }
         ensures cache { IsCacheOf tags.now self.new }
-        ensures does { DoesSeeTo W.woken W.tells tags.now result self.old self.new }
+        ensures does { DoesSeeTo freed W.woken W.tells tags.now result self.old self.new }
     {
         if !tags.finds_waiters(&mut self.hand) {
             return (Told::none(), W::nobody());
@@ -94,7 +100,8 @@ impl<R: Copy> Cache<R> {
     fn give_back_and_tell<W: Waking>(&mut self, tags: &Tags<R>, freed: u32) -> (Told, W::Answer)
         requires { IsCacheOf tags.now self.old }
         ensures cache { IsCacheOf tags.now self.new }
-        ensures gives { GivesAndTells tags.now result.0 (W.woken result.1) self.old (hand_of self.old) (hand_of self.new) }
+        ensures gives { GivesAndTells freed tags.now result.0 (W.woken result.1) self.old
+            (hand_of self.old) (hand_of self.new) }
         ensures none { KeepsNone self.new }
         ensures tells { W.tells result.1 (waiter_of (hand_of self.old)) (waiter_of (hand_of self.new)) }
         ensures same { HoldsSame self.old self.new }
@@ -113,7 +120,7 @@ impl<R: Copy> Cache<R> {
     pub fn see_to_all(&mut self, tags: &Tags<R>) -> Told
         requires { IsCacheOf tags.now self.old }
         ensures cache { IsCacheOf tags.now self.new }
-        ensures sees_to { Changes Ordinary (queue.SeesTo (2 * words (layout_of tags.now Ordinary) + 8) result)
+        ensures sees_to { Changes Ordinary (queue.SeesTo 1 (2 * words (layout_of tags.now Ordinary) + 8) result)
             (hand_of self.old) (hand_of self.new) }
         ensures same { SameTags self.old self.new }
     {

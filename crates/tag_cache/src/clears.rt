@@ -14,10 +14,10 @@ use crate::way::Way;
 use tag_sets::{Kind, Report, TagFault, Tags, Waking};
 
 impl<R: Copy> Cache<R> {
-    /// Clears a tag that the user holds, and answers as `W` says whom this granted a wakeup. While nobody waits, an
-    /// ordinary tag is kept, by no step but the load of the active count. If there is no place for it, all kept tags go
-    /// back and it is kept instead of them; if it may not be kept, it goes back alone. If somebody waits, all kept tags
-    /// go back with it. `NoSuchTag` means that the number is not below the total, `NotHeld` that the user does not hold
+    /// Clears a tag that the user holds, and answers as `W` says whom this granted a wakeup. While nobody waits in a
+    /// group, an ordinary tag is kept, by no step but the load of the active count, and by none where hands wait by the
+    /// bell. If there is no place for it, all kept tags go back and it is kept instead of them; if it may not be kept, it
+    /// goes back alone. If somebody waits in a group, all kept tags go back with it. `NoSuchTag` means that the number is not below the total, `NotHeld` that the user does not hold
     /// the tag, as where it is kept; nothing changes then.
     #[inline(always)]
     pub fn clear<W: Waking>(&mut self, tags: &Tags<R>, tag: u32) -> Result<W::Answer, TagFault>

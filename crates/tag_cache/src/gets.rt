@@ -1,5 +1,6 @@
 //! Gets: the calls that take tags.
 ghost use Rattle.std.specs.Prelude.{◌≡◌, ◌<◌, IfOk, OnOk, None};
+ghost use Rattle.tag_queue.specs.declared.queue.Waits.TheVariants.{InGroups};
 ghost use Rattle.tag_sets.specs.Refusals as of_hand;
 ghost use Rattle.tag_sets.specs.Freed.{GetsAndLooks};
 ghost use Rattle.tag_sets.specs.Gets as hands;
@@ -16,7 +17,7 @@ ghost use Rattle.tag_cache.specs.Calls.{DoesGetReserved};
 
 use crate::cache::Cache;
 use std::sync::Wait;
-use tag_sets::{TagFault, Tags};
+use tag_sets::{TagFault, Tags, Waits};
 
 impl<R: Copy> Cache<R> {
     /// Returns the least kept tag, by no step. If no tag is kept it takes a free ordinary tag as `Tags::get` does, and
@@ -65,18 +66,21 @@ impl<R: Copy> Cache<R> {
     }
 
     /// Returns a kept tag, or takes a free ordinary tag and waits as long as it finds none, as `Tags::get_blocking` does.
-    /// If no tag is kept, `NoSuchTag` means that there are no ordinary tags, `Waiting` that the hand is already in a wait
-    /// group, `Spent` that its life is used up.
+    /// `OtherWait` means that hands wait by the bell. If no tag is kept, `NoSuchTag` means that there are no ordinary tags,
+    /// `Waiting` that the hand is already in a wait group, `Spent` that its life is used up.
     pub fn get_blocking<W: Wait>(&mut self, rt: &W, tags: &Tags<R>) -> Result<u32, TagFault>
         requires { IsCacheOf tags.now self.old }
         ensures cache { IsCacheOf tags.now self.new }
-        ensures refusals { RefusesBy (blocking_checks tags.now self.old) (IsUnchanged self.old self.new) result }
+        ensures refusals { RefusesBy (blocking_checks InGroups tags.now self.old) (IsUnchanged self.old self.new) result }
         ensures more { IfOk result (λ tag. HoldsMore (λ other. other ≡ tag) self.old self.new) }
         ensures ordinary { IfOk result (λ tag. IsOrdinaryTag tags.now tag) }
         ensures waits { IfOk result (λ tag. WaitsFor tags.now tag self.old self.new) }
         ensures knows { IfOk result (λ tag. Learns tag self.old self.new) }
         ensures tally { OnOk result (Tallies 1 0 self.old self.new) }
     {
+        if tags.waits() != Waits::InGroups {
+            return Err(TagFault::OtherWait);
+        }
         if self.keeps_none() {
             return self.wait_for(rt, tags);
         }
@@ -89,7 +93,7 @@ impl<R: Copy> Cache<R> {
         requires cache { IsCacheOf tags.now self.old }
         requires none { KeepsNone self.old }
         ensures cache { IsCacheOf tags.now self.new }
-        ensures refusals { RefusesBy (of_hand.blocking_checks tags.now (hand_of self.old)) (IsUnchanged self.old self.new) result }
+        ensures refusals { RefusesBy (of_hand.blocking_checks InGroups tags.now (hand_of self.old)) (IsUnchanged self.old self.new) result }
         ensures gets { IfOk result (λ tag. hands.BlockingGets tags.now tag (hand_of self.old) (hand_of self.new)) }
         ensures waits { IfOk result (λ tag. hand_waits.WaitsFor tags.now tag (hand_of self.old) (hand_of self.new)) }
         ensures kept { KeepsSame self.old self.new }

@@ -1,12 +1,13 @@
 //! Sleeps by the bell for an ordinary tag, and who wakes the sleepers: a hand sleeps until it is told, and whoever
 //! tells hands wakes the sleepers among them. A cache whose hand sleeps keeps nothing.
-ghost use Rattle.std.specs.Prelude.{◌≡◌, IfOk};
+ghost use Rattle.std.specs.Prelude.{◌≡◌, IfOk, ⊤};
 ghost use Rattle.refusals.specs.Refusals.{RefusesBy};
 ghost use Rattle.tag_bell.specs.declared.told.TheConstants.{SLEEPERS};
 ghost use Rattle.tag_bell.specs.Callers.{IsWaiting};
 ghost use Rattle.tag_bell.specs.Calls.{nobody};
 ghost use Rattle.tag_bell.specs.Sleeping.{told_by};
 ghost use Rattle.tag_search.specs.Vain.{MaySleep};
+ghost use Rattle.tag_queue.specs.declared.queue.Waits.TheVariants.{ByBell};
 ghost use Rattle.tag_queue.specs.Agents as queue;
 ghost use Rattle.tag_queue.specs.Sleeping.{see_to_all_steps};
 ghost use Rattle.tag_sets.specs.declared.kind.Kind.TheVariants.{Ordinary};
@@ -22,12 +23,13 @@ ghost use Rattle.tag_cache.specs.Sleeping.{DoesClearAndWake, GetsSleeping, SeesT
 use crate::cache::Cache;
 use std::sync::Wait;
 use tag_bell::{Told, Woken};
-use tag_sets::{Kind, Ring, TagFault, Tags};
+use tag_sets::{Count, Kind, Ring, TagFault, Tags, Waits};
 
 impl<R: Copy> Cache<R> {
     /// Returns a kept tag, or takes a free ordinary tag and waits by the bell as long as it finds none, as
-    /// `Tags::get_sleeping` does. With the tag it returns whom it woke: nobody if the tag was kept. It is refused as
-    /// `get_blocking` is: if no tag is kept, `NoSuchTag`, `Waiting`, `Spent`.
+    /// `Tags::get_sleeping` does. With the tag it returns whom it woke: nobody if the tag was kept. `OtherWait` means
+    /// that hands wait in groups; otherwise it is refused as `get_blocking` is: if no tag is kept, `NoSuchTag`,
+    /// `Waiting`, `Spent`.
     pub fn get_sleeping<W: Wait>(
         &mut self,
         rt: &W,
@@ -35,9 +37,10 @@ impl<R: Copy> Cache<R> {
     ) -> Result<(u32, Woken), TagFault>
         requires { IsCacheOf tags.now self.old }
         ensures cache { IsCacheOf tags.now self.new }
-        ensures refusals { RefusesBy (blocking_checks tags.now self.old) (IsUnchanged self.old self.new) result }
+        ensures refusals { RefusesBy (blocking_checks ByBell tags.now self.old) (IsUnchanged self.old self.new) result }
         ensures gets { IfOk result (λ got. GetsSleeping tags.now got.0 got.1 self.old self.new) }
     {
+        find_bell(tags)?;
         if self.keeps_none() {
             return self.sleep_for(rt, tags);
         }
@@ -50,7 +53,7 @@ impl<R: Copy> Cache<R> {
         requires cache { IsCacheOf tags.now self.old }
         requires none { KeepsNone self.old }
         ensures cache { IsCacheOf tags.now self.new }
-        ensures refusals { RefusesBy (of_hand.blocking_checks tags.now (hand_of self.old))
+        ensures refusals { RefusesBy (of_hand.blocking_checks ByBell tags.now (hand_of self.old))
             (IsUnchanged self.old self.new) result }
         ensures gets { IfOk result (λ got.
             hands.GetsSleeping tags.now got.0 got.1 (hand_of self.old) (hand_of self.new)) }
@@ -94,7 +97,7 @@ impl<R: Copy> Cache<R> {
     pub fn wake(&mut self, tags: &Tags<R>, freed: u32) -> Woken
         requires { IsCacheOf tags.now self.old }
         ensures cache { IsCacheOf tags.now self.new }
-        ensures wakes { SeesToAndWakes tags.now result self.old self.new }
+        ensures wakes { SeesToAndWakes freed tags.now result self.old self.new }
     {
         let (told, _) = self.see_to::<Ring>(tags, freed);
         self.wake_told(tags, told)
@@ -105,28 +108,41 @@ impl<R: Copy> Cache<R> {
     pub fn wake_next(&mut self, tags: &Tags<R>) -> Woken
         requires { IsCacheOf tags.now self.old }
         ensures cache { IsCacheOf tags.now self.new }
-        ensures wakes { hands.SeesToAndWakes (see_to_all_steps (layout_of tags.now Ordinary)) result
+        ensures wakes { hands.SeesToAndWakes 1 (see_to_all_steps (layout_of tags.now Ordinary)) result
             (hand_of self.old) (hand_of self.new) }
         ensures same { SameTags self.old self.new }
     {
         tags.wake_next(&mut self.hand)
     }
 
-    /// Clears a tag that the user holds as `clear::<Ring>` does. If it is an ordinary one and somebody waits by the
-    /// bell, all kept tags then go back, and it tells up to as many hands of each list as tags became free in all, and
-    /// wakes those that sleep. Returns whom it told. It is refused as `clear` is: `NoSuchTag`, `NotHeld`.
+    /// Clears a tag that the user holds as `clear` does. If it is an ordinary one and somebody waits by the bell, all
+    /// kept tags then go back, and it tells up to as many hands of each list as tags became free in all, and wakes those
+    /// that sleep. Returns whom it told. `OtherWait` means that hands wait in groups; otherwise it is refused as `clear`
+    /// is: `NoSuchTag`, `NotHeld`.
     pub fn clear_and_wake(&mut self, tags: &Tags<R>, tag: u32) -> Result<Woken, TagFault>
         requires { IsCacheOf tags.now self.old }
         ensures cache { IsCacheOf tags.now self.new }
         ensures does { DoesClearAndWake tag tags.now result self.old self.new }
     {
+        find_bell(tags)?;
         let kind = tags.find(tag)?;
         // The kept tags and this one: if somebody waits all of them go back, by the clear or after it.
         let freed = self.count() + 1;
-        self.clear::<Ring>(tags, tag)?;
+        self.clear::<Count>(tags, tag)?;
         match kind {
             Kind::Ordinary => Ok(self.wake(tags, freed)),
             Kind::Reserved => Ok(Woken::none()),
         }
     }
+}
+
+/// Checks that hands wait by the bell.
+#[inline]
+fn find_bell<R>(tags: &Tags<R>) -> Result<(), TagFault>
+    ensures { RefusesBy (of_hand.bell_checks tags.now) ⊤ result }
+{
+    if tags.waits() != Waits::ByBell {
+        return Err(TagFault::OtherWait);
+    }
+    Ok(())
 }

@@ -1,7 +1,8 @@
 //! Waits for an ordinary tag. A thread that begins to wait keeps nothing.
 ghost use Rattle.std.specs.Prelude.{◌≡◌, IfOk, None};
 ghost use Rattle.tag_sets.specs.Refusals as of_hand;
-ghost use Rattle.tag_sets.specs.Hands.{standing_of, wait_index_of, waiter_of};
+ghost use Rattle.tag_sets.specs.Hands.{standing_of, wait_index_of, waiter_of, waits_of};
+ghost use Rattle.tag_queue.specs.declared.queue.Waits.TheVariants.{InGroups};
 ghost use Rattle.wake_book.specs.Groups.{RingsNobody};
 ghost use Rattle.tag_sets.specs.Waits as hands;
 ghost use Rattle.tag_sets.specs.Waits.{Leaves};
@@ -13,17 +14,20 @@ ghost use Rattle.tag_cache.specs.Calls.{DoesPrepare, DoesFinish};
 
 use crate::cache::Cache;
 use std::sync::Wait;
-use tag_sets::{Left, Report, TagFault, Tags, Waking};
+use tag_sets::{Left, Report, TagFault, Tags, Waits, Waking};
 
 impl<R: Copy> Cache<R> {
     /// Gives all kept tags back, as `flush` does, and then enters the wait group of the hand's wait index, as
     /// `Tags::prepare_wait` does. Returns the group, 0 to 7, and answers as `W` says whom the kept tags granted a wakeup.
-    /// `Waiting` means that the hand is already in a group.
+    /// `OtherWait` means that hands wait by the bell, `Waiting` that the hand is already in a group.
     pub fn prepare_wait<W: Waking>(&mut self, tags: &Tags<R>) -> Result<(u32, W::Answer), TagFault>
         requires { IsCacheOf tags.now self.old }
         ensures cache { IsCacheOf tags.now self.new }
         ensures does { DoesPrepare W.tells tags.now result self.old self.new }
     {
+        if tags.waits() != Waits::InGroups {
+            return Err(TagFault::OtherWait);
+        }
         if self.hand.is_waiting() {
             return Err(TagFault::Waiting);
         }
@@ -35,6 +39,7 @@ impl<R: Copy> Cache<R> {
     /// Enters a wait group with a hand that is in none.
     fn enter(&mut self, tags: &Tags<R>) -> u32
         requires cache { IsCacheOf tags.now self.old }
+        requires kind { waits_of tags.now ≡ InGroups }
         requires out { standing_of (hand_of self.old) ≡ None }
         ensures cache { IsCacheOf tags.now self.new }
         ensures enters { hands.Enters result (hand_of self.old) (hand_of self.new) }

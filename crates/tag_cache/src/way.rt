@@ -22,17 +22,17 @@ pub(crate) enum Way {
 impl<R: Copy> Cache<R> {
     ghost use Rattle.tag_cache.specs.Caches.{IsCacheOf, hand_of};
     ghost use Rattle.tag_cache.specs.Changes.{SameFields};
-    ghost use Rattle.tag_cache.specs.Clears.{LooksOnce};
+    ghost use Rattle.tag_sets.specs.Waits.{LooksInGroups};
 
-    /// Loads the number of active waiters. It changes nothing but the list of the hand's steps.
+    /// Looks for hands that wait in groups. It changes nothing but the list of the hand's steps.
     #[inline(always)]
     pub(crate) fn look(&mut self, tags: &Tags<R>) -> u64
         requires { IsCacheOf tags.now self.old }
         ensures cache { IsCacheOf tags.now self.new }
-        ensures looks { LooksOnce result (hand_of self.old) (hand_of self.new) }
+        ensures looks { LooksInGroups tags.now result (hand_of self.old) (hand_of self.new) }
         ensures fields { SameFields self.old self.new }
     {
-        tags.active(&mut self.hand)
+        tags.active_in_groups(&mut self.hand)
     }
 }
 

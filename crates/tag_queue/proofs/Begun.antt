@@ -1,28 +1,18 @@
 -- A first try, and what follows it, are together a get.
-use Rattle.std.proofs.Common.{◌≡◌, ℕ, length, Option, Some, Result, Ok, Err, arith, sym, ap, ◌∙◌, subst}
-use Rattle.std.specs.Prelude.{IfOk, IfErr}
-use Rattle.tag_core.specs.declared.caller.Caller.{Caller}
-use Rattle.tag_core.specs.Callers.{IsCallerOf}
-use Rattle.wake_book.specs.declared.book.Teller.{Teller}
-use Rattle.wake_book.specs.declared.groups.Waiter.{Waiter}
+use Rattle.std.specs.Prelude.{◌≡◌}
+use Rattle.tag_queue.proofs.Uses.{Agent, ap, arith, Caller, caller_of, Err, HasRoom, Hint, hint_of, HintFollows, IfErr, IfOk, IsAgentOf, IsCallerOf, layout_of, length, Makes, most_steps, Ok, Queue, Result, SameCounts, Some, subst, sym, Teller, Waiter, ℕ, ◌∙◌}
+use Rattle.std.proofs.Common.{Option}
 use Rattle.wake_book.specs.Book as book
 use Rattle.wake_book.specs.Groups as groups
 use Rattle.tag_search.specs.declared.found.Found.{Found}
-use Rattle.tag_search.specs.declared.hint.Hint.{Hint}
 use Rattle.tag_search.specs.declared.search.Unfinished.{Unfinished}
 use Rattle.tag_search.specs.Begun.{IsBegun, IsRestOfGet, IsWonAtOnce}
-use Rattle.tag_search.specs.Follows.{HintFollows}
 use Rattle.tag_search.specs.Freed.{left_free}
-use Rattle.tag_search.specs.Shared.{Makes}
 use Rattle.tag_search.proofs.BegunFacts.{GaveNone, begun_frees_none, begun_same}
 use Rattle.tag_search.proofs.FreedFacts.{freed_same, none_left, left_since}
 use Rattle.tag_search.proofs.MapGets.{won_got, rest_got}
 use Rattle.tag_search.proofs.VainGets.{none_found}
-use Rattle.tag_queue.specs.declared.agent.Agent.{Agent}
-use Rattle.tag_queue.specs.declared.queue.Queue.{Queue}
-use Rattle.tag_queue.specs.Agents.{layout_of, caller_of, hint_of, HasRoom, IsAgentOf, SameCounts}
 use Rattle.tag_queue.specs.Begun.{GetsFreed, TriesFirst}
-use Rattle.tag_queue.specs.Gets.{most_steps}
 use Rattle.tag_queue.proofs.Getting.{few_steps}
 
 -- a caller that makes a first try gives nothing back

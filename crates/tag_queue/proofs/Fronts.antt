@@ -1,8 +1,7 @@
 -- Lists of parts that are taken from the front one by one.
-use Rattle.std.proofs.Common.{◌≡◌, ℕ, List, [], ◌∷◌, ◌++◌, map, length, append_assoc, refl, sym, ap, ◌∙◌, subst}
+use Rattle.std.specs.Prelude.{◌++◌, ◌∷◌, ◌≡◌}
+use Rattle.tag_queue.proofs.Uses.{[], ap, append_assoc, get_elem?, length, List, map, refl, some, subst, sym, ℕ, ◌∙◌}
 use mathlib.Core.List.{map-append}
-use mathlib.Core.Option.{some}
-use lib.ListN.{get_elem?}
 
 module _ {A B : Type 0} (f : A → B) where
   at_middle : (made : List A) (x : B) (left : List B) → get_elem? (map f made ++ x ∷ left) (length made) ≡ some x

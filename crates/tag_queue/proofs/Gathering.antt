@@ -1,23 +1,14 @@
 -- All agents together: which are present, and the sums over them.
-use Rattle.std.proofs.Common.{◌≡◌, ℕ, ◌≤◌, List, [], ◌∷◌, map, arith, refl, sym, ap, ◌∙◌}
-use Rattle.step_ledger.specs.Records.{numbers, sum_over}
-use Rattle.step_ledger.specs.History.{total}
+use Rattle.std.specs.Prelude.{◌∷◌, ◌≡◌, ◌≤◌}
+use Rattle.tag_queue.proofs.Uses.{[], added, Agent, ap, arith, IsBalanced, IsBooked, List, map, moved_by, numbers_of, Queue, Record, record_of, records_of, refl, sum_over, sym, taken, teller_of, total, waiter_of, ℕ, ◌∙◌}
+use Rattle.step_ledger.specs.Records.{numbers}
 use Rattle.tag_core.specs.declared.closed.Closed.{Closed}
-use Rattle.tag_core.specs.declared.record.Record.{Record}
-use Rattle.tag_core.specs.Callers.{record_of}
 use Rattle.tag_core.specs.Gathering as tags
 use Rattle.tag_core.specs.Sizes.{total_of}
 use Rattle.wake_book.specs.declared.book.BookTotals.{BookTotals}
 use Rattle.wake_book.specs.declared.groups.GroupTotals.{GroupTotals}
 use Rattle.wake_book.specs.Book as book
 use Rattle.wake_book.specs.Groups as groups
-use Rattle.wake_book.specs.Booked.{IsBooked}
-use Rattle.wake_book.specs.Balance.{IsBalanced}
-use Rattle.wake_book.specs.Charges.{added, taken}
-use Rattle.wake_book.specs.Waits.{moved_by}
-use Rattle.tag_queue.specs.declared.agent.Agent.{Agent}
-use Rattle.tag_queue.specs.declared.queue.Queue.{Queue}
-use Rattle.tag_queue.specs.Agents.{teller_of, waiter_of, numbers_of, records_of}
 use Rattle.tag_queue.specs.Gathering.{IsGathered}
 
 module _ {R : Type 0} where

@@ -1,12 +1,6 @@
 -- How many steps a get makes.
-use Rattle.std.proofs.Common.{◌≡◌, ℕ, ◌+◌, ◌≤◌, List, [], ◌∷◌, length, arith, ap}
-use Rattle.tag_core.specs.declared.caller.Caller.{Caller}
-use Rattle.tag_core.specs.declared.word_step.WordStep.{WordStep}
-use Rattle.tag_core.specs.declared.record.Record.{Record}
-use Rattle.tag_core.specs.declared.step.Step.TheVariants.{Word}
-use Rattle.tag_core.specs.Callers.{record_of}
-use Rattle.tag_core.specs.Records.{record_after}
-use Rattle.tag_search.specs.Shared.{Makes, record_after_all}
+use Rattle.std.specs.Prelude.{◌+◌, ◌∷◌, ◌≡◌, ◌≤◌}
+use Rattle.tag_queue.proofs.Uses.{[], ap, arith, Caller, length, List, Makes, Record, record_after, record_after_all, record_of, Word, WordStep, ℕ}
 
 steps_after : {R : Type 0} (steps : List WordStep) (r : Record R)
     → length (record_after_all steps r).steps ≡ length steps + length r.steps

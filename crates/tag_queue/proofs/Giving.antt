@@ -1,31 +1,9 @@
 -- Tags that are freed one after another, with one mask for successive tags of a word.
-use Rattle.std.proofs.Common.{◌≡◌, ◌≢◌, ℕ, ◌+◌, ◌/◌, ◌%◌, ◌^◌, ◌<◌, ◌≤◌, ◌↔◌, max, List, [], ◌∷◌, ◌++◌, length, length-append, take, get_or, bit_or, count_ones, refl, sym, ap, ◌∙◌, subst, ⊎_elim, eq-eqb, ne_eqb, arith}
-use mathlib.Core.Logic.{dite}
-use native.Mathlib.Decide.{ℕ_discrete}
-use Rattle.std.specs.Prelude.{AllPairs, Contains}
-use Rattle.std.specs.Int.{bit_at}
-use Rattle.std.proofs.lemmas.Grind.{get_or_default_zero}
-use Rattle.std.proofs.lemmas.List.{length-take, get_or-take}
-use Rattle.std.proofs.lemmas.List.Elements.{Contains-append_left, Contains-append_right, Contains-append_cases, Contains-push, Contains-push_cases}
-use Rattle.std.proofs.lemmas.Nat.{or_lt, pow_below}
-use Rattle.std.proofs.lemmas.Nat.Bits.{bit_at_or, bit_at-lt, bit_at-zero, bit_at-pow_other}
-use Rattle.sums.proofs.Laws.{sum_below-add}
-use Rattle.sums.specs.Below.{one_if}
-use Rattle.tag_layout.specs.Layout.{Layout, word_of, place_of}
-use Rattle.tag_model.proofs.MaskFacts.{sum_below-bits}
-use Rattle.tag_core.specs.declared.shape.Shape.{Shape}
-use Rattle.tag_core.specs.declared.caller.Caller.{Caller}
-use Rattle.tag_core.specs.declared.map.Map.{Map}
-use Rattle.tag_core.specs.declared.record.Record.{Record}
-use Rattle.tag_core.specs.declared.step.Step.TheVariants.{Word}
-use Rattle.tag_core.specs.declared.word_step.WordStep.TheVariants.{Give}
-use Rattle.tag_core.specs.Callers.{record_of, Adds}
-use Rattle.tag_core.specs.Holdings.{IsInMask, Releases}
-use Rattle.tag_core.specs.Records.{record_after}
-use Rattle.tag_core.proofs.Picks.{among, only, among_one, one_among}
-use Rattle.tag_core.proofs.TagBits.{among_here, among_else, among_small, only_among, only_is}
-use Rattle.tag_search.proofs.Claims.{count_ones-pow}
-use Rattle.tag_queue.specs.Batches.{Run, AreRuns, EndsElsewhere, GivesAll, record_after_runs}
+use Rattle.std.specs.Prelude.{◌%◌, ◌++◌, ◌+◌, ◌/◌, ◌<◌, ◌^◌, ◌∷◌, ◌≡◌, ◌≢◌, ◌≤◌}
+use Rattle.tag_queue.proofs.Uses.{[], Adds, AllPairs, among, among_else, among_here, among_one, among_small, ap, AreRuns, arith, bit_at, bit_at-lt, bit_at-pow_other, bit_at-zero, bit_at_or, bit_or, Caller, Contains, Contains-append_cases, Contains-append_left, Contains-append_right, Contains-push}
+use Rattle.tag_queue.proofs.Uses.{Contains-push_cases, count_ones, count_ones-pow, dite, EndsElsewhere, eq-eqb, get_or, get_or-take, get_or_default_zero, Give, GivesAll, IsInMask, Layout, length, length-append, length-take, List, Map, max, ne_eqb, one_among, one_if, only, only_among, only_is, or_lt}
+use Rattle.tag_queue.proofs.Uses.{place_of, pow_below, Record, record_after, record_after_runs, record_of, refl, Releases, Run, Shape, subst, sum_below-add, sum_below-bits, sym, take, Word, word_of, ℕ, ℕ_discrete, ⊎_elim, ◌∙◌}
+use Rattle.std.proofs.Common.{◌↔◌}
 
 -- setting one more bit adds one to the number of set bits, in a word of any width
 one_bit_more : (width mask p : ℕ) → mask < 2 ^ width → p < width → bit_at mask p ≡ 0

@@ -1,24 +1,12 @@
 -- Whom the steps of an agent granted a wakeup, unrung: a look at the active count grants none, and neither do steps on the
 -- map.
-use Rattle.std.proofs.Common.{arith, ◌≡◌, ℕ, ◌∷◌, List, slice_index, refl, sym, ap, ◌∙◌, subst}
-use Rattle.std.proofs.lemmas.List.{get_or-replicate}
-use Rattle.step_ledger.specs.History.{total}
-use Rattle.wake_book.specs.declared.book.Teller.{Teller}
+use Rattle.std.specs.Prelude.{◌∷◌, ◌≡◌}
+use Rattle.tag_queue.proofs.Uses.{active_at, Agent, ap, arith, batch_of, book_steps, cap_of, ChargesNow, Follows, get_or-replicate, GrantsUnrung, group_steps, GroupStep, IsCharge, List, Look, moved_by, Queue, refl, RingsNobody, SameCounts, slice_index, StandsAsBefore, steps_of, subst, sym, Teller}
+use Rattle.tag_queue.proofs.Uses.{teller_of, total, Waiter, waiter_of, ℕ, ◌∙◌}
 use Rattle.wake_book.specs.declared.grants.Grants.{Grants}
 use Rattle.wake_book.specs.declared.grants.TheConstants.{NO_GRANTS}
-use Rattle.wake_book.specs.declared.groups.Waiter.{Waiter}
-use Rattle.wake_book.specs.declared.steps.GroupStep.{GroupStep}
-use Rattle.wake_book.specs.declared.steps.GroupStep.TheVariants.{Look}
-use Rattle.wake_book.specs.Book.{steps_of}
-use Rattle.wake_book.specs.Charging.{IsCharge}
 use Rattle.wake_book.specs.Grants.{AreGrantsOf, granted_in}
-use Rattle.wake_book.specs.Groups.{GrantsUnrung, RingsNobody, StandsAsBefore}
 use Rattle.wake_book.specs.Groups as groups
-use Rattle.wake_book.specs.Waits.{active_at, moved_by}
-use Rattle.tag_queue.specs.declared.agent.Agent.{Agent}
-use Rattle.tag_queue.specs.declared.queue.Queue.{Queue}
-use Rattle.tag_queue.specs.Agents.{SameCounts, teller_of, waiter_of, book_steps, group_steps, batch_of, cap_of}
-use Rattle.tag_queue.specs.Clears.{ChargesNow, Follows}
 
 look_alone : (found : ℕ) (old new : List GroupStep) → new ≡ Look active_at found ∷ old → AreGrantsOf NO_GRANTS old new
 look_alone found old new looked = let all = ap (total moved_by) looked in record {

@@ -1,3 +1,4 @@
+mod Uses
 pub mod Getting
 pub mod Begun
 pub mod SameParts

@@ -1,14 +1,7 @@
 -- What a plain get and the look for sleepers after it come to together.
-use Rattle.std.proofs.Common.{◌≡◌, ℕ, sym, ap, ◌∙◌, subst}
-use Rattle.std.specs.Prelude.{Option}
-use Rattle.tag_layout.specs.Layout.{Layout}
-use Rattle.tag_core.specs.declared.caller.Caller.{Caller}
-use Rattle.tag_search.specs.declared.hint.Hint.{Hint}
+use Rattle.std.specs.Prelude.{◌≡◌}
+use Rattle.tag_queue.proofs.Uses.{Agent, ap, Caller, caller_of, GetsPlainAndLooks, Hint, hint_of, Layout, Option, SearchesPlain, standing_of, subst, sym, teller_of, waiter_of, ℕ, ◌∙◌}
 use Rattle.wake_book.specs.Groups as groups
-use Rattle.tag_queue.specs.declared.agent.Agent.{Agent}
-use Rattle.tag_queue.specs.Agents.{caller_of, teller_of, waiter_of, hint_of, standing_of}
-use Rattle.tag_queue.specs.Gets.{SearchesPlain}
-use Rattle.tag_queue.specs.Blocking.{GetsPlainAndLooks}
 
 -- the agent as it was before
 abbrev pub began : {R : Type 0} {l : Layout} {answer : Option ℕ} {old new : Agent R} → GetsPlainAndLooks l answer old new

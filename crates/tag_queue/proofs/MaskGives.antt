@@ -1,26 +1,9 @@
 -- How far the tags of a mask are freed, word by word.
-use Rattle.std.proofs.Common.{◌≡◌, ◌≢◌, ℕ, ◌+◌, ◌*◌, ◌^◌, ◌<◌, ◌≤◌, List, [], ◌∷◌, ◌++◌, length, length-append, count_ones, IsTrue, sym, ap, ◌∙◌, subst, arith}
-use Rattle.std.specs.Prelude.{All}
-use Rattle.std.specs.Int.{bit_at}
+use Rattle.std.specs.Prelude.{◌*◌, ◌++◌, ◌+◌, ◌<◌, ◌^◌, ◌∷◌, ◌≡◌, ◌≢◌, ◌≤◌}
+use Rattle.tag_queue.proofs.Uses.{[], Adds, All, among_one, ap, append-nil, arith, bit_at, Caller, count_ones, count_ones-zero, EndsElsewhere, Give, GivesAll, Holds, is_in_mask, IsCallerOf, IsInMask, IsLastIn, IsTrue, IsWithin, Layout, length, length-append, List, Map, nil_from_length, one_among}
+use Rattle.tag_queue.proofs.Uses.{Record, record_of, Releases, Run, subst, sum_below-bits, sum_below-same, sym, tag_at, tags_from, Word, word_bits, word_depth, word_of, words_over, zero_from_ones, ℕ, ◌∙◌}
 use Rattle.std.proofs.Math.Pow.{pow_mono}
-use Rattle.std.proofs.lemmas.List.{append-nil, nil_from_length}
-use Rattle.std.proofs.lemmas.Nat.{zero_from_ones}
-use Rattle.sums.proofs.Laws.{sum_below-same}
-use Rattle.tag_layout.specs.Layout.{Layout, word_bits, word_of, word_depth, tag_at, IsWithin}
-use Rattle.tag_model.specs.Event.{is_in_mask}
-use Rattle.tag_model.proofs.MaskFacts.{sum_below-bits}
-use Rattle.tag_core.specs.declared.caller.Caller.{Caller}
-use Rattle.tag_core.specs.declared.map.Map.{Map}
-use Rattle.tag_core.specs.declared.record.Record.{Record}
-use Rattle.tag_core.specs.declared.step.Step.TheVariants.{Word}
-use Rattle.tag_core.specs.declared.word_step.WordStep.TheVariants.{Give}
-use Rattle.tag_core.specs.Callers.{IsCallerOf, Holds, record_of, Adds}
-use Rattle.tag_core.specs.Holdings.{IsInMask, Releases}
-use Rattle.tag_core.specs.Records.{tags_from}
-use Rattle.tag_core.proofs.Picks.{among_one, one_among}
-use Rattle.tag_search.proofs.SharedFacts.{count_ones-zero}
-use Rattle.tag_queue.specs.Batches.{Run, GivesAll, EndsElsewhere}
-use Rattle.tag_queue.specs.Masks.{tags_in, mask_bit, IsLastIn, words_over}
+use Rattle.tag_queue.specs.Masks.{tags_in, mask_bit}
 use Rattle.tag_queue.proofs.Giving.{IsMaskOf, gives_more, gives_none, steps_after}
 use Rattle.tag_queue.proofs.RunTags.{tags_from-add, tags_from-none, is_one, has_one, tags_from-length, bit_small, in_range, tags_in-length, last_in}
 use Rattle.tag_queue.proofs.MaskParts.{past_start, in_word, start_le}

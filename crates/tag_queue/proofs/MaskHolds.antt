@@ -1,24 +1,10 @@
 -- What holds of each tag of a mask, told word by word.
-use Rattle.std.proofs.Common.{◌≡◌, ◌≢◌, ℕ, ◌+◌, ◌-◌, ◌*◌, ◌^◌, ◌<◌, ◌≤◌, get_or, sym, ap, ◌∙◌, subst, ⊎_elim, count_ones, suc, arith}
-use Rattle.std.specs.Prelude.{All}
-use Rattle.std.specs.Int.{bit_at, trailing_zeros, w64}
-use Rattle.std.proofs.lemmas.Bool.{cases_lt}
-use Rattle.std.proofs.lemmas.Nat.Bits.{bit_at_above, bit_at-trailing_zeros}
-use Rattle.std.proofs.lemmas.List.Elements.{All-contains, Contains-get_or}
-use Rattle.std.proofs.lemmas.Nat.{mod_below, le-div, div_below, pow_pos, zero_from_ones, ones-le}
-use Rattle.std.proofs.Math.Nat.{pow-suc}
-use Rattle.std.proofs.Math.Nat.{mul-le-mul_right}
-use Rattle.tag_layout.specs.Layout.{Layout, word_bits, word_of, place_of, tag_at}
-use Rattle.tag_layout.proofs.PlaceFacts.{tag_at-back, word_bits-pos}
-use Rattle.tag_core.specs.declared.caller.Caller.{Caller}
-use Rattle.tag_core.specs.declared.map.Map.{Map}
-use Rattle.tag_core.specs.declared.shape.Shape.{Shape}
-use Rattle.tag_core.specs.Callers.{IsCallerOf, Holds}
-use Rattle.tag_core.specs.Holdings.{IsInMask}
+use Rattle.std.specs.Prelude.{◌*◌, ◌+◌, ◌-◌, ◌<◌, ◌^◌, ◌≡◌, ◌≢◌, ◌≤◌}
+use Rattle.tag_queue.proofs.Uses.{All, All-contains, ap, AreTags, arith, bit_at, bit_at-trailing_zeros, bit_at_above, Caller, cases_lt, Contains-get_or, count_ones, div_below, get_or, Holds, IsCallerOf, IsInMask, IsLastIn, Layout, le-div, Map, mod_below, mul-le-mul_right, ones-le, place_of, pow-suc}
+use Rattle.tag_queue.proofs.Uses.{pow_pos, Shape, subst, suc, sym, tag_at, tag_at-back, trailing_zeros, w64, word_bits, word_bits-pos, word_of, zero_from_ones, ℕ, ⊎_elim, ◌∙◌}
 use Rattle.tag_core.proofs.OneWord.{bit_named, named_bit}
-use Rattle.tag_queue.specs.Masks.{tags_in, mask_bit, IsLastIn}
+use Rattle.tag_queue.specs.Masks.{tags_in, mask_bit}
 use Rattle.tag_queue.proofs.RunTags.{tags_in-one, one_in-tags, far, place_one, bit_plus}
-use Rattle.tag_queue.specs.Batches.{AreTags}
 use Rattle.tag_queue.proofs.MaskParts.{past_start, in_word, start_le}
 
 -- what holds of each tag of the mask

@@ -1,13 +1,7 @@
 -- The part of a mask that stands in one word.
-use Rattle.std.proofs.Common.{◌≡◌, ◌≢◌, ℕ, ◌+◌, ◌-◌, ◌*◌, ◌/◌, ◌%◌, ◌^◌, ◌<◌, ◌≤◌, bit_and, arith, sym, ap, ◌∙◌, ⊎_elim}
-use Rattle.std.specs.Prelude.{◌↔◌}
-use Rattle.std.specs.Int.{bit_at}
-use Rattle.std.proofs.lemmas.Bool.{cases_lt}
-use Rattle.std.proofs.lemmas.Nat.{pow_pos, shr_split, shr-shr, div-add-mod', mod_below}
-use Rattle.std.proofs.lemmas.Nat.Bits.{bit_at_and, bit_at_cat_low, bit_at_cat_high, bit_at-zero, bit_at-lt, bit_at_above}
-use Rattle.std.proofs.Math.Nat.{mul-le-mul_right}
-use Rattle.tag_layout.specs.Layout.{Layout, word_bits, word_of, word_depth, tag_at}
-use Rattle.tag_layout.proofs.PlaceFacts.{word_bits-pos, word_of-tag_at}
+use Rattle.std.specs.Prelude.{◌%◌, ◌*◌, ◌+◌, ◌-◌, ◌/◌, ◌<◌, ◌^◌, ◌↔◌, ◌≡◌, ◌≢◌, ◌≤◌}
+use Rattle.tag_queue.proofs.Uses.{ap, arith, bit_and, bit_at, bit_at-lt, bit_at-zero, bit_at_above, bit_at_and, bit_at_cat_high, bit_at_cat_low, cases_lt, div-add-mod', Layout, mod_below, mul-le-mul_right, pow_pos, shr-shr, shr_split, sym, tag_at, word_bits, word_bits-pos, word_depth, word_of}
+use Rattle.tag_queue.proofs.Uses.{word_of-tag_at, ℕ, ⊎_elim, ◌∙◌}
 use Rattle.tag_queue.specs.Masks.{mask_bit}
 use Rattle.tag_queue.proofs.RunTags.{bit_below, bit_from, bit_small}
 

@@ -1,21 +1,9 @@
 -- A mask whose tags are all in one word: how it stands there, and that one step frees its tags.
-use Rattle.std.proofs.Common.{◌≡◌, ◌≢◌, ℕ, ◌+◌, ◌-◌, ◌*◌, ◌%◌, ◌^◌, ◌<◌, ◌≤◌, count_ones, arith, sym, ap, ◌∙◌, subst, ⊎_elim}
-use Rattle.std.specs.Prelude.{All}
-use Rattle.std.specs.Int.{bit_at}
-use Rattle.std.proofs.lemmas.Bool.{cases_lt}
-use Rattle.std.proofs.lemmas.Nat.{pow_pos, mod_below, div-add-mod'}
-use Rattle.std.proofs.lemmas.Nat.Bits.{bit_at_above, bit_at-zero}
-use Rattle.tag_layout.specs.Layout.{Layout, word_bits, word_of, place_of, word_depth, tag_at, IsWithin}
-use Rattle.tag_core.specs.declared.caller.Caller.{Caller}
-use Rattle.tag_core.specs.declared.map.Map.{Map}
-use Rattle.tag_core.specs.declared.shape.Shape.{Shape}
-use Rattle.tag_core.specs.declared.step.Step.TheVariants.{Word}
-use Rattle.tag_core.specs.declared.word_step.WordStep.TheVariants.{Give}
-use Rattle.tag_core.specs.Callers.{IsCallerOf, Holds, record_of, Adds}
-use Rattle.tag_core.specs.Holdings.{IsInMask, Releases}
+use Rattle.std.specs.Prelude.{◌%◌, ◌*◌, ◌+◌, ◌-◌, ◌<◌, ◌^◌, ◌≡◌, ◌≢◌, ◌≤◌}
+use Rattle.tag_queue.proofs.Uses.{Adds, All, ap, arith, bit_at, bit_at-zero, bit_at_above, Caller, cases_lt, count_ones, div-add-mod', Give, GivesAll, Holds, IsCallerOf, IsInMask, IsLastIn, IsWithin, Layout, Map, mod_below, place_of, pow_pos, record_of, Releases, Shape, subst, sym, tag_at, Word}
+use Rattle.tag_queue.proofs.Uses.{word_bits, word_depth, word_of, ℕ, ⊎_elim, ◌∙◌}
 use Rattle.tag_search.proofs.TakenPlaces.{below_of_bits}
-use Rattle.tag_queue.specs.Batches.{GivesAll}
-use Rattle.tag_queue.specs.Masks.{tags_in, mask_bit, IsLastIn}
+use Rattle.tag_queue.specs.Masks.{tags_in, mask_bit}
 use Rattle.tag_queue.proofs.RunTags.{place_one, bit_below}
 use Rattle.tag_queue.proofs.MaskParts.{past_start, in_word, start_le, moved_up}
 use Rattle.tag_queue.proofs.MaskHolds.{all_in, each_in, same_bit, in_part, part_has}

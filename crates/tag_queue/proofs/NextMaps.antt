@@ -1,21 +1,10 @@
 -- All callers settle, and then continue on a next map.
-use Rattle.std.proofs.Common.{◌≡◌, List, map, arith, sym, ap, ◌∙◌, subst}
-use Rattle.tag_model.specs.declared.totals.Totals.{Totals}
-use Rattle.tag_core.specs.declared.caller.Caller.{Caller}
-use Rattle.tag_core.specs.declared.map.Map.{Map}
-use Rattle.tag_core.specs.declared.record.Record.{Record}
+use Rattle.std.specs.Prelude.{◌≡◌}
+use Rattle.tag_queue.proofs.Uses.{ap, AreReopened, AreSettled, arith, Balance, Caller, entry, GoesOnAfter, GoesOnFrom, LeadsOn, List, Map, map, NoneInUse, posted_in, Record, record_of, reopened_record, Shape, subst, sym, Totals, unchanged-records, within, ◌∙◌}
 use Rattle.tag_core.specs.declared.settled.Settled.{Settled}
-use Rattle.tag_core.specs.declared.shape.Shape.{Shape}
-use Rattle.tag_core.specs.Callers.{record_of, AreUnchanged}
+use Rattle.tag_core.specs.Callers.{AreUnchanged}
 use Rattle.tag_core.specs.Chain.{GoesOn}
 use Rattle.tag_core.specs.Histories.{steps_by}
-use Rattle.tag_core.specs.Reopening.{AreReopened, GoesOnFrom, LeadsOn, reopened_record}
-use Rattle.tag_core.specs.Settling.{AreSettled}
-use Rattle.tag_core.proofs.Entries.{entry}
-use Rattle.step_ledger.proofs.Seats.{within}
-use Rattle.tag_core.proofs.Settlings.{unchanged-records}
-use Rattle.tag_queue.specs.Resizing.{GoesOnAfter}
-use Rattle.tag_queue.specs.Using.{posted_in, Balance, NoneInUse}
 
 module _ {R : Type 0} where
   -- the totals of tags in use are sums over the records

@@ -1,8 +1,7 @@
 -- A loop that changes the members of a list in order: those before the index have changed, and the others have not.
-use Rattle.std.proofs.Common.{◌≡◌, ℕ, ◌+◌, ◌<◌, List, [], ◌∷◌, All, map, length, get_or, set, take, drop, arith, refl, sym, ap, ◌∙◌, subst}
-use Rattle.std.specs.List.{AllZip}
-use Rattle.std.proofs.lemmas.List.{get_or-drop, drop-drop, drop-set-lt, take_more_set}
-use Rattle.std.proofs.lemmas.List.Elements.{all_zip_more, All-nil, All-cons, All-head, All-tail}
+use Rattle.std.specs.Prelude.{◌+◌, ◌<◌, ◌∷◌, ◌≡◌}
+use Rattle.tag_queue.proofs.Uses.{[], All-cons, All-head, All-nil, All-tail, all_zip_more, AllZip, ap, arith, drop, drop-drop, drop-set-lt, get_or, get_or-drop, length, List, map, refl, set, subst, sym, take, take_more_set, ℕ, ◌∙◌}
+use Rattle.std.proofs.Common.{All}
 
 module _ {A : Type 0} where
   first_left : (xs : List A) (i : ℕ) (d : A) → get_or (drop i xs) 0 d ≡ get_or xs i d

@@ -1,33 +1,11 @@
 -- The parts of a new queue fit together.
-use Rattle.std.proofs.Common.{◌≡◌, ℕ, zero, suc, ◌+◌, ◌<◌, List, map, length, arith, refl, sym, ap, ◌∙◌, subst}
-use Rattle.std.specs.Prelude.{All}
-use Rattle.std.proofs.lemmas.List.{length-map, get_or-map}
-use mathlib.Core.Option.{some, some-injective, some-ne-none}
-use lib.ListN.{get_elem?}
-use Rattle.atomic_table.proofs.Lists.{at_map}
-use Rattle.step_ledger.specs.Records.{fresh, fresh_record}
+use Rattle.std.specs.Prelude.{◌+◌, ◌<◌, ◌≡◌}
+use Rattle.tag_queue.proofs.Uses.{added, Agent, All, ap, AreNew, AreParts, arith, at_map, Book, BookStep, Caller, caller_of, FitTogether, fresh, fresh_record, get_elem?, get_or-map, Groups, GroupStep, HaveNoSteps, IsCallerOf, length, length-map, List, Map, map, moved_by, refl, Shape, some}
+use Rattle.tag_queue.proofs.Uses.{some-injective, some-ne-none, subst, suc, sym, Teller, teller_of, total, Waiter, waiter_of, within, zero, ℕ, ◌∙◌}
 use Rattle.step_ledger.specs.declared.record.Record.{Record}
-use Rattle.step_ledger.specs.History.{total}
-use Rattle.step_ledger.proofs.Seats.{within}
-use Rattle.tag_core.specs.declared.caller.Caller.{Caller}
-use Rattle.tag_core.specs.declared.map.Map.{Map}
 use Rattle.tag_core.specs.declared.record.Record as core
-use Rattle.tag_core.specs.declared.shape.Shape.{Shape}
-use Rattle.tag_core.specs.Callers.{IsCallerOf}
-use Rattle.tag_core.specs.Opening.{AreNew}
-use Rattle.wake_book.specs.declared.book.Book.{Book}
-use Rattle.wake_book.specs.declared.book.Teller.{Teller}
-use Rattle.wake_book.specs.declared.groups.Groups.{Groups}
-use Rattle.wake_book.specs.declared.groups.Waiter.{Waiter}
-use Rattle.wake_book.specs.declared.steps.BookStep.{BookStep}
-use Rattle.wake_book.specs.declared.steps.GroupStep.{GroupStep}
 use Rattle.wake_book.specs.Book as book
 use Rattle.wake_book.specs.Groups as groups
-use Rattle.wake_book.specs.Charges.{added}
-use Rattle.wake_book.specs.Waits.{moved_by}
-use Rattle.tag_queue.specs.declared.agent.Agent.{Agent}
-use Rattle.tag_queue.specs.Agents.{caller_of, teller_of, waiter_of}
-use Rattle.tag_queue.specs.Parts.{FitTogether, AreParts, HaveNoSteps}
 
 fresh_length : (T : Type 0) (c n : ℕ) → length (fresh {T = T} c n) ≡ n
 fresh_length T c zero = refl

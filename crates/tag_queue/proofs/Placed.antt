@@ -1,21 +1,10 @@
 -- A new queue whose agents are placed is a new queue with its hints in the agents' parts.
-use Rattle.std.proofs.Common.{◌≡◌, ◌*◌, ◌/◌, List, sym, ap, ◌∙◌, subst}
-use Rattle.std.specs.List.{AllZip}
-use Rattle.tag_layout.specs.Layout.{wake_batch}
-use Rattle.tag_core.specs.declared.caller.Caller.{Caller}
-use Rattle.tag_core.specs.Callers.{IsCallerOf, record_of}
-use Rattle.tag_core.specs.Opening.{AreNew}
-use Rattle.tag_search.specs.declared.hint.Hint.{Hint}
-use Rattle.wake_book.specs.declared.book.Teller.{Teller}
-use Rattle.wake_book.specs.declared.groups.Waiter.{Waiter}
+use Rattle.std.specs.Prelude.{◌*◌, ◌/◌, ◌≡◌}
+use Rattle.tag_queue.proofs.Uses.{Agent, agents_of, AllZip, ap, AreNew, Caller, caller_of, HasFirstHint, HasPlacedHint, Hint, hint_in_part, hint_of, IsAgentOf, IsCallerOf, IsOpen, IsOpenPlaced, IsPlaced, layout_of, List, number_of, Queue, record_of, subst, sym, Teller, teller_of, Waiter, waiter_of}
+use Rattle.tag_queue.proofs.Uses.{wake_batch, ◌∙◌}
 use Rattle.wake_book.specs.Book as book
 use Rattle.wake_book.specs.Groups as groups
-use Rattle.tag_queue.specs.declared.agent.Agent.{Agent}
 use Rattle.tag_queue.specs.declared.queue.Options.{Options}
-use Rattle.tag_queue.specs.declared.queue.Queue.{Queue}
-use Rattle.tag_queue.specs.Agents.{caller_of, teller_of, waiter_of, hint_of, number_of, layout_of, agents_of, IsAgentOf}
-use Rattle.tag_queue.specs.Opening.{IsOpen, IsOpenPlaced, HasFirstHint, HasPlacedHint}
-use Rattle.tag_queue.specs.Placing.{hint_in_part, IsPlaced}
 use Rattle.tag_queue.proofs.OneByOne.{same_images, all_changed}
 
 module _ {R : Type 0} (options : Options) (queue : Queue R) where
@@ -54,4 +43,5 @@ module _ {R : Type 0} (options : Options) (queue : Queue R) where
         olds news placed new.hints;
     least = new.least;
     min_shallow = new.min_shallow;
+    waits = new.waits;
   }

@@ -1,35 +1,13 @@
 -- Agents whose callers were taken out, and were returned or moved to the next map.
-use Rattle.std.proofs.Common.{◌≡◌, ℕ, suc, ◌<◌, ◌≤◌, List, [], ◌∷◌, map, length, arith, refl, sym, ap, ◌∙◌, subst}
-use Rattle.std.specs.Prelude.{All}
-use Rattle.std.proofs.lemmas.List.{length-map}
-use Rattle.std.proofs.lemmas.List.Elements.{All-map}
-use mathlib.Core.Option.{some, some-injective}
-use lib.ListN.{get_elem?}
-use native.Mathlib.Nat.{ℕ_set}
-use Rattle.std.specs.Coded.{le_prop}
-use Rattle.atomic_table.proofs.Lists.{at_map}
-use Rattle.step_ledger.specs.Gather.{HasAll}
-use Rattle.tag_layout.specs.Layout.{Layout}
-use Rattle.tag_core.specs.declared.caller.Caller.{Caller}
-use Rattle.tag_core.specs.declared.map.Map.{Map}
-use Rattle.tag_core.specs.declared.record.Record.{Record}
-use Rattle.tag_core.specs.declared.shape.Shape.{Shape}
-use Rattle.tag_core.proofs.Entries.{all_at}
+use Rattle.std.specs.Prelude.{◌<◌, ◌∷◌, ◌≡◌, ◌≤◌}
+use Rattle.tag_queue.proofs.Uses.{[], Agent, All, All-map, all_at, ap, AreReopened, AreUnchanged, arith, at_map, Book, Caller, caller_of, FitShells, get_elem?, Groups, HasAll, hint_of, IsAgentOf, IsCallerOf, IsNext, IsResized, KeepsRest, Layout, layout_at, layout_of, le_prop, length, length-map}
+use Rattle.tag_queue.proofs.Uses.{List, Map, map, MoveOn, numbers_of, Queue, Record, record_of, refl, Shape, shell_of, some, some-injective, subst, suc, sym, teller_of, waiter_of, ℕ, ℕ_set, ◌∙◌}
 use Rattle.tag_core.specs.Callers as core
-use Rattle.tag_core.specs.Callers.{IsCallerOf, record_of}
 use Rattle.tag_core.specs.Gathering as tags
-use Rattle.tag_core.specs.Reopening.{IsNext, AreReopened}
 use Rattle.tag_core.proofs.Numbers.{numbers-records}
-use Rattle.wake_book.specs.declared.book.Book.{Book}
-use Rattle.wake_book.specs.declared.groups.Groups.{Groups}
 use Rattle.wake_book.specs.Book as book
 use Rattle.wake_book.specs.Groups as groups
-use Rattle.tag_queue.specs.declared.agent.Agent.{Agent}
-use Rattle.tag_queue.specs.declared.queue.Queue.{Queue}
 use Rattle.tag_queue.specs.declared.resizes.shells.Shell.{Shell}
-use Rattle.tag_queue.specs.Agents.{caller_of, teller_of, waiter_of, hint_of, layout_of, numbers_of, IsAgentOf, AreUnchanged}
-use Rattle.tag_queue.specs.Resizing.{MoveOn, KeepsRest, IsResized, layout_at}
-use Rattle.tag_queue.specs.Shells.{shell_of, FitShells}
 use Rattle.tag_queue.proofs.Gathering.{caller_numbers}
 use Rattle.tag_queue.proofs.Opening.{own_all}
 use Rattle.tag_queue.proofs.Unchanged.{agent_same}
@@ -195,6 +173,7 @@ module _ {R : Type 0} (queue : Queue R) where
     shallowest = queue.shallowest;
     min_shallow = queue.min_shallow;
     callers = queue.callers;
+    waits = queue.waits;
     fill = queue.fill;
     batch_is = b;
     narrow = n;

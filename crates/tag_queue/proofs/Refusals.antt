@@ -1,17 +1,10 @@
 -- No two causes of a refusal hold at once, so a resize is refused for each cause exactly if it holds.
-use Rattle.std.proofs.Common.{◌≡◌, ℕ, ◌<◌, ◌≤◌, List, arith, refl, sym, ap, ◌∙◌, subst, ⊎_elim, Ok, Err, Result}
-use Rattle.std.specs.Prelude.{◌↔◌, IfErr}
-use Rattle.std.proofs.lemmas.Bool.{cases_lt}
-use Rattle.step_ledger.specs.Gather.{HasAll, IsLeastMissing}
+use Rattle.std.specs.Prelude.{◌<◌, ◌↔◌, ◌≡◌, ◌≤◌}
+use Rattle.tag_queue.proofs.Uses.{Agent, agents_of, ap, arith, cases_lt, Err, HasAll, held_in, IfErr, IsLeastMissing, IsRefusedAs, IsRefusedFor, List, MayResize, numbers_of, Ok, posted_in, Queue, records_of, refl, Result, standing_count, subst, sym, ℕ, ⊎_elim, ◌∙◌}
 use Rattle.tag_layout.specs.declared.layout.TheConstants.{MAX_DEPTH}
-use Rattle.tag_queue.specs.declared.agent.Agent.{Agent}
-use Rattle.tag_queue.specs.declared.queue.Queue.{Queue}
 use Rattle.tag_queue.specs.declared.resizes.ResizeCause.{ResizeCause}
 use Rattle.tag_queue.specs.declared.resizes.ResizeCause.TheVariants.{Missing, DepthTooLarge, InUse, Waiting, Memory}
 use Rattle.tag_queue.specs.declared.resizes.ResizeFault.{ResizeFault}
-use Rattle.tag_queue.specs.Agents.{numbers_of, agents_of, records_of}
-use Rattle.tag_queue.specs.Resizing.{MayResize, IsRefusedFor, IsRefusedAs, standing_count}
-use Rattle.tag_queue.specs.Using.{held_in, posted_in}
 
 -- the least missing number is unique
 one_least : (ns : List ℕ) (count m n : ℕ) → IsLeastMissing ns count m → IsLeastMissing ns count n → m ≡ n

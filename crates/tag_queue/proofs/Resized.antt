@@ -1,18 +1,8 @@
 -- Agents are unchanged when they settle, so a resize of them is one of the agents passed in.
-use Rattle.std.proofs.Common.{◌≡◌, ℕ, suc, List, [], ◌∷◌, map, arith, refl, sym, ap, ◌∙◌, subst}
-use Rattle.std.proofs.lemmas.List.{length-map}
-use mathlib.Core.Option.{some-injective}
-use Rattle.step_ledger.specs.Gather.{HasAll}
-use Rattle.tag_core.specs.declared.caller.Caller.{Caller}
-use Rattle.tag_core.specs.declared.record.Record.{Record}
+use Rattle.std.specs.Prelude.{◌∷◌, ◌≡◌}
+use Rattle.tag_queue.proofs.Uses.{[], Agent, ap, AreUnchanged, arith, Caller, caller_of, entry, entry_of_map, GoesOnAfter, HasAll, hint_of, IsResized, IsUnchanged, length-map, List, map, numbers, numbers_of, Queue, Record, refl, shape_of, some-injective, subst, suc, sym, teller_of, waiter_of}
+use Rattle.tag_queue.proofs.Uses.{within, ℕ, ◌∙◌}
 use Rattle.tag_core.specs.Callers as core
-use Rattle.tag_core.proofs.Entries.{entry, entry_of_map}
-use Rattle.step_ledger.proofs.Seats.{within}
-use Rattle.tag_queue.specs.declared.agent.Agent.{Agent}
-use Rattle.tag_queue.specs.declared.queue.Queue.{Queue}
-use Rattle.tag_core.specs.Gathering.{numbers}
-use Rattle.tag_queue.specs.Agents.{caller_of, teller_of, waiter_of, hint_of, shape_of, numbers_of, IsUnchanged, AreUnchanged}
-use Rattle.tag_queue.specs.Resizing.{IsResized, GoesOnAfter}
 use Rattle.tag_queue.proofs.Gathering.{caller_numbers}
 use Rattle.tag_queue.proofs.NextMaps.{reopened_after, leads_after}
 use Rattle.tag_queue.proofs.Unchanged.{agent_same, unchanged-records}

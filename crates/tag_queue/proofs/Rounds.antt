@@ -1,23 +1,12 @@
 -- What the rounds of a blocking get say of its searches, and which group a waiter leaves.
-use Rattle.std.proofs.Common.{◌≡◌, ℕ, zero, suc, Some, None, inl, inr, arith, sym, ap, ◌∙◌, subst}
-use Rattle.std.specs.Prelude.{◌⊎◌, Option}
+use Rattle.tag_queue.proofs.Uses.{Agent, ap, AreRounds, arith, BlockingGets, Caller, caller_of, FindNone, GetsPlainAndLooks, Hint, hint_of, inl, inr, IsLeave, IsRound, IsStay, Layout, LeavesAs, None, Nudged, Option, PassesOn, RingsNobody, SearchesPlain, Shape, Some, standing_of, subst, suc, sym}
+use Rattle.tag_queue.proofs.Uses.{teller_of, Waiter, WaitsFor, zero, ℕ, ◌∙◌}
+use Rattle.std.specs.Prelude.{◌⊎◌, ◌≡◌}
 use Rattle.std.proofs.lemmas.Option.{same_Some}
-use Rattle.tag_layout.specs.Layout.{Layout}
-use Rattle.tag_core.specs.declared.caller.Caller.{Caller}
-use Rattle.tag_core.specs.declared.shape.Shape.{Shape}
-use Rattle.tag_search.specs.declared.hint.Hint.{Hint}
 use Rattle.tag_search.specs.Shared as search
-use Rattle.wake_book.specs.declared.groups.Waiter.{Waiter}
-use Rattle.wake_book.specs.declared.rings.Rung.TheVariants.{Nudged}
 use Rattle.wake_book.specs.declared.waiting.Left.{Left}
 use Rattle.wake_book.specs.declared.waiting.Left.TheVariants.{Woken, Unwoken}
 use Rattle.wake_book.specs.Groups as groups
-use Rattle.wake_book.specs.Groups.{LeavesAs, RingsNobody}
-use Rattle.wake_book.specs.Walks.{IsLeave}
-use Rattle.tag_queue.specs.declared.agent.Agent.{Agent}
-use Rattle.tag_queue.specs.Agents.{caller_of, teller_of, hint_of, standing_of}
-use Rattle.tag_queue.specs.Gets.{SearchesPlain}
-use Rattle.tag_queue.specs.Blocking.{GetsPlainAndLooks, PassesOn, AreRounds, IsStay, IsRound, WaitsFor, FindNone, BlockingGets}
 use Rattle.tag_queue.proofs.Looking.{searched_plain, counted_none, stood_still}
 
 -- a waiter that is in a group leaves that one

@@ -1,17 +1,7 @@
 -- The tags of a mask: which they are, how many, and which is the last.
-use Rattle.std.proofs.Common.{◌≡◌, ◌≢◌, ℕ, zero, suc, ◌+◌, ◌-◌, ◌^◌, ◌<◌, ◌≤◌, List, [], ◌∷◌, ◌++◌, map, length, length-append, get_or, Bool, true, false, cond, nat_eq, count_ones, arith, refl, sym, ap, ◌∙◌, subst, ⊎_elim, eq-eqb, ne_eqb}
-use mathlib.Core.Logic.{dite}
-use native.Mathlib.Decide.{ℕ_discrete}
-use Rattle.std.specs.Prelude.{Contains}
-use Rattle.std.specs.Int.{bit_at}
-use Rattle.std.proofs.lemmas.Bool.{cases_lt, lt-ltb, le-ltb}
-use Rattle.std.proofs.lemmas.List.{append-nil, length-map, get_or_push}
-use Rattle.std.proofs.lemmas.List.Elements.{Contains-append_left, Contains-append_right, Contains-append_cases, Contains-push, Contains-push_cases}
-use Rattle.std.proofs.lemmas.Nat.Bits.{bit_at-lt, bit_at_above}
-use Rattle.sums.specs.Below.{sum_below}
-use Rattle.sums.proofs.Laws.{sum_below-same}
-use Rattle.tag_model.proofs.MaskFacts.{sum_below-bits}
-use Rattle.tag_core.specs.Records.{tags_from}
+use Rattle.std.specs.Prelude.{◌++◌, ◌+◌, ◌-◌, ◌<◌, ◌^◌, ◌∷◌, ◌≡◌, ◌≢◌, ◌≤◌}
+use Rattle.tag_queue.proofs.Uses.{[], ap, append-nil, arith, bit_at, bit_at-lt, bit_at_above, Bool, cases_lt, cond, Contains, Contains-append_cases, Contains-append_left, Contains-append_right, Contains-push, Contains-push_cases, count_ones, dite, eq-eqb, false, get_or, get_or_push, le-ltb, length}
+use Rattle.tag_queue.proofs.Uses.{length-append, length-map, List, lt-ltb, map, nat_eq, ne_eqb, refl, subst, suc, sum_below, sum_below-bits, sum_below-same, sym, tags_from, true, zero, ℕ, ℕ_discrete, ⊎_elim, ◌∙◌}
 use Rattle.tag_queue.specs.Masks.{set_bits, tags_in, mask_bit}
 
 module _ (f : ℕ → ℕ) where

@@ -1,12 +1,8 @@
 -- An agent with its own caller is the same agent.
-use Rattle.std.proofs.Common.{◌≡◌, ◌<◌, ◌≤◌, sym, subst}
-use native.Mathlib.Nat.{ℕ_set}
-use Rattle.std.specs.Coded.{le_prop}
-use Rattle.tag_core.specs.declared.caller.Caller.{Caller}
-use Rattle.tag_core.specs.Callers.{record_of}
+use Rattle.std.specs.Prelude.{◌<◌, ◌≡◌, ◌≤◌}
+use Rattle.tag_queue.proofs.Uses.{Agent, Caller, le_prop, record_of, subst, sym, ℕ_set}
 use Rattle.wake_book.specs.Book as book
 use Rattle.wake_book.specs.Groups as groups
-use Rattle.tag_queue.specs.declared.agent.Agent.{Agent}
 
 module _ {R : Type 0} (agent : Agent R) where
   -- the invariants of an agent, if this were its caller

@@ -1,40 +1,24 @@
 -- What searches and sleeps keep: where an agent waits, which tags it holds, its room, and where its next search begins.
-use Rattle.std.proofs.Common.{◌≡◌, ◌≢◌, ℕ, zero, suc, ◌+◌, ◌^◌, ◌≤◌, List, [], ◌∷◌, Some, None, inl, inr, ⊎_elim, refl, sym, ap, ◌∙◌, subst}
-use Rattle.std.specs.Prelude.{Option}
-use Rattle.std.proofs.Math.Nat.{zero-mod}
-use Rattle.tag_layout.specs.Layout.{Layout, place_of}
-use Rattle.tag_core.specs.declared.caller.Caller.{Caller}
-use Rattle.tag_core.specs.declared.record.Record.{Record}
-use Rattle.tag_core.specs.declared.step.Step.TheVariants.{Word}
-use Rattle.tag_core.specs.declared.word_step.WordStep.{WordStep}
-use Rattle.tag_core.specs.Callers.{record_of}
-use Rattle.tag_core.specs.Holdings.{KeepsAll, Acquires, Releases}
-use Rattle.tag_core.specs.Records.{record_after}
-use Rattle.tag_bell.specs.declared.told.TheConstants.{SLEEPERS}
-use Rattle.tag_bell.specs.declared.told.Told.{Told}
+use Rattle.std.specs.Prelude.{◌+◌, ◌^◌, ◌∷◌, ◌≡◌, ◌≢◌, ◌≤◌}
+use Rattle.tag_queue.proofs.Uses.{[], Acquires, Agent, ap, AreSleeps, Caller, caller_of, GetsPlainAndLooks, Hint, hint_of, inl, inr, IsSleep, IsUnchanged, KeepsAll, Layout, List, ListsSelf, None, Option, place_of, Record, record_after, record_after_all, record_of, refl, Releases, SeesTo, SLEEPERS}
+use Rattle.tag_queue.proofs.Uses.{Some, subst, suc, sym, teller_of, Told, Wins, WinsListed, Word, WordStep, zero, zero-mod, ℕ, ⊎_elim, ◌∙◌}
 use Rattle.tag_bell.specs.Callers.{IsUp, WaitsAsBefore}
 use Rattle.tag_bell.specs.Waiting as steps
-use Rattle.tag_bell.proofs.StillThere.{owes_still, waits_still, keeps_still, tells_still}
-use Rattle.tag_search.specs.declared.hint.Hint.{Hint}
+use Rattle.tag_bell.proofs.StillThere.{owes_still, waits_still, keeps_still, tells_still, few_still}
 use Rattle.tag_search.specs.Hints.{reduced}
 use Rattle.tag_search.specs.Shared as search
-use Rattle.tag_search.specs.Shared.{record_after_all}
 use Rattle.tag_search.specs.Vain.{MaySleep}
-use Rattle.tag_queue.specs.declared.agent.Agent.{Agent}
-use Rattle.tag_queue.specs.Agents.{caller_of, teller_of, hint_of, IsUnchanged}
-use Rattle.tag_queue.specs.Bell.{ListsSelf, SeesTo}
-use Rattle.tag_queue.specs.Blocking.{GetsPlainAndLooks}
 use Rattle.tag_queue.specs.Holding.{HoldsSame, HoldsMore}
-use Rattle.tag_queue.specs.Sleeping.{IsSleep, AreSleeps, WinsListed, Wins}
 use Rattle.tag_queue.proofs.Looking.{searched_plain, counted_none}
 
 -- a call that leaves its agent unchanged leaves it nothing to see to, if it had nothing
-pub sees_to_still : {R : Type 0} (most : ℕ) (told : Told) (old mid new : Agent R) → SeesTo most told old mid → IsUnchanged mid new
-    → SeesTo most told old new
-sees_to_still most told old mid new sees same =
+pub sees_to_still : {R : Type 0} (limit most : ℕ) (told : Told) (old mid new : Agent R) → SeesTo limit most told old mid
+    → IsUnchanged mid new → SeesTo limit most told old new
+sees_to_still limit most told old mid new sees same =
     let a = caller_of old in let b = caller_of mid in let c = caller_of new in record {
       done = λ list low. owes_still b c same.caller list (sees.done list low);
       tells = tells_still b c same.caller most told a sees.tells;
+      few = few_still b c same.caller limit told a sees.few;
       waits = λ list. waits_still b c same.caller a list (sees.waits list);
       holds = keeps_still b c same.caller a sees.holds;
       same = (same.same_else.0 ∙ sees.same.0, (same.same_else.1.0 ∙ sees.same.1.0, same.same_else.1.1 ∙ sees.same.1.1));

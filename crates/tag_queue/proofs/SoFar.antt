@@ -1,23 +1,8 @@
 -- How far a list of tags is freed, tag by tag.
-use Rattle.std.proofs.Common.{◌≡◌, ◌≢◌, ℕ, zero, suc, ◌+◌, ◌^◌, ◌<◌, ◌≤◌, ◌⊎◌, ◌++◌, List, [], ◌∷◌, length, length-append, take, get_or, bit_or, count_ones, append_assoc, IsTrue, refl, sym, ap, ◌∙◌, subst, inl, inr, ⊎_elim, arith}
-use Rattle.std.specs.Prelude.{Contains}
-use Rattle.std.proofs.lemmas.List.{take_more}
-use Rattle.std.proofs.lemmas.List.Elements.{Contains-append_left, Contains-append_right, Contains-push_cases}
-use Rattle.std.proofs.lemmas.Nat.{or_lt, pow_below, pow_pos}
-use Rattle.tag_layout.specs.Layout.{words, word_of, place_of, word_depth, IsWithin}
-use Rattle.tag_model.specs.Event.{is_in_mask}
-use Rattle.tag_core.specs.declared.caller.Caller.{Caller}
-use Rattle.tag_core.specs.declared.map.Map.{Map}
-use Rattle.tag_core.specs.declared.record.Record.{Record}
-use Rattle.tag_core.specs.declared.step.Step.TheVariants.{Word}
-use Rattle.tag_core.specs.declared.word_step.WordStep.TheVariants.{Give}
-use Rattle.tag_core.specs.Callers.{IsCallerOf, Holds, record_of, Adds}
-use Rattle.tag_core.specs.Holdings.{IsInMask, Releases}
-use Rattle.tag_core.proofs.Picks.{among_one}
-use Rattle.tag_core.proofs.TagBits.{small_word, place_small}
-use Rattle.tag_search.proofs.Claims.{count_ones-pow}
-use Rattle.tag_search.proofs.SharedFacts.{count_ones-zero}
-use Rattle.tag_queue.specs.Batches.{AreHeldOnce, EndsElsewhere, GivesAll}
+use Rattle.std.specs.Prelude.{◌++◌, ◌+◌, ◌<◌, ◌^◌, ◌∷◌, ◌≡◌, ◌≢◌, ◌≤◌, ◌⊎◌}
+use Rattle.tag_queue.proofs.Uses.{[], Adds, among_one, ap, append_assoc, AreHeldOnce, arith, bit_or, Caller, Contains, Contains-append_left, Contains-append_right, Contains-push_cases, count_ones, count_ones-pow, count_ones-zero, EndsElsewhere, get_or, Give, GivesAll, Holds, inl, inr, is_in_mask}
+use Rattle.tag_queue.proofs.Uses.{IsCallerOf, IsInMask, IsTrue, IsWithin, length, length-append, List, Map, or_lt, place_of, place_small, pow_below, pow_pos, Record, record_of, refl, Releases, small_word, subst, suc, sym, take, take_more, Word, word_depth, word_of, words, zero, ℕ, ⊎_elim}
+use Rattle.tag_queue.proofs.Uses.{◌∙◌}
 use Rattle.tag_queue.proofs.Giving.{IsMaskOf, ones_more, not_before, none_in, mask_of_none, mask_of_one, mask_of_more, bit_of_other, gives_more, gives_none}
 
 -- of the first `count` tags, all are freed except those of the last run, which are still held and are in the mask of

@@ -1,26 +1,9 @@
 -- Unchanged agents.
-use Rattle.std.proofs.Common.{◌≡◌, ℕ, suc, ◌+◌, ◌<◌, List, [], ◌∷◌, ◌++◌, length, arith, refl, sym, ap, ◌∙◌, subst, length-append, append_assoc}
-use Rattle.std.specs.Prelude.{◌↔◌, All, cond, is_some}
-use Rattle.std.proofs.lemmas.List.Elements.{All-push}
+use Rattle.tag_queue.proofs.Uses.{[], Agent, All, All-push, all_front, all_last, ap, append_assoc, AreSettled, AreUnchanged, arith, Balance, Caller, caller_of, HasAll, held_in, is_some, IsAgentOf, IsUnchanged, length, length-append, List, numbers, numbers_of, pairs_more, posted_in, Queue, Record}
+use Rattle.tag_queue.proofs.Uses.{record_of, records_of, refl, SameElse, Shape, standing_count, standing_of_waiter, subst, suc, sym, tag_bit, Totals, waiter_of, ℕ, ◌∙◌}
+use Rattle.std.specs.Prelude.{cond, ◌++◌, ◌+◌, ◌<◌, ◌↔◌, ◌∷◌, ◌≡◌}
 use Rattle.std.proofs.lemmas.List.Recursion.{is_count_by}
-use Rattle.step_ledger.specs.Gather.{HasAll}
-use Rattle.tag_model.specs.declared.totals.Totals.{Totals}
-use Rattle.tag_core.specs.declared.caller.Caller.{Caller}
-use Rattle.tag_core.specs.declared.record.Record.{Record}
-use Rattle.tag_core.specs.declared.shape.Shape.{Shape}
 use Rattle.tag_core.specs.Callers as core
-use Rattle.tag_core.specs.Callers.{record_of}
-use Rattle.tag_core.specs.Records.{tag_bit}
-use Rattle.tag_core.specs.Gathering.{numbers}
-use Rattle.tag_core.specs.Settling.{AreSettled}
-use Rattle.step_ledger.proofs.Seats.{pairs_more}
-use Rattle.step_ledger.proofs.Turned.{all_front, all_last}
-use Rattle.tag_queue.specs.declared.agent.Agent.{Agent}
-use Rattle.tag_queue.specs.declared.queue.Queue.{Queue}
-use Rattle.tag_queue.specs.Agents.{caller_of, waiter_of, numbers_of, records_of, IsAgentOf, SameElse, IsUnchanged, AreUnchanged}
-use Rattle.wake_book.specs.Groups.{standing_of as standing_of_waiter}
-use Rattle.tag_queue.specs.Resizing.{standing_count}
-use Rattle.tag_queue.specs.Using.{held_in, posted_in, Balance}
 use Rattle.tag_queue.proofs.NextMaps.{posted_is, balance_is}
 use Rattle.tag_queue.proofs.Gathering.{caller_numbers}
 

@@ -1,25 +1,17 @@
 -- The terms in which contracts speak about a queue and its agents.
-use Rattle.std.specs.Prelude.{◌≡◌, ℕ, ◌+◌, ◌↔◌, List, length, map, Option}
+use Rattle.std.specs.Prelude.{◌+◌, ◌↔◌, ◌≡◌}
+use Rattle.tag_queue.specs.Uses.{Caller, get_elem?, GroupStep, Hint, Layout, length, List, map, Option, Record, Shape, some, Teller, Waiter, ℕ}
 use mathlib.Core.Option as maybe
-use mathlib.Core.Option.{some}
-use lib.ListN.{get_elem?}
-use Rattle.tag_layout.specs.Layout.{Layout}
-use Rattle.tag_core.specs.declared.caller.Caller.{Caller}
-use Rattle.tag_core.specs.declared.record.Record.{Record}
-use Rattle.tag_core.specs.declared.shape.Shape.{Shape}
 use Rattle.tag_core.specs.Callers as core
-use Rattle.tag_search.specs.declared.hint.Hint.{Hint}
 use Rattle.tag_search.specs.Shared as search
-use Rattle.wake_book.specs.declared.book.Teller.{Teller}
-use Rattle.wake_book.specs.declared.groups.Waiter.{Waiter}
 use Rattle.wake_book.specs.declared.sighting.Sighting.{Sighting}
 use Rattle.wake_book.specs.declared.sleeping.Announcement.{Announcement}
 use Rattle.wake_book.specs.declared.steps.BookStep.{BookStep}
-use Rattle.wake_book.specs.declared.steps.GroupStep.{GroupStep}
 use Rattle.wake_book.specs.Book as book
 use Rattle.wake_book.specs.Groups as groups
 use Rattle.tag_queue.specs.declared.agent.Agent.{Agent}
 use Rattle.tag_queue.specs.declared.queue.Queue.{Queue}
+use Rattle.tag_queue.specs.declared.queue.Waits.{Waits}
 
 -- the layout of the queue's map
 abbrev pub layout_of : {R : Type 0} → Queue R → Layout
@@ -44,6 +36,10 @@ min_shallow_of queue = queue.min_shallow
 -- the initial value of each slot
 abbrev pub fill_of : {R : Type 0} → Queue R → R
 fill_of queue = queue.fill
+
+-- how the queue's agents wait
+abbrev pub waits_of : {R : Type 0} → Queue R → Waits
+waits_of queue = queue.waits
 
 -- the agent belongs to the queue
 abbrev pub IsAgentOf : {R : Type 0} → Queue R → Agent R → Type 0

@@ -1,15 +1,8 @@
 -- How a list of tags is freed in one call.
-use Rattle.std.specs.Prelude.{◌≡◌, ◌≢◌, ℕ, ◌-◌, ◌<◌, ◌≤◌, ◌↔◌, List, [], ◌∷◌, ◌++◌, length, slice_index, All, AllPairs, Contains, IsTrue}
-use Rattle.tag_layout.specs.Layout.{Layout}
+use Rattle.std.specs.Prelude.{◌++◌, ◌-◌, ◌<◌, ◌↔◌, ◌∷◌, ◌≡◌, ◌≢◌, ◌≤◌}
+use Rattle.tag_queue.specs.Uses.{[], All, AllPairs, Caller, ClearFollows, Contains, Give, IsTrue, Layout, length, List, Record, record_after, Releases, slice_index, Word, ℕ}
 use Rattle.tag_model.specs.Event.{is_in_mask}
-use Rattle.tag_core.specs.declared.caller.Caller.{Caller}
-use Rattle.tag_core.specs.declared.record.Record.{Record}
-use Rattle.tag_core.specs.declared.step.Step.TheVariants.{Word}
-use Rattle.tag_core.specs.declared.word_step.WordStep.TheVariants.{Give}
 use Rattle.tag_core.specs.Callers as core
-use Rattle.tag_core.specs.Holdings.{Releases}
-use Rattle.tag_core.specs.Records.{record_after}
-use Rattle.tag_search.specs.Follows.{ClearFollows}
 use Rattle.tag_queue.specs.declared.agent.Agent.{Agent}
 use Rattle.tag_queue.specs.Agents.{caller_of, hint_of}
 

@@ -1,11 +1,10 @@
 -- A get in two calls: its first try, and what follows it.
-use Rattle.std.specs.Prelude.{◌≡◌, ℕ, ◌+◌, ◌≤◌}
+use Rattle.std.specs.Prelude.{◌+◌, ◌≡◌, ◌≤◌}
+use Rattle.tag_queue.specs.Uses.{left_free, Makes, ℕ}
 use Rattle.tag_search.specs.declared.found.Found.{Found}
 use Rattle.tag_search.specs.declared.search.Unfinished.{Unfinished}
 use Rattle.tag_search.specs.declared.search.Unfinished.TheVariants.{NotBegun, Full, Lost}
 use Rattle.tag_search.specs.Begun.{CanFinish, IsBegun}
-use Rattle.tag_search.specs.Freed.{left_free}
-use Rattle.tag_search.specs.Shared.{Makes}
 use Rattle.tag_queue.specs.declared.agent.Agent.{Agent}
 use Rattle.tag_queue.specs.declared.queue.Queue.{Queue}
 use Rattle.tag_queue.specs.Agents.{layout_of, caller_of, hint_of, step_count, HasRoom, IsAgentOf, SameElse}

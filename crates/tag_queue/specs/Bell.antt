@@ -1,12 +1,11 @@
 -- How agents wait by the bell, and see to the tags that they made free.
-use Rattle.std.specs.Prelude.{◌≡◌, ◌≢◌, ◌↔◌, ℕ, ◌<◌, Bool, IsTrue, false}
-use Rattle.std.specs.Int.{bit_at}
+use Rattle.std.specs.Prelude.{◌<◌, ◌↔◌, ◌≡◌, ◌≢◌}
+use Rattle.tag_queue.specs.Uses.{bit_at, Bool, false, IsTrue, IsUp, IsWaiting, OwesNothing, record_of, WaitsAsBefore, ℕ}
 use Rattle.tag_core.specs.declared.bell.TheConstants.{LISTS}
 use Rattle.tag_core.specs.declared.bell_step.BellStep.TheVariants.{Enlist, GetUp}
-use Rattle.tag_core.specs.Callers.{record_of}
 use Rattle.tag_bell.specs.declared.told.Told.{Told}
-use Rattle.tag_bell.specs.Callers.{IsWaiting, IsUp, WaitsAsBefore, OwesNothing}
 use Rattle.tag_bell.specs.Calls.{Rings, OwesNoMore, FindsWaiters, Tells}
+use Rattle.tag_bell.specs.Selection.{TellsFew}
 use Rattle.tag_queue.specs.declared.agent.Agent.{Agent}
 use Rattle.tag_queue.specs.Agents.{caller_of, SameElse}
 use Rattle.tag_queue.specs.Holding.{HoldsSame}
@@ -41,10 +40,12 @@ pub record LooksForWaiters {R : Type 0} (found : Bool) (old new : Agent R) : Typ
   pub holds : HoldsSame old new
   pub same : SameElse old new
 
--- the agent has nothing more to see to: it told these, by at most so many steps, or found that nobody waits
-pub record SeesTo {R : Type 0} (most : ℕ) (told : Told) (old new : Agent R) : Type 0 where
+-- the agent has nothing more to see to: by at most so many steps it told these, at most `limit` of each list unless those
+-- that it chose were gone, or found that nobody waits
+pub record SeesTo {R : Type 0} (limit most : ℕ) (told : Told) (old new : Agent R) : Type 0 where
   pub done : (list : ℕ) → list < LISTS → OwesNothing list (caller_of new)
   pub tells : Tells most told (caller_of old) (caller_of new)
+  pub few : TellsFew limit told (caller_of old) (caller_of new)
   pub waits : (list : ℕ) → WaitsAsBefore list (caller_of old) (caller_of new)
   pub holds : HoldsSame old new
   pub same : SameElse old new

@@ -1,15 +1,8 @@
 -- How a blocking get waits: by rounds, each of them a get that found no tag and then a stay in a wait group.
-use Rattle.std.specs.Prelude.{◌≡◌, ℕ, zero, suc, ◌+◌, ◌%◌, ◌⊎◌, List, Option, Some, None}
-use Rattle.tag_layout.specs.Layout.{Layout}
-use Rattle.tag_core.specs.declared.caller.Caller.{Caller}
-use Rattle.tag_search.specs.declared.hint.Hint.{Hint}
-use Rattle.wake_book.specs.declared.groups.Waiter.{Waiter}
-use Rattle.wake_book.specs.declared.rings.Rung.TheVariants.{Nudged}
-use Rattle.wake_book.specs.declared.steps.GroupStep.{GroupStep}
+use Rattle.std.specs.Prelude.{◌%◌, ◌+◌, ◌≡◌, ◌⊎◌}
+use Rattle.tag_queue.specs.Uses.{announced_beside, announced_steps, Caller, GroupStep, Hint, IsLeave, IsSleep, Layout, List, None, Nudged, Option, RingsNobody, RingsOnce, Some, suc, wait_index_of, Waiter, zero, ℕ}
 use Rattle.wake_book.specs.declared.waiting.Left.{Left}
 use Rattle.wake_book.specs.declared.waiting.Left.TheVariants.{Woken, Unwoken}
-use Rattle.wake_book.specs.Groups.{wait_index_of, RingsNobody, RingsOnce, announced_beside, announced_steps}
-use Rattle.wake_book.specs.Walks.{IsLeave, IsSleep}
 use Rattle.tag_queue.specs.declared.agent.Agent.{Agent}
 use Rattle.tag_queue.specs.Agents.{caller_of, teller_of, waiter_of, hint_of, announcement_of, standing_of, group_steps}
 use Rattle.tag_queue.specs.Freed.{GetsAndLooks}

@@ -1,23 +1,16 @@
 -- The effect of clears on the agent that makes them.
-use Rattle.std.specs.Prelude.{◌≡◌, ℕ, ◌+◌, ◌^◌, ◌≤◌, ◌⊎◌, List, ◌∷◌}
-use Rattle.tag_layout.specs.Layout.{Layout, word_of, place_of}
-use Rattle.tag_core.specs.declared.step.Step.TheVariants.{Word}
-use Rattle.tag_core.specs.declared.word_step.WordStep.TheVariants.{Put}
-use Rattle.tag_core.specs.Callers.{Adds}
-use Rattle.tag_search.specs.Follows.{ClearFollows}
+use Rattle.std.specs.Prelude.{◌+◌, ◌^◌, ◌∷◌, ◌≡◌, ◌≤◌, ◌⊎◌}
+use Rattle.tag_queue.specs.Uses.{active_at, Adds, ClearFollows, GrantsUnrung, GroupStep, IsWalk, Layout, List, Look, place_of, Put, sighted_beside, sighted_steps, StandsAsBefore, walk_steps, Word, word_of, ℕ}
 use Rattle.wake_book.specs.declared.charge.Charge.{Charge}
 use Rattle.wake_book.specs.declared.charge.Charge.TheVariants.{Full, Below, Won, Busy}
 use Rattle.wake_book.specs.declared.grants.TheConstants.{NO_GRANTS}
-use Rattle.wake_book.specs.declared.steps.GroupStep.{GroupStep}
-use Rattle.wake_book.specs.declared.steps.GroupStep.TheVariants.{Look}
 use Rattle.wake_book.specs.Charging.{IsCharge, count_steps}
-use Rattle.wake_book.specs.Groups.{StandsAsBefore, GrantsUnrung, sighted_beside, sighted_steps}
-use Rattle.wake_book.specs.Waits.{active_at}
-use Rattle.wake_book.specs.Walks.{IsWalk, walk_steps}
 use Rattle.tag_queue.specs.declared.agent.Agent.{Agent}
 use Rattle.tag_queue.specs.declared.queue.Queue.{Queue}
+use Rattle.tag_queue.specs.declared.queue.Waits.{Waits}
+use Rattle.tag_queue.specs.declared.queue.Waits.TheVariants.{InGroups, ByBell}
 use Rattle.tag_queue.specs.Holding.{HoldsLess}
-use Rattle.tag_queue.specs.Agents.{caller_of, teller_of, waiter_of, hint_of, sighting_of, book_steps, group_steps, batch_of, cap_of}
+use Rattle.tag_queue.specs.Agents.{caller_of, teller_of, waiter_of, hint_of, sighting_of, book_steps, group_steps, batch_of, cap_of, waits_of}
 
 -- one put sets the tag aside, the agent no longer holds it, and the hint follows
 pub record Puts {R : Type 0} (l : Layout) (tag : ℕ) (old new : Agent R) : Type 0 where
@@ -74,7 +67,18 @@ pub record Charges {R : Type 0} (queue : Queue R) (n : ℕ) (old new : Agent R) 
   pub lawful : IsCharge (cap_of queue) (batch_of queue) n (book_steps old) (book_steps new) charge
   pub follows : Follows (batch_of queue) charge (Look active_at active ∷ group_steps old) (group_steps new) woken
 
+-- nothing is counted, nobody is looked for in the groups, and nobody is woken there
+pub record CountsNone {R : Type 0} (old new : Agent R) (woken : ℕ) : Type 0 where
+  pub teller : teller_of new ≡ teller_of old
+  pub steps : group_steps new ≡ group_steps old
+  pub none : woken ≡ 0
+
+-- what is counted, and how many waiters are woken, in a queue whose agents wait so: in groups the agent looks for them first
+abbrev pub CountsFor : {R : Type 0} → Waits → Queue R → ℕ → Agent R → Agent R → ℕ → Type 0
+CountsFor InGroups queue n old new woken = FindsNoneActive old new woken ⊎ Charges queue n old new woken
+CountsFor ByBell queue n old new woken = CountsNone old new woken
+
 -- what is counted for n tags that were given back, and how many waiters are woken
 pub record Counts {R : Type 0} (queue : Queue R) (n : ℕ) (old new : Agent R) (woken : ℕ) : Type 0 where
-  pub counts : FindsNoneActive old new woken ⊎ Charges queue n old new woken
+  pub counts : CountsFor (waits_of queue) queue n old new woken
   pub stands : StandsAsBefore (waiter_of old) (waiter_of new)

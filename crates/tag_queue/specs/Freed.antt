@@ -1,10 +1,6 @@
 -- What an agent does about tags that its get freed and did not take.
-use Rattle.std.specs.Prelude.{◌≡◌, ℕ, ◌≤◌, ◌∷◌, min}
-use Rattle.wake_book.specs.declared.rings.Rung.TheVariants.{Nudged}
-use Rattle.wake_book.specs.declared.steps.GroupStep.TheVariants.{Look}
-use Rattle.wake_book.specs.Groups.{StandsAsBefore, RingsNobody, RingsOnce, sighted_beside, sighted_steps}
-use Rattle.wake_book.specs.Waits.{active_at}
-use Rattle.tag_search.specs.Freed.{left_free}
+use Rattle.std.specs.Prelude.{◌∷◌, ◌≡◌, ◌≤◌}
+use Rattle.tag_queue.specs.Uses.{active_at, left_free, Look, min, Nudged, RingsNobody, RingsOnce, sighted_beside, sighted_steps, StandsAsBefore, ℕ}
 use Rattle.tag_queue.specs.declared.agent.Agent.{Agent}
 use Rattle.tag_queue.specs.Agents.{caller_of, waiter_of, sighting_of, group_steps}
 use Rattle.tag_queue.specs.Waits.{SameTags}

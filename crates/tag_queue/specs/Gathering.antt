@@ -1,8 +1,8 @@
 -- How agents are gathered, and what a queue's totals say about all of them.
-use Rattle.std.specs.Prelude.{◌≡◌, ◌≤◌, List, map}
+use Rattle.std.specs.Prelude.{◌≡◌, ◌≤◌}
+use Rattle.tag_queue.specs.Uses.{CountsChain, List, map}
 use Rattle.tag_core.specs.declared.closed.Closed.{Closed}
 use Rattle.tag_core.specs.Gathering as tags
-use Rattle.tag_core.specs.Chain.{CountsChain}
 use Rattle.wake_book.specs.Book as book
 use Rattle.wake_book.specs.Groups as groups
 use Rattle.wake_book.specs.Booked.{IsBooked}

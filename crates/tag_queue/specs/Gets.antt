@@ -1,21 +1,14 @@
 -- The effect of gets on the agent that makes them.
-use Rattle.std.specs.Prelude.{ℕ, ◌+◌, ◌*◌, ◌≤◌, List, Option, IfNone}
-use Rattle.tag_layout.specs.Layout.{Layout, words, word_bits, word_of}
+use Rattle.std.specs.Prelude.{◌*◌, ◌+◌, ◌≤◌}
+use Rattle.tag_queue.specs.Uses.{Adds, BatchFollows, Caller, Hint, HintFollows, IfNone, Layout, List, Makes, MaySleep, Option, TriesAll, Word, word_bits, word_of, words, ℕ}
 use Rattle.tag_core.specs.declared.word_step.WordStep.{WordStep}
-use Rattle.tag_core.specs.declared.caller.Caller.{Caller}
-use Rattle.tag_core.specs.declared.step.Step.TheVariants.{Word}
-use Rattle.tag_core.specs.Callers.{Adds}
-use Rattle.tag_search.specs.declared.hint.Hint.{Hint}
-use Rattle.tag_search.specs.Shared.{Makes}
 use Rattle.tag_search.specs.Gains.{Gains, GainsRun}
 use Rattle.tag_search.specs.Gets.{IsGet}
 use Rattle.tag_search.specs.Batch.{IsBatchGet}
 use Rattle.tag_search.specs.Alone.{IsAlone, Chooses, ChoosesRun}
 use Rattle.tag_search.specs.Hints.{reduced}
 use Rattle.tag_search.specs.Search.{Visit}
-use Rattle.tag_search.specs.Vain.{TriesAll, MaySleep}
 use Rattle.tag_search.specs.Visits.{plain_visits, shallow_visits}
-use Rattle.tag_search.specs.Follows.{HintFollows, BatchFollows}
 use Rattle.tag_queue.specs.declared.agent.Agent.{Agent}
 use Rattle.tag_queue.specs.Agents.{caller_of, hint_of, SameCounts, SameElse}
 

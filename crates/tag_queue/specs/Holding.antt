@@ -1,6 +1,5 @@
 -- How the tags that an agent holds change, and the values of their slots.
-use Rattle.std.specs.Prelude.{ℕ}
-use Rattle.tag_core.specs.Holdings.{Releases, Acquires, KeepsAll}
+use Rattle.tag_queue.specs.Uses.{Acquires, KeepsAll, Releases, ℕ}
 use Rattle.tag_queue.specs.declared.agent.Agent.{Agent}
 use Rattle.tag_queue.specs.Agents.{caller_of}
 

@@ -1,3 +1,4 @@
+mod Uses
 pub mod Agents
 pub mod Gets
 pub mod Holding

@@ -1,8 +1,6 @@
 -- The tags of a mask: bit i of it is the tag i after the first.
-use Rattle.std.specs.Prelude.{◌≡◌, ◌≢◌, ℕ, ◌+◌, ◌-◌, ◌<◌, List, length, slice_index, map, cond, nat_lt}
-use Rattle.std.specs.Int.{bit_at}
-use Rattle.tag_layout.specs.Layout.{Layout, word_of}
-use Rattle.tag_core.specs.Records.{tags_from}
+use Rattle.std.specs.Prelude.{◌+◌, ◌-◌, ◌<◌, ◌≡◌, ◌≢◌}
+use Rattle.tag_queue.specs.Uses.{bit_at, cond, Layout, length, List, map, nat_lt, slice_index, tags_from, word_of, ℕ}
 
 -- the places of the bits that are 1 among the lowest `width` of a mask, in order
 unfoldable pub set_bits : ℕ → ℕ → List ℕ

@@ -1,15 +1,11 @@
 -- A new queue, and its agents.
-use Rattle.std.specs.Prelude.{◌≡◌, ℕ, ◌^◌, ◌≤◌, List, All, map, max, unwrap_or, Bool}
-use Rattle.tag_layout.specs.Layout.{Layout, wake_batch, HasShift}
-use Rattle.tag_model.specs.declared.world.TheConstants.{MAX_CALLERS, MOST_WON}
+use Rattle.std.specs.Prelude.{◌^◌, ◌≡◌, ◌≤◌}
+use Rattle.tag_queue.specs.Uses.{All, AreOpenGroups, Bool, HasShift, Hint, IsOpenBook, Layout, List, map, max, MAX_CALLERS, MOST_WON, unwrap_or, wake_batch, ℕ}
 use Rattle.tag_core.specs.Opening.{IsNew, AreNew}
-use Rattle.tag_search.specs.declared.hint.Hint.{Hint}
-use Rattle.wake_book.specs.Book.{IsOpenBook}
-use Rattle.wake_book.specs.Groups.{AreOpenGroups}
 use Rattle.tag_queue.specs.declared.agent.Agent.{Agent}
 use Rattle.tag_queue.specs.declared.queue.Options.{Options}
 use Rattle.tag_queue.specs.declared.queue.Queue.{Queue}
-use Rattle.tag_queue.specs.Agents.{caller_of, teller_of, waiter_of, hint_of, layout_of, least_of, min_shallow_of, IsAgentOf}
+use Rattle.tag_queue.specs.Agents.{caller_of, teller_of, waiter_of, hint_of, layout_of, least_of, min_shallow_of, waits_of, IsAgentOf}
 use Rattle.tag_queue.specs.Parts.{HasHint}
 use Rattle.tag_queue.specs.Placing.{hint_in_part}
 
@@ -50,6 +46,7 @@ pub record IsOpenWith {R : Type 0} (HasStart : Options → Queue R → Agent R �
   pub hints : All (HasStart options queue) agents
   pub least : least_of queue ≡ max (unwrap_or options.min_shallow 1) 1
   pub min_shallow : min_shallow_of queue ≡ options.min_shallow
+  pub waits : waits_of queue ≡ options.waits
 
 -- the queue and its agents are new, and every hint is at 0
 abbrev pub IsOpen : {R : Type 0} → Options → Queue R → List (Agent R) → Type 0

@@ -1,12 +1,6 @@
 -- The parts of an agent: a caller, a teller and a waiter of one number.
-use Rattle.std.specs.Prelude.{◌≡◌, ℕ, ◌<◌, ◌≤◌, List, [], map}
-use mathlib.Core.Option.{some}
-use lib.ListN.{get_elem?}
-use Rattle.tag_core.specs.declared.caller.Caller.{Caller}
-use Rattle.tag_core.specs.Callers.{record_of}
-use Rattle.tag_search.specs.declared.hint.Hint.{Hint}
-use Rattle.wake_book.specs.declared.book.Teller.{Teller}
-use Rattle.wake_book.specs.declared.groups.Waiter.{Waiter}
+use Rattle.std.specs.Prelude.{◌<◌, ◌≡◌, ◌≤◌}
+use Rattle.tag_queue.specs.Uses.{[], Caller, get_elem?, Hint, List, map, record_of, some, Teller, Waiter, ℕ}
 use Rattle.wake_book.specs.Book as book
 use Rattle.wake_book.specs.Groups as groups
 use Rattle.tag_queue.specs.declared.agent.Agent.{Agent}

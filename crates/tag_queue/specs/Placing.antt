@@ -1,6 +1,6 @@
 -- Where an agent's gets start.
-use Rattle.std.specs.Prelude.{◌≡◌, ◌*◌, ◌/◌}
-use Rattle.tag_search.specs.declared.hint.Hint.{Hint}
+use Rattle.std.specs.Prelude.{◌*◌, ◌/◌, ◌≡◌}
+use Rattle.tag_queue.specs.Uses.{Hint}
 use Rattle.tag_queue.specs.declared.agent.Agent.{Agent}
 use Rattle.tag_queue.specs.declared.queue.Queue.{Queue}
 use Rattle.tag_queue.specs.Agents.{layout_of, agents_of, number_of, hint_of, caller_of, SameCounts}

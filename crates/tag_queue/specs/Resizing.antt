@@ -1,24 +1,15 @@
 -- Resizes of a queue: when they are refused, and what continues.
-use Rattle.std.specs.Prelude.{◌≡◌, ℕ, ◌<◌, ◌≤◌, List, All, map, count_by, is_some, Result, IsErrAnd}
+use Rattle.std.specs.Prelude.{◌<◌, ◌≡◌, ◌≤◌}
+use Rattle.tag_queue.specs.Uses.{All, AreSettled, Caller, count_by, GoesOn, is_some, IsCallerOf, IsErrAnd, Layout, List, map, MAX_DEPTH, Rebatches, Record, record_of, Result, Shape, Totals, wake_batch, ℕ}
 use Rattle.step_ledger.specs.Gather.{HasAll, IsLeastMissing}
-use Rattle.tag_layout.specs.Layout.{Layout, wake_batch}
-use Rattle.tag_layout.specs.declared.layout.TheConstants.{MAX_DEPTH}
-use Rattle.tag_model.specs.declared.totals.Totals.{Totals}
-use Rattle.tag_core.specs.declared.caller.Caller.{Caller}
 use Rattle.tag_core.specs.declared.map.Map.{Map}
-use Rattle.tag_core.specs.declared.record.Record.{Record}
-use Rattle.tag_core.specs.declared.shape.Shape.{Shape}
-use Rattle.tag_core.specs.Callers.{IsCallerOf, record_of}
-use Rattle.tag_core.specs.Chain.{GoesOn}
-use Rattle.tag_core.specs.Settling.{AreSettled}
 use Rattle.tag_core.specs.Reopening.{IsNext, AreReopened, LeadsOn, AllFree}
-use Rattle.wake_book.specs.Book.{Rebatches}
 use Rattle.tag_queue.specs.declared.agent.Agent.{Agent}
 use Rattle.tag_queue.specs.declared.queue.Queue.{Queue}
 use Rattle.tag_queue.specs.declared.resizes.ResizeCause.{ResizeCause}
 use Rattle.tag_queue.specs.declared.resizes.ResizeFault.{ResizeFault}
 use Rattle.tag_queue.specs.declared.resizes.ResizeCause.TheVariants.{Missing, DepthTooLarge, InUse, Waiting, Memory}
-use Rattle.tag_queue.specs.Agents.{caller_of, teller_of, waiter_of, hint_of, layout_of, least_of, min_shallow_of, fill_of, standing_of, agents_of, numbers_of, records_of, IsAgentOf}
+use Rattle.tag_queue.specs.Agents.{caller_of, teller_of, waiter_of, hint_of, layout_of, least_of, min_shallow_of, fill_of, waits_of, standing_of, agents_of, numbers_of, records_of, IsAgentOf}
 use Rattle.tag_queue.specs.Using.{held_in, posted_in, NoneInUse}
 
 -- how many of these agents are in a wait group
@@ -89,6 +80,7 @@ pub record KeepsRest {R : Type 0} (old new : Queue R) : Type 0 where
   pub groups : new.groups ≡ old.groups
   pub least : least_of new ≡ least_of old
   pub min_shallow : min_shallow_of new ≡ min_shallow_of old
+  pub waits : waits_of new ≡ waits_of old
   pub fill : fill_of new ≡ fill_of old
 
 -- the agents continue, in the same order, on a next map of free tags; they hold nothing, and their numbers, counts,

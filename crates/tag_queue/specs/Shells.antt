@@ -1,6 +1,6 @@
 -- Agents taken apart into callers and shells.
-use Rattle.std.specs.Prelude.{List, [], ◌∷◌}
-use Rattle.tag_core.specs.declared.caller.Caller.{Caller}
+use Rattle.std.specs.Prelude.{◌∷◌}
+use Rattle.tag_queue.specs.Uses.{[], Caller, List}
 use Rattle.tag_queue.specs.declared.agent.Agent.{Agent}
 use Rattle.tag_queue.specs.declared.resizes.shells.Shell.{Shell}
 use Rattle.tag_queue.specs.Parts.{Fits}

@@ -1,42 +1,37 @@
 -- How agents sleep by the bell until they are told, and wake those whom they told.
-use Rattle.std.specs.Prelude.{◌≡◌, ◌≢◌, ℕ, zero, suc, ◌+◌, ◌*◌, ◌⊎◌, Bool, Some, None}
-use Rattle.tag_layout.specs.Layout.{Layout, words}
+use Rattle.std.specs.Prelude.{◌*◌, ◌+◌, ◌≡◌, ◌≢◌, ◌⊎◌}
+use Rattle.tag_queue.specs.Uses.{Bool, IsUp, IsWaiting, Layout, MaySleep, None, Some, suc, WaitsAsBefore, words, zero, ℕ}
 use Rattle.tag_bell.specs.declared.sleeping.Woken.{Woken}
 use Rattle.tag_bell.specs.declared.told.TheConstants.{SLEEPERS}
-use Rattle.tag_bell.specs.Callers.{IsWaiting, IsUp, WaitsAsBefore}
 use Rattle.tag_bell.specs.Sleeping.{told_by}
-use Rattle.wake_book.specs.Groups.{RingsGranted}
-use Rattle.tag_search.specs.Vain.{MaySleep}
 use Rattle.tag_queue.specs.declared.agent.Agent.{Agent}
 use Rattle.tag_queue.specs.declared.queue.Queue.{Queue}
-use Rattle.tag_queue.specs.Agents.{layout_of, caller_of, teller_of, waiter_of}
+use Rattle.tag_queue.specs.Agents.{layout_of, caller_of, teller_of, SameCounts}
 use Rattle.tag_queue.specs.Bell.{ListsSelf, GetsUp, SeesTo}
 use Rattle.tag_queue.specs.Blocking.{GetsPlainAndLooks}
-use Rattle.tag_queue.specs.Clears.{Puts, Counts, complete_steps}
+use Rattle.tag_queue.specs.Clears.{Puts}
 use Rattle.tag_queue.specs.Holding.{HoldsLess, HoldsMore}
 
--- the agent has nothing more to see to: by at most so many steps it told these, of whom it woke the sleepers
-abbrev pub SeesToAndWakes : {R : Type 0} → ℕ → Woken → Agent R → Agent R → Type 0
-SeesToAndWakes most woken = SeesTo most (told_by woken)
+-- the agent has nothing more to see to: by at most so many steps it told these, at most `limit` of each list unless those
+-- that it chose were gone, and woke the sleepers among them
+abbrev pub SeesToAndWakes : {R : Type 0} → ℕ → ℕ → Woken → Agent R → Agent R → Type 0
+SeesToAndWakes limit most woken = SeesTo limit most (told_by woken)
 
 -- the most steps by which an agent sees to all tags
 abbrev pub see_to_all_steps : Layout → ℕ
 see_to_all_steps l = 2 * words l + 8
 
--- the agent cleared the tag, which granted so many waiters in groups a wakeup and rang for them, and then saw to what it
--- had to see to, and woke those whom this told
+-- the agent cleared the tag, counted nothing, and then saw to what it had to see to, and woke those whom this told
 pub record ClearsAndWakes {R : Type 0} (queue : Queue R) (tag : ℕ) (woken : Woken) (old new : Agent R) : Type 0 where
   pub between : Agent R
-  pub granted : ℕ
   pub puts : Puts (layout_of queue) tag old between
-  pub counts : Counts queue 1 old between granted
-  pub rings : RingsGranted (waiter_of old) (waiter_of between)
-  pub wakes : SeesToAndWakes 6 woken between new
+  pub counts : SameCounts old between
+  pub wakes : SeesToAndWakes 1 6 woken between new
   pub less : HoldsLess (λ other. other ≡ tag) old new
 
 -- the most steps of such a clear
 abbrev pub clear_and_wake_steps : ℕ
-clear_and_wake_steps = 1 + complete_steps + 6
+clear_and_wake_steps = 1 + 6
 
 -- the agent listed itself, then tried each tag in vain, and had nothing to see to, and so it slept until it was told
 pub record IsSleep {R : Type 0} (l : Layout) (old new : Agent R) : Type 0 where
@@ -78,7 +73,7 @@ Wins l tag old new = GetsPlainAndLooks l (Some tag) old new ⊎ SleepsFor l tag 
 pub record GetsSleeping {R : Type 0} (l : Layout) (tag : ℕ) (woken : Woken) (old new : Agent R) : Type 0 where
   pub won : Agent R
   pub wins : Wins l tag old won
-  pub wakes : SeesToAndWakes (see_to_all_steps l) woken won new
+  pub wakes : SeesToAndWakes 1 (see_to_all_steps l) woken won new
   pub more : HoldsMore (λ other. other ≡ tag) old new
   pub up : IsUp SLEEPERS (caller_of old) → IsUp SLEEPERS (caller_of new)
   pub others : (other : ℕ) → other ≢ SLEEPERS → WaitsAsBefore other (caller_of old) (caller_of new)

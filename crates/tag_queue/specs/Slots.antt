@@ -1,8 +1,6 @@
 -- The effect of reads and writes of slots, posts and takes on the agent that makes them.
-use Rattle.std.specs.Prelude.{◌≡◌, ◌≢◌, ℕ, ◌⊎◌, Some, None}
-use mathlib.Core.Option.{some}
-use Rattle.tag_core.specs.declared.step.Step.TheVariants.{Post, Take}
-use Rattle.tag_core.specs.Callers.{record_of, Adds, SameMap}
+use Rattle.std.specs.Prelude.{◌≡◌, ◌≢◌, ◌⊎◌}
+use Rattle.tag_queue.specs.Uses.{Adds, None, Post, record_of, SameMap, Some, some, Take, ℕ}
 use Rattle.tag_queue.specs.declared.agent.Agent.{Agent}
 use Rattle.tag_queue.specs.declared.fault.QueueFault.{QueueFault}
 use Rattle.tag_queue.specs.declared.fault.QueueFault.TheVariants.{NoSuchTag, NotPosted}

@@ -1,6 +1,5 @@
 -- How many tags an agent has won and given back.
-use Rattle.std.specs.Prelude.{ℕ}
-use Rattle.tag_core.specs.Callers.{record_of}
+use Rattle.tag_queue.specs.Uses.{record_of, ℕ}
 use Rattle.tag_queue.specs.declared.agent.Agent.{Agent}
 use Rattle.tag_queue.specs.Agents.{caller_of}
 

@@ -1,8 +1,6 @@
 -- How many tags of a queue are in use.
-use Rattle.std.specs.Prelude.{◌≡◌, ℕ, ◌+◌, ◌-◌, List}
-use Rattle.tag_model.specs.declared.totals.Totals.{Totals}
-use Rattle.tag_core.specs.declared.record.Record.{Record}
-use Rattle.tag_core.specs.Settling.{AreSettled}
+use Rattle.std.specs.Prelude.{◌+◌, ◌-◌, ◌≡◌}
+use Rattle.tag_queue.specs.Uses.{AreSettled, List, Record, Totals, ℕ}
 use Rattle.tag_core.specs.Sizes.{total_of, size_of}
 use Rattle.tag_queue.specs.declared.agent.Agent.{Agent}
 use Rattle.tag_queue.specs.declared.queue.Queue.{Queue}

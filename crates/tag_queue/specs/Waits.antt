@@ -1,7 +1,6 @@
 -- How agents enter wait groups.
-use Rattle.std.specs.Prelude.{◌≡◌, ℕ, ◌+◌, ◌%◌, ◌∷◌, Some}
-use Rattle.wake_book.specs.declared.steps.GroupStep.TheVariants.{Enter, Raise}
-use Rattle.wake_book.specs.Groups.{wait_index_of}
+use Rattle.std.specs.Prelude.{◌%◌, ◌+◌, ◌∷◌, ◌≡◌}
+use Rattle.tag_queue.specs.Uses.{Enter, Raise, Some, wait_index_of, ℕ}
 use Rattle.tag_queue.specs.declared.agent.Agent.{Agent}
 use Rattle.tag_queue.specs.Agents.{caller_of, teller_of, waiter_of, hint_of, standing_of, group_steps}
 

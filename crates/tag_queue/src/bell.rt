@@ -1,20 +1,56 @@
 //! Waits by the bell of the map: an agent lists itself, learns that it was told, and gets up; and whoever makes tags free
 //! sees to them. An agent that waits so is in no wait group. The laws of `tag_bell` say what follows for all agents
 //! together: nobody sleeps beside a free tag unless somebody is on the way to it.
-ghost use Rattle.std.specs.Prelude.{◌≡◌, ◌+◌, ◌*◌, ◌<◌, ◌≤◌};
+ghost use Rattle.std.specs.Prelude.{◌≡◌, ◌+◌, ◌*◌, ◌<◌, ◌≤◌, OnOk, max};
 ghost use Rattle.tag_layout.specs.Layout.{words};
 ghost use Rattle.tag_core.specs.declared.bell.TheConstants.{LISTS};
 ghost use Rattle.tag_queue.specs.Agents.{layout_of, IsAgentOf, step_count};
 ghost use Rattle.tag_queue.specs.Bell.{ListsSelf, GetsUp, LooksForWaiters, SeesTo};
+ghost use Rattle.refusals.specs.Refusals.{RefusesBy};
+ghost use Rattle.tag_queue.specs.Refusals.{bell_checks};
 
 use crate::agent::Agent;
-use crate::queue::Queue;
+use crate::fault::QueueFault;
+use crate::queue::{Queue, Waits};
 use tag_bell::Told;
 
 impl<R: Copy> Queue<R> {
     /// Lists the agent among those that wait, with the next turn. Afterwards it has to try each tag, by a get that finds
-    /// none, before it may sleep. One step.
-    pub fn list_self(&self, agent: &mut Agent<R>, list: u32)
+    /// none, before it may sleep. One step. `OtherWait` means that the queue's agents wait in groups.
+    pub fn list_self(&self, agent: &mut Agent<R>, list: u32) -> Result<(), QueueFault>
+        requires agent { IsAgentOf self.now agent.old }
+        requires within { list < LISTS }
+        ensures agent { IsAgentOf self.now agent.new }
+        ensures refusals { RefusesBy (bell_checks self.now) (agent.new ≡ agent.old) result }
+        ensures lists { OnOk result (ListsSelf list agent.old agent.new) }
+        ensures bound { step_count agent.new ≤ 1 + step_count agent.old }
+    {
+        if self.waits != Waits::ByBell {
+            return Err(QueueFault::OtherWait);
+        }
+        self.enlist(agent, list);
+        Ok(())
+    }
+
+    /// Lists the agent as `list_self` does, with the turn that it had: for one that was told and found no tag. One step. It
+    /// is refused as `list_self` is: `OtherWait`.
+    pub fn list_again(&self, agent: &mut Agent<R>, list: u32) -> Result<(), QueueFault>
+        requires agent { IsAgentOf self.now agent.old }
+        requires within { list < LISTS }
+        ensures agent { IsAgentOf self.now agent.new }
+        ensures refusals { RefusesBy (bell_checks self.now) (agent.new ≡ agent.old) result }
+        ensures lists { OnOk result (ListsSelf list agent.old agent.new) }
+        ensures bound { step_count agent.new ≤ 1 + step_count agent.old }
+    {
+        if self.waits != Waits::ByBell {
+            return Err(QueueFault::OtherWait);
+        }
+        self.enlist_again(agent, list);
+        Ok(())
+    }
+
+    /// Lists the agent, with the next turn.
+    pub(crate) fn enlist(&self, agent: &mut Agent<R>, list: u32)
         requires agent { IsAgentOf self.now agent.old }
         requires within { list < LISTS }
         ensures agent { IsAgentOf self.now agent.new }
@@ -24,8 +60,8 @@ impl<R: Copy> Queue<R> {
         tag_bell::list_self(&self.map, &mut agent.caller, list);
     }
 
-    /// Lists the agent as `list_self` does, with the turn that it had: for one that was told and found no tag. One step.
-    pub fn list_again(&self, agent: &mut Agent<R>, list: u32)
+    /// Lists the agent, with the turn that it had.
+    pub(crate) fn enlist_again(&self, agent: &mut Agent<R>, list: u32)
         requires agent { IsAgentOf self.now agent.old }
         requires within { list < LISTS }
         ensures agent { IsAgentOf self.now agent.new }
@@ -75,7 +111,7 @@ impl<R: Copy> Queue<R> {
     pub fn see_to(&self, agent: &mut Agent<R>, freed: u32) -> Told
         requires agent { IsAgentOf self.now agent.old }
         ensures agent { IsAgentOf self.now agent.new }
-        ensures sees_to { SeesTo 6 result agent.old agent.new }
+        ensures sees_to { SeesTo (max freed 1) 6 result agent.old agent.new }
         ensures bound { step_count agent.new ≤ 6 + step_count agent.old }
     {
         tag_bell::see_to(&self.map, &mut agent.caller, freed)
@@ -88,7 +124,7 @@ impl<R: Copy> Queue<R> {
     pub fn see_to_all(&self, agent: &mut Agent<R>) -> Told
         requires agent { IsAgentOf self.now agent.old }
         ensures agent { IsAgentOf self.now agent.new }
-        ensures sees_to { SeesTo (2 * words (layout_of self.now) + 8) result agent.old agent.new }
+        ensures sees_to { SeesTo 1 (2 * words (layout_of self.now) + 8) result agent.old agent.new }
         ensures bound { step_count agent.new ≤ 2 * words (layout_of self.now) + 8 + step_count agent.old }
     {
         tag_bell::settle(&self.map, &mut agent.caller)

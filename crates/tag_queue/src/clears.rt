@@ -11,7 +11,7 @@ ghost use Rattle.tag_queue.specs.Refusals.{tag_checks};
 
 use crate::agent::Agent;
 use crate::fault::QueueFault;
-use crate::queue::Queue;
+use crate::queue::{Queue, Waits};
 use tag_search::after_clear;
 use wake_book::{Charge, Grants, NO_GRANTS, Waking};
 
@@ -20,8 +20,9 @@ pub(crate) mod lists;
 mod masks;
 
 impl<R: Copy> Queue<R> {
-    /// Clears a held tag, counts it if any agent waits, and answers as `W` says whom this granted a wakeup. As in
-    /// `sbitmap_queue_clear` (lib/sbitmap.c) the tag is only set aside: the next sweep of its word frees it.
+    /// Clears a held tag, counts it if any agent waits in a group, and answers as `W` says whom this granted a wakeup. As in
+    /// `sbitmap_queue_clear` (lib/sbitmap.c) the tag is only set aside: the next sweep of its word frees it. In a queue whose
+    /// agents wait by the bell nothing is counted, and the caller has to see to the tag (`see_to`, `clear_and_wake`).
     /// `NoSuchTag` means that the number is not below the depth, `NotHeld` that the agent does not hold the tag;
     /// nothing changes then.
     #[inline]
@@ -99,7 +100,8 @@ impl<R: Copy> Queue<R> {
     }
 
     /// Counts `n` tags given back if anybody is active, and grants up to a batch of wakeups if it charged one. The look
-    /// is a sighting, so that a contract can say that it came after the tags were given back.
+    /// is a sighting, so that a contract can say that it came after the tags were given back. In a queue whose agents wait
+    /// by the bell it does nothing.
     #[inline]
     pub(crate) fn complete<W: Waking>(&self, agent: &mut Agent<R>, n: u32) -> W::Answer
         requires agent { IsAgentOf self.now agent.old }
@@ -111,6 +113,9 @@ impl<R: Copy> Queue<R> {
         ensures others { (caller_of agent.new ≡ caller_of agent.old) × (hint_of agent.new ≡ hint_of agent.old) }
         ensures bound { step_count agent.new ≤ complete_steps + step_count agent.old }
     {
+        if self.waits == Waits::ByBell {
+            return W::nobody();
+        }
         let (found, sighting) = self.groups.sight(&mut agent.waiter, &agent.caller);
         agent.sighting = sighting;
         if found == 0 {

@@ -28,6 +28,9 @@ pub enum QueueOpenFault {
 /// Why a call on a tag or a wait was refused.
 #[derive(Clone, Copy, Debug, PartialEq, Eq, Error)]
 pub enum QueueFault {
+    /// The queue was opened for the other kind of wait.
+    #[error("the queue was opened for the other kind of wait")]
+    OtherWait,
     /// No tag has this number.
     #[error("no tag has this number")]
     NoSuchTag,

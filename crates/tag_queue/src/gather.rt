@@ -75,6 +75,7 @@ impl<R: Copy> Queue<R> {
             shallowest: _,
             min_shallow: _,
             callers: _,
+            waits: _,
             fill: _,
         } = self;
         QueueTotals {

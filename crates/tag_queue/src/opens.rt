@@ -94,6 +94,7 @@ fn lay_out<R: Copy>(
         shallowest: options.min_shallow.unwrap_or(1).max(1),
         min_shallow: options.min_shallow,
         callers: options.callers,
+        waits: options.waits,
         fill,
     };
     Ok((queue, agents))

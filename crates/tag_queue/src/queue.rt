@@ -1,4 +1,4 @@
-//! The queue and its options.
+//! The queue, its options, and the two ways in which its callers wait.
 ghost use Rattle.std.specs.Prelude.{◌≡◌, ◌≤◌};
 ghost use Rattle.wake_book.specs.Book.{batch_of, tellers_of};
 ghost use Rattle.wake_book.specs.Groups.{waiters_of};
@@ -6,6 +6,18 @@ ghost use Rattle.wake_book.specs.Groups.{waiters_of};
 use tag_core::Map;
 use tag_model::MOST_WON;
 use wake_book::{Book, Groups, MAX_CAP};
+
+/// How the agents of a queue wait for a tag. A queue is opened for one of the two: its clears look for waiters of that kind
+/// alone, and the calls that wait in the other way are refused.
+#[derive(Clone, Copy, Debug, PartialEq, Eq)]
+pub enum Waits {
+    /// In wait groups, as in Linux's `sbitmap_queue`: clears count completions, and each batch of them wakes up to as many
+    /// waiters. A tag that comes back can lie free beside waiters until a batch is full.
+    InGroups,
+    /// By the bell: whoever makes a tag free tells agents that wait, so nobody sleeps beside a free tag unless somebody is on
+    /// the way to it. Completions are not counted.
+    ByBell,
+}
 
 /// The options with which a queue is opened.
 #[derive(Clone, Copy, Debug, PartialEq, Eq)]
@@ -24,6 +36,8 @@ pub struct Options {
     /// Completions that one agent may count in all, at most 2^56. Past it the agent's clears give tags back as before,
     /// but count nothing and wake nobody.
     pub cap: u64,
+    /// How the agents wait.
+    pub waits: Waits,
 }
 
 impl Options {
@@ -32,7 +46,7 @@ impl Options {
     ghost use Rattle.wake_book.specs.declared.book_opening.TheConstants.{MAX_CAP};
 
     /// Returns the options for this many agents, 1 to 64, and otherwise the defaults: the shift that fits the depth, no
-    /// round robin, no minimum shallow depth, and the greatest life and cap.
+    /// round robin, no minimum shallow depth, the greatest life and cap, and waits in groups.
     pub fn new(callers: u32) -> Options
         ensures { result ≡ record {
           shift = None;
@@ -41,6 +55,7 @@ impl Options {
           callers = callers;
           life = MOST_WON;
           cap = MAX_CAP;
+          waits = Waits.InGroups;
         } }
     {
         Options {
@@ -50,6 +65,7 @@ impl Options {
             callers,
             life: MOST_WON,
             cap: MAX_CAP,
+            waits: Waits::InGroups,
         }
     }
 
@@ -82,6 +98,16 @@ impl Options {
             ..self
         }
     }
+
+    /// Returns these options with waits by the bell.
+    pub fn with_bell(self) -> Options
+        ensures { result ≡ record self { waits = Waits.ByBell } }
+    {
+        Options {
+            waits: Waits::ByBell,
+            ..self
+        }
+    }
 }
 
 /// Tags shared by up to 64 agents without a lock, with a count of completions and groups of waiters.
@@ -98,9 +124,23 @@ pub struct Queue<R> {
     pub(crate) min_shallow: Option<u32>,
     /// Number of agents, 1 to 64.
     pub(crate) callers: u32,
+    /// How the agents wait, also after a resize.
+    pub(crate) waits: Waits,
     /// The initial value of each slot, also after a resize.
     pub(crate) fill: R,
     ghost batch_is: { batch_of book ≡ batch },
     ghost narrow: { (1 ≤ batch) × (batch ≤ 8) × (1 ≤ shallowest) },
     ghost as_many: { (tellers_of book ≡ map.shape.callers) × (waiters_of groups ≡ map.shape.callers) × (callers ≡ map.shape.callers) },
+}
+
+impl<R> Queue<R> {
+    ghost use Rattle.tag_queue.specs.Agents.{waits_of};
+
+    /// Returns how the agents wait. This makes no step.
+    #[inline]
+    pub fn waits(&self) -> Waits
+        ensures { result ≡ waits_of self.now }
+    {
+        self.waits
+    }
 }

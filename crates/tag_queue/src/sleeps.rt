@@ -1,6 +1,6 @@
 //! Sleeps by the bell, and who wakes the sleepers: an agent sleeps until it is told, and whoever tells agents wakes the
 //! sleepers among them.
-ghost use Rattle.std.specs.Prelude.{◌≡◌, ◌+◌, ◌≤◌, IfOk};
+ghost use Rattle.std.specs.Prelude.{◌≡◌, ◌+◌, ◌≤◌, IfOk, max};
 ghost use Rattle.tag_bell.specs.declared.told.TheConstants.{SLEEPERS};
 ghost use Rattle.tag_bell.specs.Callers.{IsWaiting};
 ghost use Rattle.tag_bell.specs.Sleeping.{told_by};
@@ -8,14 +8,13 @@ ghost use Rattle.tag_search.specs.Vain.{MaySleep};
 ghost use Rattle.tag_queue.specs.Agents.{layout_of, IsAgentOf, IsUnchanged, caller_of, step_count};
 ghost use Rattle.tag_queue.specs.Sleeping.{SeesToAndWakes, ClearsAndWakes, see_to_all_steps, clear_and_wake_steps};
 ghost use Rattle.refusals.specs.Refusals.{RefusesBy};
-ghost use Rattle.tag_queue.specs.Refusals.{tag_checks};
+ghost use Rattle.tag_queue.specs.Refusals.{clear_and_wake_checks};
 
 use crate::agent::Agent;
 use crate::fault::QueueFault;
-use crate::queue::Queue;
+use crate::queue::{Queue, Waits};
 use std::sync::Wait;
 use tag_bell::{Told, Woken};
-use wake_book::Ring;
 
 impl<R: Copy> Queue<R> {
     /// Sleeps until the agent is told. It may sleep only if it is listed among the sleepers, has tried each tag in vain
@@ -43,7 +42,7 @@ impl<R: Copy> Queue<R> {
     pub fn wake(&self, agent: &mut Agent<R>, freed: u32) -> Woken
         requires agent { IsAgentOf self.now agent.old }
         ensures agent { IsAgentOf self.now agent.new }
-        ensures wakes { SeesToAndWakes 6 result agent.old agent.new }
+        ensures wakes { SeesToAndWakes (max freed 1) 6 result agent.old agent.new }
         ensures bound { step_count agent.new ≤ 6 + step_count agent.old }
     {
         let told = self.see_to(agent, freed);
@@ -55,23 +54,27 @@ impl<R: Copy> Queue<R> {
     pub fn wake_next(&self, agent: &mut Agent<R>) -> Woken
         requires agent { IsAgentOf self.now agent.old }
         ensures agent { IsAgentOf self.now agent.new }
-        ensures wakes { SeesToAndWakes (see_to_all_steps (layout_of self.now)) result agent.old agent.new }
+        ensures wakes { SeesToAndWakes 1 (see_to_all_steps (layout_of self.now)) result agent.old agent.new }
         ensures bound { step_count agent.new ≤ see_to_all_steps (layout_of self.now) + step_count agent.old }
     {
         let told = self.see_to_all(agent);
         self.wake_told(agent, told)
     }
 
-    /// Clears a held tag as `clear::<Ring>` does, then tells one of those that wait by the bell, if there are any, and wakes
-    /// it if it sleeps. Returns whom it told. It is refused as `clear` is: `NoSuchTag`, `NotHeld`.
+    /// Clears a held tag, then tells one of those that wait by the bell, if there are any, and wakes it if it sleeps. Returns
+    /// whom it told. `OtherWait` means that the queue's agents wait in groups; otherwise it is refused as `clear` is:
+    /// `NoSuchTag`, `NotHeld`.
     pub fn clear_and_wake(&self, agent: &mut Agent<R>, tag: u32) -> Result<Woken, QueueFault>
         requires agent { IsAgentOf self.now agent.old }
         ensures agent { IsAgentOf self.now agent.new }
-        ensures refusals { RefusesBy (tag_checks self.now agent.old tag) (agent.new ≡ agent.old) result }
+        ensures refusals { RefusesBy (clear_and_wake_checks self.now agent.old tag) (agent.new ≡ agent.old) result }
         ensures wakes { IfOk result (λ woken. ClearsAndWakes self.now tag woken agent.old agent.new) }
         ensures bound { step_count agent.new ≤ clear_and_wake_steps + step_count agent.old }
     {
-        self.clear::<Ring>(agent, tag)?;
+        if self.waits != Waits::ByBell {
+            return Err(QueueFault::OtherWait);
+        }
+        self.clear_uncounted(agent, tag)?;
         Ok(self.wake(agent, 1))
     }
 }

@@ -12,7 +12,7 @@ ghost use Rattle.tag_queue.specs.Refusals.{wait_checks, leave_checks};
 
 use crate::agent::Agent;
 use crate::fault::QueueFault;
-use crate::queue::Queue;
+use crate::queue::{Queue, Waits};
 use std::sync::Wait;
 use wake_book::{Groups, Left};
 
@@ -30,15 +30,18 @@ pub struct Wakes {
 }
 
 impl<R: Copy> Queue<R> {
-    /// Enters the wait group of the agent's wait index, advances that index, and returns the group, 0 to 7. `Waiting`
-    /// means that the agent is already in a group.
+    /// Enters the wait group of the agent's wait index, advances that index, and returns the group, 0 to 7. `OtherWait`
+    /// means that the queue's agents wait by the bell, `Waiting` that the agent is already in a group.
     pub fn prepare_wait(&self, agent: &mut Agent<R>) -> Result<u32, QueueFault>
         requires agent { IsAgentOf self.now agent.old }
         ensures agent { IsAgentOf self.now agent.new }
-        ensures refusals { RefusesBy (wait_checks agent.old) (agent.new ≡ agent.old) result }
+        ensures refusals { RefusesBy (wait_checks self.now agent.old) (agent.new ≡ agent.old) result }
         ensures enters { IfOk result (λ group. Enters group agent.old agent.new) }
         ensures silent { RingsNobody (waiter_of agent.old) (waiter_of agent.new) }
     {
+        if self.waits != Waits::InGroups {
+            return Err(QueueFault::OtherWait);
+        }
         if Groups::standing(&agent.waiter).is_some() {
             return Err(QueueFault::Waiting);
         }

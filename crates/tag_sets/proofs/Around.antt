@@ -1,25 +1,14 @@
 -- Loads of one word of a set after another, and what they have found so far.
-use Rattle.std.proofs.Common.{◌≡◌, ℕ, suc, ◌+◌, ◌*◌, ◌<◌, List, [], ◌∷◌, ◌++◌, length, length-append, refl, sym, ap, ◌∙◌, subst, arith}
-use Rattle.tag_core.specs.declared.record.Record.{Record}
+use Rattle.std.specs.Prelude.{◌*◌, ◌++◌, ◌+◌, ◌<◌, ◌∷◌, ◌≡◌}
+use Rattle.tag_sets.proofs.Uses.{[], Agent, ap, arith, Changes, Hand, HoldsSame, Kind, length, length-append, List, looks_from, MakesLooks, Ordinary, Record, record_after, record_of, refl, Reserved, Shape, step_count, subst, suc, sym, tag_bit, WordStep, ℕ, ◌∙◌}
 use Rattle.tag_core.specs.declared.step.Step.TheVariants.{Word}
-use Rattle.tag_core.specs.declared.word_step.WordStep.{WordStep}
 use Rattle.tag_core.specs.declared.word_step.WordStep.TheVariants.{Look, LookAside}
-use Rattle.tag_core.specs.Callers.{record_of}
-use Rattle.tag_core.specs.declared.shape.Shape.{Shape}
-use Rattle.tag_core.specs.Records.{record_after, tag_bit}
 use Rattle.tag_search.specs.Shared.{record_after_all}
 use Rattle.wake_book.specs.declared.book.Teller.{Teller}
 use Rattle.wake_book.specs.declared.groups.Waiter.{Waiter}
 use Rattle.wake_book.specs.Book as book
 use Rattle.wake_book.specs.Groups as groups
-use Rattle.tag_queue.specs.declared.agent.Agent.{Agent}
 use Rattle.tag_queue.specs.Agents as queue
-use Rattle.tag_sets.specs.declared.hand.Hand.{Hand}
-use Rattle.tag_sets.specs.declared.kind.Kind.{Kind}
-use Rattle.tag_sets.specs.declared.kind.Kind.TheVariants.{Ordinary, Reserved}
-use Rattle.tag_sets.specs.Hands.{Changes, step_count}
-use Rattle.tag_sets.specs.Holding.{HoldsSame}
-use Rattle.tag_sets.specs.Looks.{MakesLooks, looks_from}
 use Rattle.tag_sets.proofs.Uniting.{twice_same}
 
 -- the pairs found so far, up to this word, by these looks; the hand holds the same tags as before

@@ -1,24 +1,13 @@
 -- What the ordinary set answers for the numbers of a list holds for the ordinary tags of the list.
-use Rattle.std.proofs.Common.{◌≡◌, ℕ, ◌+◌, ◌-◌, ◌<◌, ◌≤◌, List, All, Contains, length, get_or, Result, arith, refl, sym, ap, ◌∙◌, subst}
-use Rattle.std.proofs.lemmas.List.{length-map, get_or-map}
-use Rattle.tag_queue.specs.declared.agent.Agent.{Agent}
-use Rattle.tag_queue.specs.declared.fault.QueueFault.{QueueFault}
+use Rattle.std.specs.Prelude.{◌+◌, ◌-◌, ◌<◌, ◌≡◌, ◌≤◌}
+use Rattle.tag_sets.proofs.Uses.{Agent, agent_of, All, ap, AreHeldOnce, AreOrdinary, arith, Contains, CountsTags, FailsFirst, get_or, get_or-map, GivesBack, Hand, Holds, IsErrAnd, IsHandOf, Kind, layout_of, length, length-map, List, list_checks, number_in_set, of_queue, Ordinary, PassesAll}
+use Rattle.tag_sets.proofs.Uses.{QueueFault, refl, reserved_of, Result, split_of, subst, sym, TagFault, Tags, ℕ, ◌∙◌}
 use Rattle.tag_queue.specs.Agents as queue
 use Rattle.tag_queue.specs.Batches as queue_batches
-use Rattle.tag_sets.specs.declared.fault.TagFault.{TagFault}
-use Rattle.tag_sets.specs.declared.hand.Hand.{Hand}
-use Rattle.tag_sets.specs.declared.kind.Kind.{Kind}
-use Rattle.tag_sets.specs.declared.kind.Kind.TheVariants.{Ordinary}
-use Rattle.tag_sets.specs.declared.tags.Tags.{Tags}
-use Rattle.tag_sets.specs.Sets.{number_in_set}
-use Rattle.tag_sets.specs.Hands.{agent_of, split_of, layout_of, reserved_of, IsHandOf, Holds}
-use Rattle.tag_sets.specs.Batches.{CountsTags, AreOrdinary, AreHeldOnce, numbers_of, GivesBack}
+use Rattle.tag_sets.specs.Batches.{numbers_of}
 use Rattle.tag_sets.proofs.Numbering.{ordinary_above}
-use Rattle.tag_sets.specs.Faults.{of_queue}
-use Rattle.tag_sets.specs.Refusals.{list_checks}
 use Rattle.tag_queue.specs.Refusals as queue_refusals
-use Rattle.std.specs.Result.{IsErrAnd, IfErr}
-use Rattle.refusals.specs.Refusals.{FailsFirst, PassesAll}
+use Rattle.std.specs.Result.{IfErr}
 use Rattle.tag_sets.proofs.Told.{Alike, refused_alike, passes_alike}
 use Rattle.tag_sets.proofs.Lifting.{InSet, less, less_like}
 use Rattle.tag_sets.proofs.Getting.{ordinary_like}

@@ -1,17 +1,12 @@
 -- A get of an agent in two calls is one of its hand.
-use Rattle.std.proofs.Common.{◌≡◌, ℕ, ◌<◌, Option, Some, Ok, arith, sym, ap, ◌∙◌, subst}
+use Rattle.std.specs.Prelude.{◌<◌, ◌≡◌}
+use Rattle.tag_sets.proofs.Uses.{Agent, ap, arith, Hand, IsHandOf, layout_of, Ok, Option, Ordinary, reserved_of, Some, subst, sym, Tags, whole, ℕ, ◌∙◌}
 use Rattle.tag_search.specs.declared.found.Found.{Found}
 use Rattle.tag_search.specs.declared.search.Unfinished.{Unfinished}
-use Rattle.tag_queue.specs.declared.agent.Agent.{Agent}
 use Rattle.tag_queue.specs.Agents as queue
 use Rattle.tag_queue.specs.Begun as begun
-use Rattle.tag_sets.specs.declared.hand.Hand.{Hand}
-use Rattle.tag_sets.specs.declared.kind.Kind.TheVariants.{Ordinary}
-use Rattle.tag_sets.specs.declared.tags.Tags.{Tags}
 use Rattle.tag_sets.specs.Begun.{TriesFirst}
 use Rattle.tag_sets.specs.Calls.{DoesGet}
-use Rattle.tag_sets.specs.Gets.{whole}
-use Rattle.tag_sets.specs.Hands.{layout_of, reserved_of, IsHandOf}
 use Rattle.tag_sets.proofs.Getting.{number_low, gets_of}
 
 module _ {R : Type 0} (tags : Tags R) (hand : Hand R) (agent : Agent R) (own : IsHandOf tags hand) where

@@ -1,10 +1,7 @@
 -- A dump that is written byte by byte consists of its lines.
-use Rattle.std.proofs.Common.{◌≡◌, ◌≢◌, ℕ, zero, suc, ◌+◌, ◌-◌, ◌*◌, ◌/◌, ◌%◌, ◌<◌, min, Bool, true, false, ◌||◌, List, [], ◌∷◌, ◌++◌, length, refl, sym, ap, ◌∙◌, append_assoc, append-nil, arith, eq-eqb, ne_eqb}
-use Rattle.std.specs.Prelude.{◌==◌, if◌then◌else◌, codes}
-use Rattle.std.specs.Int.{div_ceil}
-use Rattle.std.specs.List.{flat_map, range_with_len}
-use Rattle.std.proofs.lemmas.Grind.{flat_map-append}
-use Rattle.tag_sets.specs.Texts.{hex_digits, byte_text, line_text, dump_text}
+use Rattle.std.specs.Prelude.{if◌then◌else◌, ◌%◌, ◌*◌, ◌++◌, ◌+◌, ◌-◌, ◌/◌, ◌<◌, ◌==◌, ◌||◌, ◌∷◌, ◌≡◌, ◌≢◌}
+use Rattle.tag_sets.proofs.Uses.{[], ap, append-nil, append_assoc, arith, Bool, byte_text, codes, div_ceil, dump_text, eq-eqb, false, flat_map, flat_map-append, hex_digits, length, line_text, List, min, ne_eqb, range_with_len, refl, suc, sym, true, zero, ℕ}
+use Rattle.tag_sets.proofs.Uses.{◌∙◌}
 
 -- what is written before a byte, if it is the first of its line
 abbrev pub head : ℕ → List ℕ

@@ -1,29 +1,13 @@
 -- All hands together: how many there can be, and the sums over both sets.
-use Rattle.std.proofs.Common.{◌≡◌, ◌≢◌, ℕ, zero, suc, ◌+◌, ◌*◌, ◌<◌, ◌≤◌, List, [], ◌∷◌, Bool, All, map, length, get_or, nat_eq, cond, arith, refl, sym, ap, ◌∙◌, subst, eq-eqb, ne_eqb, mul-le-mul_right}
+use Rattle.std.specs.Prelude.{◌*◌, ◌+◌, ◌<◌, ◌∷◌, ◌≡◌, ◌≢◌, ◌≤◌}
+use Rattle.tag_sets.proofs.Uses.{[], Agent, All, All-map, All-weaker, ap, AreDistinct, arith, Bool, cond, dite, eq-eqb, get_or, Hand, hands_of, IsGathered, IsHandOf, IsSmall, IsUnchanged, length, length-map, List, map, MOST_WON, mul-le-mul_right, nat_eq, ne_eqb, number_of, numbers_of, Ordinary}
+use Rattle.tag_sets.proofs.Uses.{ordinary_part, Queue, Record, refl, reserved_part, Shape, subst, suc, sum_below, sum_below-le, sum_below-none, sum_below-only, sum_below-same, sum_below-swap, sym, Tags, totals_of_both, zero, ℕ, ℕ_discrete, ◌∙◌}
 use Rattle.std.proofs.Math.Nat.{suc-mul}
-use Rattle.std.proofs.lemmas.List.{length-map}
-use Rattle.std.proofs.lemmas.List.Elements.{All-map, All-weaker}
-use mathlib.Core.Logic.{dite}
-use native.Mathlib.Decide.{ℕ_discrete}
-use Rattle.sums.specs.Below.{sum_below}
-use Rattle.sums.proofs.Laws.{sum_below-none, sum_below-same, sum_below-only, sum_below-swap, sum_below-le}
 use Rattle.tag_model.specs.declared.totals.Totals.{Totals}
-use Rattle.tag_model.specs.declared.world.TheConstants.{MOST_WON}
-use Rattle.tag_core.specs.declared.record.Record.{Record}
-use Rattle.tag_core.specs.declared.shape.Shape.{Shape}
 use Rattle.tag_core.specs.Sizes.{total_of}
-use Rattle.tag_queue.specs.declared.agent.Agent.{Agent}
 use Rattle.tag_queue.specs.declared.gather.QueueTotals.{QueueTotals}
-use Rattle.tag_queue.specs.declared.queue.Queue.{Queue}
 use Rattle.tag_queue.specs.Agents as queue
 use Rattle.tag_queue.specs.Gathering as queue_gathering
-use Rattle.tag_sets.specs.declared.hand.Hand.{Hand}
-use Rattle.tag_sets.specs.declared.kind.Kind.TheVariants.{Ordinary}
-use Rattle.tag_sets.specs.declared.tags.Tags.{Tags}
-use Rattle.tag_sets.specs.Hands.{IsHandOf, number_of}
-use Rattle.tag_sets.specs.Meeting.{IsUnchanged}
-use Rattle.tag_sets.specs.Opening.{reserved_part, ordinary_part}
-use Rattle.tag_sets.specs.Gathering.{hands_of, numbers_of, AreDistinct, totals_of_both, IsSmall, IsGathered}
 
 -- there are at most `most` distinct numbers below `most`: counted by number, each occurs at most once
 module _ (number : ℕ → ℕ) where

@@ -1,26 +1,15 @@
 -- What a get of an agent is for its hand.
-use Rattle.std.proofs.Common.{◌≡◌, ℕ, zero, suc, ◌+◌, ◌<◌, ◌≤◌, ◌↔◌, inl, inr, Option, Some, None, IfSome, List, arith, refl, sym, ap, ◌∙◌, subst, ⊎_elim}
-use Rattle.tag_layout.specs.Layout.{Layout, word_depth}
-use Rattle.tag_core.specs.declared.caller.Caller.{Caller}
-use Rattle.tag_core.specs.declared.shape.Shape.{Shape}
-use Rattle.tag_core.specs.declared.word_step.WordStep.{WordStep}
+use Rattle.std.specs.Prelude.{◌+◌, ◌<◌, ◌↔◌, ◌≡◌, ◌≤◌}
+use Rattle.tag_sets.proofs.Uses.{Acquires, Agent, ap, arith, BlockingGets, Caller, Gets, GetsReserved, Hand, HoldsMore, IfSome, inl, inr, IsAnswer, IsHandOf, IsInRun, IsOrdinaryTag, KeepsAll, Layout, layout_of, List, None, number_in_set, Option, Ordinary, Queue, refl, Reserved, reserved_of, Shape}
+use Rattle.tag_sets.proofs.Uses.{Some, split_of, subst, suc, sym, Tags, whole, whole_run, word_depth, WordStep, zero, ℕ, ⊎_elim, ◌∙◌}
 use Rattle.tag_core.specs.Callers as core
-use Rattle.tag_core.specs.Holdings.{Acquires, KeepsAll}
 use Rattle.tag_search.specs.declared.hint.Hint.{Hint}
 use Rattle.tag_search.specs.Batch.{IsBatchVisit, no_run, run_lost, run_taken, IsBatchSearch, batch_over, batch_won, batch_passed}
 use Rattle.tag_search.specs.Gains as gains
-use Rattle.tag_queue.specs.declared.agent.Agent.{Agent}
-use Rattle.tag_queue.specs.declared.queue.Queue.{Queue}
 use Rattle.tag_queue.specs.Agents as queue
 use Rattle.tag_queue.specs.Gets as queue_gets
 use Rattle.tag_queue.specs.Blocking as queue_blocking
-use Rattle.tag_sets.specs.declared.hand.Hand.{Hand}
-use Rattle.tag_sets.specs.declared.kind.Kind.TheVariants.{Ordinary, Reserved}
-use Rattle.tag_sets.specs.declared.tags.Tags.{Tags}
-use Rattle.tag_sets.specs.Sets.{number_in_set}
-use Rattle.tag_sets.specs.Hands.{split_of, layout_of, reserved_of, IsHandOf}
-use Rattle.tag_sets.specs.Holding.{HoldsMore}
-use Rattle.tag_sets.specs.Gets.{IsAnswer, IsInRun, whole, whole_run, IsOrdinaryTag, Gets, GetsReserved, GetsShallow, GetsBatch, BlockingGets}
+use Rattle.tag_sets.specs.Gets.{GetsShallow, GetsBatch}
 use Rattle.tag_sets.proofs.Numbering.{reserved_at, reserved_below, ordinary_at, ordinary_above}
 use Rattle.tag_sets.proofs.Lifting.{InSet, more, more_like}
 

@@ -1,3 +1,4 @@
+mod Uses
 pub mod Numbering
 pub mod Lifting
 pub mod Told

@@ -1,13 +1,8 @@
 -- What a change of the tags that one agent holds is for its hand.
-use Rattle.std.proofs.Common.{◌≡◌, ◌≢◌, ℕ, ◌↔◌, inl, inr, refl, sym, ap, ◌∙◌, subst, ⊎_elim}
-use Rattle.tag_queue.specs.declared.agent.Agent.{Agent}
+use Rattle.std.specs.Prelude.{◌↔◌, ◌≡◌, ◌≢◌}
+use Rattle.tag_sets.proofs.Uses.{Agent, agent_of, ap, Hand, Holds, HoldsLess, HoldsMore, HoldsSame, inl, inr, Kind, kind_of, number_in_set, other_kind, refl, slot_of, split_of, subst, sym, ℕ, ⊎_elim, ◌∙◌}
 use Rattle.tag_queue.specs.Agents as queue
 use Rattle.tag_queue.specs.Holding as queue_holding
-use Rattle.tag_sets.specs.declared.hand.Hand.{Hand}
-use Rattle.tag_sets.specs.declared.kind.Kind.{Kind}
-use Rattle.tag_sets.specs.Sets.{kind_of, number_in_set, other_kind}
-use Rattle.tag_sets.specs.Hands.{agent_of, split_of, Holds, slot_of}
-use Rattle.tag_sets.specs.Holding.{HoldsLess, HoldsMore, HoldsSame}
 use Rattle.tag_sets.proofs.Numbering.{one_tag, this_or_other}
 
 -- the tag is in this set, and its number there is one of those named

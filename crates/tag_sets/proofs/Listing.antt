@@ -1,25 +1,8 @@
 -- The bits of the busy tags of both sets, put together in one list.
-use Rattle.std.proofs.Common.{◌≡◌, inl, inr, ℕ, ◌+◌, ◌-◌, ◌/◌, ◌%◌, ◌<◌, ◌≤◌, Bool, nat_eq, nat_lt, List, get_or, sym, ap, ◌∙◌, subst, ⊎_elim, arith}
-use Rattle.std.specs.Prelude.{◌&&◌, if◌then◌else◌}
-use Rattle.std.specs.Int.{bit_at}
-use Rattle.std.proofs.lemmas.Bool.{lt-ltb, le-ltb}
-use Rattle.std.proofs.lemmas.Nat.Bits.{bit_at-zero}
-use mathlib.Core.Logic.{dite}
-use native.Mathlib.Decide.{dec_lt}
-use Rattle.sums.proofs.Laws.{sum_below-same, sum_below-split, one_if-bit, one_if-le}
-use Rattle.sums.specs.Below.{count_below, one_if}
-use Rattle.tag_queue.specs.declared.agent.Agent.{Agent}
+use Rattle.std.specs.Prelude.{if◌then◌else◌, ◌%◌, ◌&&◌, ◌+◌, ◌-◌, ◌/◌, ◌<◌, ◌≡◌, ◌≤◌}
+use Rattle.tag_sets.proofs.Uses.{Agent, agent_of, ap, arith, bit_at, bit_at-zero, bit_in, Bool, count_below, dec_lt, dite, get_or, Hand, Holds, inl, inr, is_busy_in, is_busy_tag, IsHandOf, Kind, layout_of, le-ltb, List, ListsBusy, ListsSet, lt-ltb, Marks, nat_eq, nat_lt}
+use Rattle.tag_sets.proofs.Uses.{number_in_set, one_if, one_if-bit, one_if-le, Ordinary, PeeksBusy, PeeksSet, Reserved, reserved_of, split_of, subst, sum_below-same, sum_below-split, sym, Tags, total_of, ℕ, ⊎_elim, ◌∙◌}
 use Rattle.tag_queue.specs.Agents as queue
-use Rattle.tag_sets.specs.declared.hand.Hand.{Hand}
-use Rattle.tag_sets.specs.declared.kind.Kind.{Kind}
-use Rattle.tag_sets.specs.declared.kind.Kind.TheVariants.{Ordinary, Reserved}
-use Rattle.tag_sets.specs.declared.tags.Tags.{Tags}
-use Rattle.tag_sets.specs.Bits.{bit_in, Marks}
-use Rattle.tag_sets.specs.Busy.{ListsSet, ListsBusy, is_busy_tag}
-use Rattle.tag_sets.specs.Peeks.{PeeksBusy, PeeksSet}
-use Rattle.tag_sets.specs.Sets.{number_in_set}
-use Rattle.tag_sets.specs.Hands.{IsHandOf, Holds, agent_of, split_of, reserved_of, total_of, layout_of}
-use Rattle.tag_sets.specs.Looks.{is_busy_in}
 use Rattle.tag_sets.proofs.Numbering.{IsReserved, IsOrdinary, stands}
 use Rattle.tag_sets.proofs.Sizes.{held_low}
 

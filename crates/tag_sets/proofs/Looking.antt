@@ -1,10 +1,7 @@
 -- What a look for sleepers is for the hand whose ordinary agent makes it.
-use Rattle.std.proofs.Common.{◌≡◌, ℕ, arith, refl, ap}
-use Rattle.tag_queue.specs.declared.agent.Agent.{Agent}
+use Rattle.std.specs.Prelude.{◌≡◌}
+use Rattle.tag_sets.proofs.Uses.{Agent, ap, arith, Hand, left_free, LooksAfter, Ordinary, refl, ℕ}
 use Rattle.tag_queue.specs.Freed as queue
-use Rattle.tag_sets.specs.declared.hand.Hand.{Hand}
-use Rattle.tag_sets.specs.declared.kind.Kind.TheVariants.{Ordinary}
-use Rattle.tag_sets.specs.Freed.{left_free, LooksAfter}
 use Rattle.tag_sets.proofs.Lifting.{same}
 use Rattle.tag_sets.proofs.Standing.{same_tags}
 

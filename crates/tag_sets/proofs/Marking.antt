@@ -1,15 +1,8 @@
 -- Setting bits one after another.
-use Rattle.std.proofs.Common.{◌≡◌, ◌≢◌, inl, inr, ℕ, ◌+◌, ◌-◌, ◌*◌, ◌/◌, ◌%◌, ◌^◌, ◌<◌, ◌≤◌, Bool, true, false, nat_eq, List, length, get_or, bit_and, bit_or, refl, sym, ap, ◌∙◌, subst, ⊎_elim, eq-eqb, arith}
-use Rattle.std.specs.Prelude.{slice_set, slice_index}
-use Rattle.std.specs.Int.{bit_at}
-use Rattle.std.proofs.lemmas.List.{get_or-set_same, get_or-set_other, length-set}
-use Rattle.std.proofs.lemmas.Nat.{one_shl}
-use Rattle.std.proofs.lemmas.Nat.Bits.{bit_at-lt, bit_at_or, bit_at-pow_same, bit_at-pow_other}
-use mathlib.Core.Logic.{dite}
-use native.Mathlib.Decide.{dec_lt, ℕ_discrete}
-use Rattle.sums.specs.Below.{one_if}
+use Rattle.tag_sets.proofs.Uses.{ap, arith, bit_and, bit_at, bit_at-lt, bit_at-pow_other, bit_at-pow_same, bit_at_or, bit_in, bit_or, Bool, dec_lt, dite, eq-eqb, false, get_or, get_or-set_other, get_or-set_same, inl, inr, length, length-set, List, Marks, nat_eq, one_if, one_shl, refl, slice_set}
+use Rattle.tag_sets.proofs.Uses.{subst, sym, true, ℕ, ℕ_discrete, ⊎_elim, ◌∙◌}
+use Rattle.std.specs.Prelude.{slice_index, ◌%◌, ◌*◌, ◌+◌, ◌-◌, ◌/◌, ◌<◌, ◌^◌, ◌≡◌, ◌≢◌, ◌≤◌}
 use Rattle.tag_search.proofs.PlainFacts.{clear_of_mask, taken_of_mask}
-use Rattle.tag_sets.specs.Bits.{bit_in, Marks}
 
 -- zero bits are marked in an unchanged list
 pub marks-none : (w first : ℕ) (test : ℕ → Bool) (old : List ℕ) → Marks w first 0 test old old

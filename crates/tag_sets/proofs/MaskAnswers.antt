@@ -1,14 +1,8 @@
 -- What the ordinary set answers for the numbers of a list holds for the tags of the list, each of which stands there once.
-use Rattle.std.proofs.Common.{refl, ◌≡◌, ℕ, ◌^◌, ◌<◌, ◌≤◌, ◌↔◌, List, All, length, get_or, count_ones, arith}
-use Rattle.std.proofs.lemmas.Nat.{ones_le_self}
+use Rattle.std.specs.Prelude.{◌<◌, ◌^◌, ◌↔◌, ◌≡◌, ◌≤◌}
+use Rattle.tag_sets.proofs.Uses.{All, arith, count_ones, few_ones, get_or, Hand, Holds, IsHandOf, length, List, mask_checks, of_queue, ones_le_self, refl, reserved_of, Tags, ℕ}
 use Rattle.tag_queue.specs.Agents as queue
-use Rattle.tag_queue.proofs.MaskHolds.{few_ones}
-use Rattle.tag_sets.specs.declared.hand.Hand.{Hand}
-use Rattle.tag_sets.specs.declared.tags.Tags.{Tags}
-use Rattle.tag_sets.specs.Hands.{reserved_of, IsHandOf, Holds}
 use Rattle.tag_sets.specs.Batches.{numbers_of}
-use Rattle.tag_sets.specs.Faults.{of_queue}
-use Rattle.tag_sets.specs.Refusals.{mask_checks}
 use Rattle.tag_queue.specs.Refusals as queue_refusals
 use Rattle.tag_queue.specs.Masks.{tags_in}
 use Rattle.tag_sets.proofs.Told.{Alike}

@@ -1,16 +1,9 @@
 -- The tags of a mask as numbers of the ordinary set.
-use Rattle.std.proofs.Common.{◌≡◌, ℕ, ◌+◌, ◌-◌, ◌/◌, ◌^◌, ◌<◌, ◌≤◌, List, [], ◌∷◌, ◌++◌, map, length, count_ones, arith, refl, sym, ap, ◌∙◌, ⊎_elim}
-use Rattle.std.specs.Int.{trailing_zeros, w64}
-use Rattle.std.specs.Prelude.{All}
-use Rattle.std.proofs.lemmas.Bool.{cases_lt}
-use Rattle.std.proofs.lemmas.List.{length-map}
-use Rattle.std.proofs.lemmas.Nat.{shr_le}
-use Rattle.std.proofs.lemmas.Nat.Bits.{bit_at-trailing_zeros}
-use Rattle.tag_core.specs.Records.{tags_from}
-use Rattle.tag_queue.specs.Masks.{set_bits, tags_in, mask_bit}
+use Rattle.tag_sets.proofs.Uses.{[], all_in, ap, arith, bit_at-trailing_zeros, cases_lt, count_ones, length, length-map, List, map, mask_bit, refl, set_bits, shr_le, sym, tags_from, trailing_zeros, w64, ℕ, ⊎_elim, ◌∙◌}
+use Rattle.std.specs.Prelude.{All, ◌++◌, ◌+◌, ◌-◌, ◌/◌, ◌<◌, ◌^◌, ◌∷◌, ◌≡◌, ◌≤◌}
+use Rattle.tag_queue.specs.Masks.{tags_in}
 use Rattle.tag_queue.proofs.RunTags.{tags_from-add, tags_from-none, moved, in_range, far, place_one, bit_plus, tags_in-length}
 use Rattle.tag_queue.proofs.MaskParts.{moved_down}
-use Rattle.tag_queue.proofs.MaskHolds.{all_in}
 use Rattle.tag_sets.specs.Batches.{numbers_of}
 
 -- a map of a map is one map

@@ -1,9 +1,7 @@
 -- Tags correspond one to one to pairs of a set and a number there.
-use Rattle.std.proofs.Common.{◌≡◌, ℕ, ◌+◌, ◌<◌, ◌≤◌, ◌⊎◌, inl, inr, Bool, true, false, nat_lt, if◌then◌else◌, arith, refl, sym, ap, ◌∙◌, ⊎_elim}
-use Rattle.std.proofs.lemmas.Bool.{ltb-true, ltb-false, lt-ltb, le-ltb}
-use Rattle.tag_sets.specs.declared.kind.Kind.{Kind}
-use Rattle.tag_sets.specs.declared.kind.Kind.TheVariants.{Ordinary, Reserved}
-use Rattle.tag_sets.specs.Sets.{kind_of, number_in_set, other_kind}
+use Rattle.std.specs.Prelude.{◌+◌, ◌<◌, ◌≡◌, ◌≤◌, ◌⊎◌}
+use Rattle.tag_sets.proofs.Uses.{ap, arith, Bool, false, inl, inr, Kind, kind_of, le-ltb, lt-ltb, ltb-false, ltb-true, nat_lt, number_in_set, Ordinary, other_kind, refl, Reserved, sym, true, ℕ, ⊎_elim, ◌∙◌}
+use Rattle.std.proofs.Common.{if◌then◌else◌}
 
 -- a reserved tag has its own number in its set
 pub record IsReserved (reserved tag : ℕ) : Type 0 where

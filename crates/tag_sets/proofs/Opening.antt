@@ -1,36 +1,11 @@
 -- New hands belong to the new sets, hold no tag, and are in the order of their numbers.
-use Rattle.std.proofs.Common.{◌≡◌, ℕ, ◌<◌, List, All, map, length, get_or, None, replicate, arith, sym, ap, ◌∙◌, subst}
-use Rattle.std.specs.Int.{bit_at}
-use Rattle.std.proofs.lemmas.List.{length-map, get_or-map}
-use Rattle.std.proofs.lemmas.Nat.Bits.{bit_at-zero}
-use mathlib.Core.Option.{some}
-use lib.ListN.{get_elem?}
-use Rattle.atomic_table.proofs.Lists.{at_map}
-use Rattle.tag_layout.specs.Layout.{words, word_of, place_of}
+use Rattle.std.specs.Prelude.{◌<◌, ◌≡◌, ◌≤◌}
+use Rattle.tag_sets.proofs.Uses.{Agent, agent_of, All, ap, AreParts, arith, at_map, bit_at, bit_at-zero, cases_lt, entry_or, get_elem?, get_or, get_or-map, Hand, HasShift, HoldsNone, IsLaidOut, IsOpen, IsOpenWith, Kind, kind_of, Layout, length, length-map, List, map, None, number_in_set, Option}
+use Rattle.tag_sets.proofs.Uses.{Options, Ordinary, ordinary_part, place_of, Queue, Record, replicate, Reserved, reserved_of, reserved_part, Some, some, split_of, subst, sym, tag_bit, Tags, word_of, words, zeros, ℕ, ⊎_elim, ◌∙◌}
 use Rattle.tag_core.specs.declared.map.Map.{Map}
-use Rattle.tag_core.specs.declared.record.Record.{Record}
 use Rattle.tag_core.specs.Opening.{AreNew}
-use Rattle.tag_core.specs.Records.{tag_bit}
-use Rattle.tag_core.proofs.Entries.{entry_or}
-use Rattle.tag_core.proofs.Passing.{zeros}
-use Rattle.tag_queue.specs.declared.agent.Agent.{Agent}
-use Rattle.tag_queue.specs.declared.queue.Options.{Options}
-use Rattle.tag_queue.specs.declared.queue.Queue.{Queue}
 use Rattle.tag_queue.specs.Agents as queue
-use Rattle.tag_queue.specs.Opening.{IsOpen, IsOpenWith}
-use Rattle.tag_sets.specs.declared.hand.Hand.{Hand}
-use Rattle.tag_sets.specs.declared.kind.Kind.{Kind}
-use Rattle.tag_sets.specs.declared.kind.Kind.TheVariants.{Ordinary, Reserved}
-use Rattle.tag_sets.specs.declared.tags.Tags.{Tags}
-use Rattle.tag_sets.specs.Sets.{kind_of, number_in_set}
-use Rattle.tag_sets.specs.Hands.{agent_of, split_of, reserved_of}
 use Rattle.tag_sets.specs.Opening as sets_opening
-use Rattle.tag_sets.specs.Opening.{reserved_part, ordinary_part, AreParts, HoldsNone}
-use Rattle.std.proofs.Common.{◌≡◌, ◌<◌, ◌≤◌, ℕ, Option, None, Some, sym, ◌∙◌, ⊎_elim, arith}
-use Rattle.std.proofs.lemmas.Bool.{cases_lt}
-use Rattle.tag_layout.specs.Layout.{Layout, HasShift}
-use Rattle.tag_queue.specs.declared.queue.Options.{Options}
-use Rattle.tag_queue.specs.Opening.{IsLaidOut}
 
 -- the depth and the options determine the shift, and so the layout
 one_shift : (depth : ℕ) (asked : Option ℕ) (a b : ℕ) → HasShift depth asked a → HasShift depth asked b → a ≡ b

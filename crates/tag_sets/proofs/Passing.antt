@@ -1,35 +1,17 @@
 -- What clears, reads, writes, posts and takes of an agent are for its hand.
-use Rattle.std.proofs.Common.{◌≡◌, ◌≢◌, ℕ, ◌<◌, inl, inr, sym, ap, ◌∙◌, subst, ⊎_elim}
-use mathlib.Core.Logic.{dite}
-use mathlib.Core.Option.{some}
-use native.Mathlib.Decide.{ℕ_discrete}
-use Rattle.tag_core.specs.declared.record.Record.{Record}
-use Rattle.tag_core.specs.Callers.{record_of}
-use Rattle.tag_core.specs.Records.{tag_bit}
-use Rattle.tag_queue.specs.declared.agent.Agent.{Agent}
-use Rattle.tag_queue.specs.declared.fault.QueueFault.{QueueFault}
+use Rattle.std.specs.Prelude.{◌<◌, ◌↔◌, ◌≡◌, ◌≢◌}
+use Rattle.tag_sets.proofs.Uses.{Agent, agent_of, ap, arith, Changes, ChangesAt, clear_and_wake_checks, dite, FailsFirst, Hand, Holds, inl, inr, IsErrAnd, IsHandOf, Kind, kind_of, layout_of, number_in_set, of_queue, Ordinary, other_kind, queue_of, QueueFault, Record, record_of, refl, Reserved}
+use Rattle.tag_sets.proofs.Uses.{reserved_of, Result, slot_of, some, split_of, subst, sym, tag_bit, tag_checks, TagFault, Tags, total_of, ℕ, ℕ_discrete, ⊎_elim, ◌∙◌}
 use Rattle.tag_queue.specs.declared.fault.QueueFault.TheVariants as queue_fault
 use Rattle.tag_queue.specs.Agents as queue
 use Rattle.tag_queue.specs.Holding as queue_holding
 use Rattle.tag_queue.specs.Slots as queue_slots
 use Rattle.tag_queue.specs.Clears as queue_clears
-use Rattle.tag_sets.specs.declared.hand.Hand.{Hand}
-use Rattle.tag_sets.specs.declared.kind.Kind.{Kind}
 use Rattle.tag_sets.specs.declared.kind.SetTag.{SetTag}
-use Rattle.tag_sets.specs.declared.tags.Tags.{Tags}
-use Rattle.tag_sets.specs.Faults.{of_queue}
-use Rattle.tag_sets.specs.Sets.{kind_of, number_in_set, other_kind}
-use Rattle.tag_sets.specs.Hands.{agent_of, split_of, slot_of, layout_of, reserved_of, IsHandOf, Changes, ChangesAt}
 use Rattle.tag_sets.specs.Clears.{Clears}
 use Rattle.tag_sets.specs.Slots.{Reads, Writes, Posts, Takes, Misses, RefusesTake}
-use Rattle.std.proofs.Common.{◌↔◌, arith, refl, Result}
-use Rattle.std.specs.Result.{IsErrAnd, IfErr}
-use Rattle.refusals.specs.Refusals.{FailsFirst}
+use Rattle.std.specs.Result.{IfErr}
 use Rattle.tag_queue.specs.Refusals as queue_refusals
-use Rattle.tag_sets.specs.declared.fault.TagFault.{TagFault}
-use Rattle.tag_sets.specs.declared.kind.Kind.TheVariants.{Ordinary, Reserved}
-use Rattle.tag_sets.specs.Hands.{total_of, queue_of, Holds}
-use Rattle.tag_sets.specs.Refusals.{tag_checks}
 use Rattle.tag_sets.proofs.Numbering.{ordinary_at, reserved_at}
 use Rattle.tag_sets.proofs.Told.{Alike, refused_alike}
 use Rattle.tag_sets.proofs.Lifting.{less, more, same, same_but, none_new, less_like, more_like, one_like}
@@ -96,6 +78,21 @@ module _ {R : Type 0} where
   refused_at tags hand tag found kind own is k n fault told = refused_alike of_queue
       (queue_refusals.tag_checks (queue_of tags kind) (agent_of hand kind) found.number) (tag_checks tags hand tag)
       (tag_alike tags hand tag found.number kind own (placed tags hand tag found kind own is k n)) fault told
+
+  -- and so is one of a clear that wakes
+  pub waking_refused_at : {A : Type 0} (tags : Tags R) (hand : Hand R) (tag : ℕ) (found : SetTag) → IsHandOf tags hand
+      → found.kind ≡ Ordinary → found.kind ≡ kind_of (reserved_of tags) tag
+      → found.number ≡ number_in_set (reserved_of tags) tag → (fault : QueueFault) (told : Result A TagFault)
+      → IsErrAnd told (λ f. f ≡ of_queue fault)
+      → FailsFirst (queue_refusals.clear_and_wake_checks tags.ordinary hand.ordinary found.number) fault
+      → IfErr told (FailsFirst (clear_and_wake_checks tags hand tag))
+  waking_refused_at tags hand tag found own is k n fault told = refused_alike of_queue
+      (queue_refusals.clear_and_wake_checks tags.ordinary hand.ordinary found.number)
+      (clear_and_wake_checks tags hand tag) (
+        ((λ so. so), (λ so. so)),
+        refl,
+        tag_alike tags hand tag found.number Ordinary own (placed tags hand tag found Ordinary own is k n),
+      ) fault told
 
   module _ (old new : Hand R) (kind : Kind) (number tag : ℕ) (at : IsAt old tag kind number)
       (other : agent_of new (other_kind kind) ≡ agent_of old (other_kind kind)) (split : split_of new ≡ split_of old)

@@ -1,17 +1,8 @@
 -- New sets whose hands are placed are new sets with the hints of the hands in their parts.
-use Rattle.std.proofs.Common.{List, map, None, refl, ◌∙◌}
-use Rattle.std.specs.List.{AllZip}
-use Rattle.tag_queue.specs.declared.queue.Options.{Options}
-use Rattle.tag_queue.specs.Opening.{HasPlacedHint}
+use Rattle.tag_sets.proofs.Uses.{all_changed, AllZip, Hand, HasPlacedHint, IsHandOf, IsOpenPlaced, IsPlaced, IsSplitAt, List, map, None, Options, Ordinary, ordinary_part, parts_changed, refl, Reserved, reserved_of, reserved_part, Tags, ◌∙◌}
 use Rattle.tag_queue.specs.Placing as queue
-use Rattle.tag_queue.proofs.OneByOne.{all_changed, parts_changed}
 use Rattle.tag_queue.proofs.Placed as queue_placed
-use Rattle.tag_sets.specs.declared.hand.Hand.{Hand}
-use Rattle.tag_sets.specs.declared.kind.Kind.TheVariants.{Ordinary, Reserved}
-use Rattle.tag_sets.specs.declared.tags.Tags.{Tags}
-use Rattle.tag_sets.specs.Hands.{IsHandOf, reserved_of}
-use Rattle.tag_sets.specs.Opening.{reserved_part, ordinary_part, IsSplitAt, IsOpen, IsOpenPlaced}
-use Rattle.tag_sets.specs.Placing.{IsPlaced}
+use Rattle.tag_sets.specs.Opening.{IsOpen}
 use Rattle.tag_sets.proofs.Opening.{opens}
 
 -- two new sets are open with their hands placed

@@ -1,18 +1,8 @@
 -- No two causes of a refusal hold at once, so a resize is refused for each cause exactly if it holds.
-use Rattle.std.proofs.Common.{◌≡◌, ℕ, ◌<◌, List, arith, refl, ⊎_elim, Ok, Err, Result}
-use Rattle.std.specs.Prelude.{IfErr, IsOk}
-use Rattle.tag_layout.specs.declared.layout.TheConstants.{MAX_DEPTH}
-use Rattle.tag_queue.specs.declared.resizes.ResizeCause.{ResizeCause}
-use Rattle.tag_queue.specs.declared.resizes.ResizeCause.TheVariants.{Missing, DepthTooLarge, InUse, Waiting, Memory}
+use Rattle.std.specs.Prelude.{◌<◌, ◌≡◌}
+use Rattle.tag_sets.proofs.Uses.{arith, DepthTooLarge, Err, Hand, hands_of, HasRange, held_in_both, IfErr, InUse, IsOk, IsOutOfRange, IsRefusedAs, IsRefusedFor, List, MAX_DEPTH, Memory, Missing, numbers_of, Ok, posted_in_both, refl, reserved_of, ResizeCause, Result, standing_count, Tags}
+use Rattle.tag_sets.proofs.Uses.{TagsResizeFault, Waiting, ℕ, ⊎_elim}
 use Rattle.tag_queue.proofs.Refusals as queue
-use Rattle.tag_sets.specs.declared.hand.Hand.{Hand}
-use Rattle.tag_sets.specs.declared.resizes.TagsResizeFault.{TagsResizeFault}
-use Rattle.tag_sets.specs.declared.tags.Tags.{Tags}
-use Rattle.tag_sets.specs.Hands.{reserved_of}
-use Rattle.tag_sets.specs.Gathering.{hands_of, numbers_of}
-use Rattle.tag_sets.specs.Opening.{HasRange}
-use Rattle.tag_sets.specs.Resizing.{IsOutOfRange, held_in_both, posted_in_both, standing_count}
-use Rattle.tag_sets.specs.Resizing.{IsRefusedFor, IsRefusedAs}
 
 -- everything that decides on a resize to a total
 pub record Facts : Type 0 where

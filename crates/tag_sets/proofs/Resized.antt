@@ -1,21 +1,9 @@
 -- Hands are unchanged when they settle, so what is found about them afterwards holds of the hands passed in.
-use Rattle.std.proofs.Common.{◌≡◌, ℕ, ◌+◌, ◌-◌, List, All, map, sym, ◌∙◌, subst, Result}
-use Rattle.std.specs.Prelude.{IfErr, IsOk}
-use Rattle.std.proofs.lemmas.Result.{IfErr-weaker}
-use Rattle.tag_queue.specs.declared.agent.Agent.{Agent}
-use Rattle.tag_queue.specs.declared.queue.Queue.{Queue}
+use Rattle.std.specs.Prelude.{◌+◌, ◌-◌, ◌≡◌}
+use Rattle.tag_sets.proofs.Uses.{Agent, All, AreSame, AreUnchanged, Hand, held_in, IfErr, IfErr-weaker, IsHandOf, IsOk, IsRefusedAs, IsRefusedFor, IsResized, List, map, MayResize, numbers_of, ordinary_part, posted_in, Queue, reserved_of, reserved_part, resized_from, Result, subst, sym, Tags}
+use Rattle.tag_sets.proofs.Uses.{TagsResizeFault, unchanged-numbers, unchanged-records, unchanged-standing, unchanged-trans, ℕ, ◌∙◌}
 use Rattle.tag_queue.specs.Agents as queue
 use Rattle.tag_queue.specs.Resizing as queue_resizing
-use Rattle.tag_queue.specs.Using.{held_in, posted_in}
-use Rattle.tag_queue.proofs.Resized.{unchanged-trans, unchanged-numbers, resized_from}
-use Rattle.tag_queue.proofs.Unchanged.{unchanged-records, unchanged-standing}
-use Rattle.tag_sets.specs.declared.hand.Hand.{Hand}
-use Rattle.tag_sets.specs.declared.resizes.TagsResizeFault.{TagsResizeFault}
-use Rattle.tag_sets.specs.declared.tags.Tags.{Tags}
-use Rattle.tag_sets.specs.Hands.{IsHandOf, reserved_of}
-use Rattle.tag_sets.specs.Gathering.{numbers_of}
-use Rattle.tag_sets.specs.Opening.{reserved_part, ordinary_part}
-use Rattle.tag_sets.specs.Resizing.{AreSame, AreUnchanged, IsRefusedFor, IsRefusedAs, IsResized, MayResize}
 use Rattle.tag_sets.proofs.Gathering.{ordinary_numbers}
 use Rattle.tag_sets.proofs.Refusing.{Facts, facts_of, May, Refused, AreTold, told, refused_in}
 use Rattle.tag_sets.proofs.Reuniting.{reserved_unchanged, ordinary_unchanged, hands_trans, split_at}

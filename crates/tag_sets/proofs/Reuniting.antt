@@ -1,21 +1,8 @@
 -- Hands that are put together again from the agents into which they were taken apart.
-use Rattle.std.proofs.Common.{◌≡◌, ℕ, ◌<◌, List, [], ◌∷◌, ◌++◌, All, map, reverse, length, get_or, append_assoc}
-use Rattle.std.proofs.Common.{arith, sym, ap, ◌∙◌, subst}
-use Rattle.std.proofs.lemmas.List.{reverse-append, length-map, get_or-map}
-use Rattle.std.proofs.lemmas.List.Elements.{All-cons, All-weaker}
-use Rattle.atomic_table.proofs.Lists.{at_map}
-use Rattle.tag_core.proofs.Entries.{all_at, entry, entry_or, entry_of_map}
-use Rattle.tag_queue.specs.declared.agent.Agent.{Agent}
-use Rattle.tag_queue.specs.declared.queue.Queue.{Queue}
+use Rattle.std.specs.Prelude.{◌++◌, ◌<◌, ◌∷◌, ◌≡◌}
+use Rattle.tag_sets.proofs.Uses.{[], Agent, All, All-cons, All-weaker, all_at, ap, append_assoc, AreParts, AreUnchanged, arith, at_map, entry, entry_of_map, entry_or, get_or, get_or-map, Hand, IsHandOf, IsSplitAt, IsUnchanged, length, length-map, List, map, Ordinary, ordinary_part, Queue, Reserved}
+use Rattle.tag_sets.proofs.Uses.{reserved_of, reserved_part, reverse, reverse-append, split_of, subst, sym, Tags, unchanged-trans, ℕ, ◌∙◌}
 use Rattle.tag_queue.specs.Agents as queue
-use Rattle.tag_queue.proofs.Resized.{unchanged-trans}
-use Rattle.tag_sets.specs.declared.hand.Hand.{Hand}
-use Rattle.tag_sets.specs.declared.kind.Kind.TheVariants.{Ordinary, Reserved}
-use Rattle.tag_sets.specs.declared.tags.Tags.{Tags}
-use Rattle.tag_sets.specs.Hands.{IsHandOf, split_of, reserved_of}
-use Rattle.tag_sets.specs.Meeting.{IsUnchanged}
-use Rattle.tag_sets.specs.Opening.{reserved_part, ordinary_part, AreParts, IsSplitAt}
-use Rattle.tag_sets.specs.Resizing.{AreUnchanged}
 use Rattle.tag_sets.proofs.Opening.{all_part}
 use Rattle.tag_sets.proofs.Uniting.{unchanged}
 

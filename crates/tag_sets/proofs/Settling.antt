@@ -1,25 +1,12 @@
 -- How many tags of one set are in use, and why its resize can still fail if none is.
-use Rattle.std.proofs.Common.{◌≡◌, ℕ, ◌*◌, ◌^◌, ◌<◌, ◌≤◌, List, length, arith, refl, sym, ap, ◌∙◌, subst}
-use Rattle.std.proofs.Common.{mul-le-mul_right}
-use mathlib.Core.Logic.{dite}
-use mathlib.Core.Option.{some, some-injective}
-use lib.ListN.{get_elem?}
-use native.Mathlib.Decide.{dec_lt}
-use Rattle.step_ledger.specs.Gather.{HasAll}
-use Rattle.tag_model.specs.declared.world.TheConstants.{MOST_WON}
-use Rattle.tag_core.specs.declared.record.Record.{Record}
+use Rattle.std.specs.Prelude.{◌*◌, ◌<◌, ◌^◌, ◌≡◌, ◌≤◌}
+use Rattle.tag_sets.proofs.Uses.{Agent, ap, AreInUse, arith, Balance, dec_lt, DepthTooLarge, dite, get_elem?, HasAll, held_in, InUse, length, length-records, List, MayStillFail, Memory, Missing, MOST_WON, mul-le-mul_right, posted_in, Queue, Record, records_of, refl, ResizeCause, shape_of, some}
+use Rattle.tag_sets.proofs.Uses.{some-injective, subst, sym, unchanged-records, Waiting, ℕ, ◌∙◌}
 use Rattle.step_ledger.proofs.Seats.{within}
-use Rattle.tag_queue.specs.declared.agent.Agent.{Agent}
-use Rattle.tag_queue.specs.declared.queue.Queue.{Queue}
-use Rattle.tag_queue.specs.declared.resizes.ResizeCause.{ResizeCause}
-use Rattle.tag_queue.specs.declared.resizes.ResizeCause.TheVariants.{Missing, DepthTooLarge, InUse, Waiting, Memory}
-use Rattle.tag_queue.specs.Agents.{AreUnchanged, records_of, shape_of}
+use Rattle.tag_queue.specs.Agents.{AreUnchanged}
 use Rattle.tag_queue.specs.Resizing.{HasMap, AreUnused}
-use Rattle.tag_queue.specs.Using.{AreInUse, Balance, held_in, posted_in}
 use Rattle.tag_queue.proofs.NextMaps.{posted_is, balance_is as even}
 use Rattle.tag_queue.proofs.Refusals.{AreToldOf}
-use Rattle.tag_queue.proofs.Unchanged.{unchanged-records, length-records}
-use Rattle.tag_sets.specs.Resizing.{MayStillFail}
 use Rattle.tag_sets.proofs.Gathering.{won-le, few_below}
 
 module _ {R : Type 0} (q : Queue R) (olds news : List (Agent R)) (held posted : ℕ)

@@ -1,13 +1,7 @@
 -- Bounds on the tags of one set.
-use Rattle.std.proofs.Common.{ℕ, ◌<◌, ◌≤◌, arith, subst}
-use Rattle.tag_layout.specs.declared.layout.TheConstants.{MAX_DEPTH}
-use Rattle.tag_core.specs.declared.shape.Shape.{Shape}
+use Rattle.std.specs.Prelude.{◌<◌, ◌≤◌}
+use Rattle.tag_sets.proofs.Uses.{agent_of, arith, Hand, IsHandOf, Kind, layout_of, MAX_DEPTH, Ordinary, Reserved, Shape, subst, Tags, ℕ}
 use Rattle.tag_queue.specs.Agents as queue
-use Rattle.tag_sets.specs.declared.hand.Hand.{Hand}
-use Rattle.tag_sets.specs.declared.kind.Kind.{Kind}
-use Rattle.tag_sets.specs.declared.kind.Kind.TheVariants.{Ordinary, Reserved}
-use Rattle.tag_sets.specs.declared.tags.Tags.{Tags}
-use Rattle.tag_sets.specs.Hands.{layout_of, agent_of, IsHandOf}
 
 -- no set has more than 10,240 tags
 pub small_set : {R : Type 0} (tags : Tags R) (kind : Kind) → (layout_of tags kind).depth ≤ MAX_DEPTH

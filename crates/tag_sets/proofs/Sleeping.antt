@@ -1,16 +1,9 @@
 -- What the ordinary agent of a hand gains while it waits by the bell, the hand gains, and what a clear loses stays lost.
-use Rattle.std.proofs.Common.{◌≡◌, ℕ, ◌+◌, ◌<◌, arith, refl, ap, ◌∙◌, subst}
+use Rattle.std.specs.Prelude.{◌+◌, ◌<◌, ◌≡◌}
+use Rattle.tag_sets.proofs.Uses.{Agent, ap, arith, GetsSleeping, Hand, HoldsLess, HoldsSame, IsHandOf, layout_of, Ordinary, refl, reserved_of, Shape, subst, Tags, ℕ, ◌∙◌}
 use Rattle.tag_bell.specs.declared.sleeping.Woken.{Woken}
-use Rattle.tag_core.specs.declared.shape.Shape.{Shape}
-use Rattle.tag_queue.specs.declared.agent.Agent.{Agent}
 use Rattle.tag_queue.specs.Agents as queue
 use Rattle.tag_queue.specs.Sleeping as queue_sleeping
-use Rattle.tag_sets.specs.declared.hand.Hand.{Hand}
-use Rattle.tag_sets.specs.declared.kind.Kind.TheVariants.{Ordinary}
-use Rattle.tag_sets.specs.declared.tags.Tags.{Tags}
-use Rattle.tag_sets.specs.Hands.{reserved_of, layout_of, IsHandOf}
-use Rattle.tag_sets.specs.Holding.{HoldsLess, HoldsSame}
-use Rattle.tag_sets.specs.Sleeping.{GetsSleeping}
 use Rattle.tag_sets.proofs.Getting.{ordinary_like}
 use Rattle.tag_sets.proofs.Lifting.{InSet, more, more_like}
 

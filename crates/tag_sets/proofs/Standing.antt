@@ -1,18 +1,12 @@
 -- What an agent does as it enters or leaves its wait group is what its hand does.
-use Rattle.std.proofs.Common.{Option, None, Some, IfSome, IfNone, ◌≡◌, ℕ, Result, Ok, Err, IfOk, OnErr, refl, sym, ap, ◌∙◌, subst}
-use Rattle.tag_core.specs.declared.caller.Caller.{Caller}
-use Rattle.tag_core.specs.Holdings.{KeepsAll}
+use Rattle.std.specs.Prelude.{◌≡◌}
+use Rattle.tag_sets.proofs.Uses.{Agent, ap, Caller, Err, Hand, IfNone, IfOk, IfSome, KeepsAll, None, Ok, OnErr, Option, Ordinary, Queue, QueueFault, refl, Result, Some, subst, sym, ℕ, ◌∙◌}
 use Rattle.wake_book.specs.declared.waiting.Left.{Left}
 use Rattle.wake_book.specs.Groups as groups
-use Rattle.tag_queue.specs.declared.agent.Agent.{Agent}
-use Rattle.tag_queue.specs.declared.fault.QueueFault.{QueueFault}
-use Rattle.tag_queue.specs.declared.queue.Queue.{Queue}
 use Rattle.tag_queue.specs.Agents as queue
 use Rattle.tag_queue.specs.Clears as queue_clears
 use Rattle.tag_queue.specs.Holding as queue_holding
 use Rattle.tag_queue.specs.Waits as queue_waits
-use Rattle.tag_sets.specs.declared.hand.Hand.{Hand}
-use Rattle.tag_sets.specs.declared.kind.Kind.TheVariants.{Ordinary}
 use Rattle.tag_sets.specs.Waits.{Enters, Leaves, StandsOn, AgentLeaves}
 use Rattle.tag_sets.proofs.Lifting.{same}
 

@@ -1,21 +1,11 @@
 -- The number of tags found busy or set aside, counted one word at a time.
-use Rattle.std.proofs.Common.{◌≡◌, ℕ, zero, suc, ◌+◌, ◌-◌, ◌*◌, ◌^◌, ◌<◌, ◌≤◌, min, Bool, true, false, cond, nat_eq, List, [], ◌∷◌, ◌++◌, length, bit_and, count_ones, refl, sym, ap, ◌∙◌, subst, arith}
-use Rattle.std.specs.Prelude.{◌&&◌, ◌↔◌}
-use Rattle.std.specs.Int.{bit_at, bit_not, w64}
-use Rattle.std.proofs.lemmas.List.{get_or_append_left, get_or_push}
-use Rattle.std.proofs.lemmas.Nat.{and_le_l, and_le_r}
-use Rattle.std.proofs.lemmas.Nat.Bits.{bit_at-lt, bit_at_and, bit_at_not, bit_at_above}
+use Rattle.tag_sets.proofs.Uses.{[], and_le_l, and_le_r, ap, arith, bit_and, bit_at, bit_at-lt, bit_at_above, bit_at_and, bit_at_not, bit_not, Bool, cond, count_below, count_below-le, count_ones, dec_lt, depth-le-words, dite, false, get_or_append_left, get_or_push, is_aside_in, is_busy_in, Layout}
+use Rattle.tag_sets.proofs.Uses.{length, List, Marks, min, nat_eq, one_if, one_if-bit, one_if-le, place_of, place_of-tag_at, refl, subst, suc, sum_below-add, sum_below-bound, sum_below-same, sum_below-split, sym, tag_at, tag_at-back, true, w64, word-start, word_bits, word_depth, word_in, word_of}
+use Rattle.tag_sets.proofs.Uses.{word_of-tag_at, words, zero, ℕ, ◌∙◌}
+use Rattle.std.specs.Prelude.{◌↔◌, ◌&&◌, ◌*◌, ◌++◌, ◌+◌, ◌-◌, ◌<◌, ◌^◌, ◌∷◌, ◌≡◌, ◌≤◌}
 use Rattle.std.proofs.Math.Nat.{mul-le-mul_right}
-use mathlib.Core.Logic.{dite}
-use native.Mathlib.Decide.{dec_lt}
-use Rattle.sums.proofs.Laws.{sum_below-same, sum_below-split, sum_below-add, sum_below-bound, one_if-bit, one_if-le, count_below-le}
-use Rattle.sums.specs.Below.{count_below, one_if}
-use Rattle.tag_layout.specs.Layout.{Layout, word_bits, words, word_of, place_of, tag_at, word_depth}
-use Rattle.tag_layout.proofs.PlaceFacts.{word-start, depth-le-words, tag_at-back, word_of-tag_at, place_of-tag_at}
 use Rattle.tag_model.proofs.MaskFacts.{sum_below-bits}
-use Rattle.tag_sets.specs.Bits.{Marks}
 use Rattle.tag_sets.proofs.Marking.{marks-like, marks-then}
-use Rattle.tag_sets.specs.Looks.{word_in, is_busy_in, is_aside_in}
 
 -- a tag is busy if its bit is taken and not set aside, as numbers
 busy_bits : (b a : ℕ) → b < 2 → a < 2 → cond (nat_eq b 1 && nat_eq a 0) 1 0 ≡ min b (1 - a)

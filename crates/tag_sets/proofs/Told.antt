@@ -1,8 +1,6 @@
 -- A caller of the sets is told a queue's answer: its value, or the fault of the same name.
-use Rattle.std.proofs.Common.{◌≡◌, ◌↔◌, ◌∙◌, Result, Ok, Err, [], ◌∷◌, inl, inr, sym, ap}
-use Rattle.std.specs.Prelude.{⊤, IfErr}
-use Rattle.std.specs.Result.{MatchResult, IsErrAnd}
-use Rattle.refusals.specs.Refusals.{Checks, FailsFirst, PassesAll, RefusesBy}
+use Rattle.std.specs.Prelude.{◌↔◌, ◌∷◌, ◌≡◌}
+use Rattle.tag_sets.proofs.Uses.{[], ap, Checks, Err, FailsFirst, IfErr, inl, inr, IsErrAnd, MatchResult, Ok, PassesAll, RefusesBy, Result, sym, ⊤, ◌∙◌}
 
 module _ {F G : Type 0} (turn : F → G) where
   -- checks that correspond in order: each passes exactly if the other does, and their faults are of one name
@@ -54,3 +52,9 @@ module _ {F G : Type 0} (turn : F → G) where
     passes = tt;
     same = still r.same;
   }
+
+-- a call is refused as it is after a check that passes
+pub refused_later : {F A : Type 0} (check : Type 0) (fault : F) (later : Checks F) (told : Result A F) → check
+    → IfErr told (FailsFirst later) → IfErr told (FailsFirst ((check, fault) ∷ later))
+refused_later check fault later (Ok x) holds first = tt
+refused_later check fault later (Err f) holds first = inr (holds, first)

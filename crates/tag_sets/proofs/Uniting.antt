@@ -1,18 +1,9 @@
 -- A hand is unchanged if both its agents are, and two hands are apart if their agents are in both sets.
-use Rattle.std.proofs.Common.{◌≡◌, ℕ, refl, sym, subst, ◌∙◌}
-use Rattle.tag_core.specs.Callers.{record_of}
+use Rattle.std.specs.Prelude.{◌≡◌}
+use Rattle.tag_sets.proofs.Uses.{Agent, agent_of, Hand, Holds, HoldsSame, IsUnchanged, Kind, kind_of, number_in_set, Ordinary, record_of, refl, Reserved, ShareHistories, split_of, subst, sym, Tags, ℕ, ◌∙◌}
 use Rattle.tag_core.specs.Meeting.{ShareHistory}
-use Rattle.tag_queue.specs.declared.agent.Agent.{Agent}
 use Rattle.tag_queue.specs.Agents as queue
 use Rattle.tag_queue.specs.Holding as queue_holding
-use Rattle.tag_sets.specs.declared.hand.Hand.{Hand}
-use Rattle.tag_sets.specs.declared.kind.Kind.{Kind}
-use Rattle.tag_sets.specs.declared.kind.Kind.TheVariants.{Ordinary, Reserved}
-use Rattle.tag_sets.specs.declared.tags.Tags.{Tags}
-use Rattle.tag_sets.specs.Hands.{Holds, agent_of, split_of}
-use Rattle.tag_sets.specs.Sets.{kind_of, number_in_set}
-use Rattle.tag_sets.specs.Holding.{HoldsSame}
-use Rattle.tag_sets.specs.Meeting.{IsUnchanged, ShareHistories}
 use Rattle.tag_sets.proofs.Lifting.{same}
 
 module _ {R : Type 0} where

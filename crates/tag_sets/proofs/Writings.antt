@@ -1,9 +1,6 @@
 -- Texts that are written piece by piece.
-use Rattle.std.proofs.Common.{◌≡◌, ℕ, suc, ◌+◌, ◌*◌, ◌/◌, ◌%◌, ◌^◌, false, Option, Some, None, List, [], ◌∷◌, ◌++◌, sym, ap, ◌∙◌, append_assoc, append-nil, arith}
-use Rattle.std.specs.Fmt.{digit_glyph}
-use Rattle.std.specs.Io.KnownBytes.{Appends}
-use Rattle.std.proofs.lemmas.Nat.{shr-shr}
-use Rattle.tag_sets.specs.Texts.{hex_digits}
+use Rattle.std.specs.Prelude.{◌%◌, ◌*◌, ◌++◌, ◌+◌, ◌/◌, ◌^◌, ◌∷◌, ◌≡◌}
+use Rattle.tag_sets.proofs.Uses.{[], ap, append-nil, append_assoc, Appends, arith, digit_glyph, false, hex_digits, List, None, Option, shr-shr, Some, suc, sym, ℕ, ◌∙◌}
 
 -- an unchanged writer has taken the empty text
 pub appends_none : (a : Option (List ℕ)) → Appends a a []

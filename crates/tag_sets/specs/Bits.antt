@@ -1,6 +1,6 @@
 -- Bits numbered across a list of words.
-use Rattle.std.specs.Prelude.{◌≡◌, ◌⊎◌, ℕ, ◌+◌, ◌/◌, ◌%◌, ◌<◌, ◌≤◌, List, slice_index, Bool, cond, max}
-use Rattle.std.specs.Int.{bit_at}
+use Rattle.std.specs.Prelude.{◌%◌, ◌+◌, ◌/◌, ◌<◌, ◌≡◌, ◌≤◌, ◌⊎◌}
+use Rattle.tag_sets.specs.Uses.{bit_at, Bool, cond, List, max, slice_index, ℕ}
 
 -- bit n of a list of words that have `width` bits each, low bit first
 abbrev pub bit_in : ℕ → List ℕ → ℕ → ℕ

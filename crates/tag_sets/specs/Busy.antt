@@ -1,8 +1,6 @@
 -- Which tags of both sets are busy.
-use Rattle.std.specs.Prelude.{◌≡◌, ℕ, ◌*◌, ◌-◌, ◌<◌, List, length, Bool, true, cond, nat_lt, ◌&&◌, if◌then◌else◌}
-use Rattle.sums.specs.Below.{count_below}
-use Rattle.tag_layout.specs.Layout.{Layout}
-use Rattle.tag_queue.specs.Agents.{Holds}
+use Rattle.std.specs.Prelude.{if◌then◌else◌, ◌&&◌, ◌*◌, ◌-◌, ◌<◌, ◌≡◌}
+use Rattle.tag_sets.specs.Uses.{Bool, cond, count_below, Holds, Layout, length, List, nat_lt, true, ℕ}
 use Rattle.tag_sets.specs.declared.hand.Hand.{Hand}
 use Rattle.tag_sets.specs.declared.kind.Kind.{Kind}
 use Rattle.tag_sets.specs.declared.kind.Kind.TheVariants.{Ordinary, Reserved}

@@ -1,13 +1,8 @@
 -- What a call does to the hand that makes it, and when it is refused: one record for each call.
-use Rattle.std.specs.Prelude.{◌≡◌, ℕ, ◌+◌, ◌≤◌, ◌↔◌, false, IsTrue, List, length, count_ones, Option, None, Result, Err, IfOk, IfErr, IfSome, IfNone, OnOk, IsOkAnd, ⊤}
-use mathlib.Core.Option.{some}
-use Rattle.refusals.specs.Refusals.{RefusesBy}
-use Rattle.wake_book.specs.declared.groups.Waiter.{Waiter}
-use Rattle.wake_book.specs.declared.waiting.Left.{Left}
-use Rattle.wake_book.specs.Groups.{RingsNobody}
+use Rattle.std.specs.Prelude.{◌+◌, ◌↔◌, ◌≡◌, ◌≤◌}
+use Rattle.tag_sets.specs.Uses.{count_ones, Err, false, IfErr, IfNone, IfOk, IfSome, IsOkAnd, IsTrue, Left, length, List, None, OnOk, Option, RefusesBy, Result, RingsNobody, some, tags_in, Waiter, ℕ, ⊤}
 use Rattle.tag_search.specs.declared.found.Found.{Found}
 use Rattle.tag_queue.specs.Clears.{complete_steps}
-use Rattle.tag_queue.specs.Masks.{tags_in}
 use Rattle.tag_sets.specs.declared.fault.TagFault.{TagFault}
 use Rattle.tag_sets.specs.declared.fault.TagFault.TheVariants.{NoSuchTag}
 use Rattle.tag_sets.specs.declared.hand.Hand.{Hand}
@@ -111,8 +106,8 @@ pub record DoesTake {R : Type 0} (tag : ℕ) (tags : Tags R) (result : Result �
   pub refuses : IfErr result (λ fault. RefusesTake tag fault old new)
 
 -- enters a wait group, and rings for nobody
-pub record DoesPrepare {R : Type 0} (result : Result ℕ TagFault) (old new : Hand R) : Type 0 where
-  pub refusals : RefusesBy (wait_checks old) (new ≡ old) result
+pub record DoesPrepare {R : Type 0} (tags : Tags R) (result : Result ℕ TagFault) (old new : Hand R) : Type 0 where
+  pub refusals : RefusesBy (wait_checks tags old) (new ≡ old) result
   pub enters : IfOk result (λ group. Enters group old new)
   pub silent : RingsNobody (waiter_of old) (waiter_of new)
 

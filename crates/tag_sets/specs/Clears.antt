@@ -1,6 +1,6 @@
 -- The effect of clears on the hand that makes them.
-use Rattle.std.specs.Prelude.{◌≡◌, ℕ}
-use Rattle.tag_core.specs.Callers.{record_of}
+use Rattle.std.specs.Prelude.{◌≡◌}
+use Rattle.tag_sets.specs.Uses.{record_of, ℕ}
 use Rattle.tag_queue.specs.Agents as queue
 use Rattle.tag_queue.specs.Clears as queue_clears
 use Rattle.tag_sets.specs.declared.hand.Hand.{Hand}

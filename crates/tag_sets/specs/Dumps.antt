@@ -1,7 +1,6 @@
 -- Dumps: the busy tags of a set as bytes.
-use Rattle.std.specs.Prelude.{◌≡◌, ℕ, List, ◌++◌, length, drop, cond, nat_lt, ◌&&◌}
-use Rattle.std.specs.Int.{div_ceil}
-use Rattle.tag_layout.specs.Layout.{Layout}
+use Rattle.std.specs.Prelude.{◌&&◌, ◌++◌, ◌≡◌}
+use Rattle.tag_sets.specs.Uses.{cond, div_ceil, drop, Layout, length, List, nat_lt, ℕ}
 use Rattle.tag_sets.specs.declared.hand.Hand.{Hand}
 use Rattle.tag_sets.specs.declared.kind.Kind.{Kind}
 use Rattle.tag_sets.specs.Bits.{bit_in}

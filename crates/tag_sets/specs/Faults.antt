@@ -6,10 +6,11 @@ use Rattle.tag_queue.specs.declared.fault.QueueOpenFault.TheVariants as opening
 use Rattle.tag_sets.specs.declared.fault.SetFault.{SetFault}
 use Rattle.tag_sets.specs.declared.fault.SetFault.TheVariants.{Memory, TotalTooLarge, ShiftTooLarge, CallerCount, LifeTooLong, CapTooLarge}
 use Rattle.tag_sets.specs.declared.fault.TagFault.{TagFault}
-use Rattle.tag_sets.specs.declared.fault.TagFault.TheVariants.{NoSuchTag, NotHeld, NotPosted, BadCount, TooShallow, Spent, Waiting, NotWaiting}
+use Rattle.tag_sets.specs.declared.fault.TagFault.TheVariants.{OtherWait, NoSuchTag, NotHeld, NotPosted, BadCount, TooShallow, Spent, Waiting, NotWaiting}
 
 -- the fault of the same name, for a refused call
 abbrev pub of_queue : QueueFault → TagFault
+of_queue queue.OtherWait = OtherWait
 of_queue queue.NoSuchTag = NoSuchTag
 of_queue queue.NotHeld = NotHeld
 of_queue queue.NotPosted = NotPosted

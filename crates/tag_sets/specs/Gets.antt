@@ -1,6 +1,6 @@
 -- The effect of gets on the hand that makes them.
-use Rattle.std.specs.Prelude.{◌≡◌, ℕ, ◌+◌, ◌<◌, ◌≤◌, Option, Some, None}
-use Rattle.std.specs.Int.{bit_at}
+use Rattle.std.specs.Prelude.{◌+◌, ◌<◌, ◌≡◌, ◌≤◌}
+use Rattle.tag_sets.specs.Uses.{bit_at, None, Option, Some, ℕ}
 use Rattle.tag_queue.specs.Gets as queue
 use Rattle.tag_queue.specs.Blocking as queue_blocking
 use Rattle.tag_sets.specs.declared.hand.Hand.{Hand}

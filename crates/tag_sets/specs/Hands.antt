@@ -1,15 +1,12 @@
 -- The terms in which contracts speak about two sets of tags and their hands.
-use Rattle.std.specs.Prelude.{◌≡◌, ℕ, ◌+◌, ◌<◌, List, Option}
+use Rattle.std.specs.Prelude.{◌+◌, ◌<◌, ◌≡◌}
+use Rattle.tag_sets.specs.Uses.{Agent, Layout, List, Option, Queue, Waiter, Waits, ℕ}
 use mathlib.Core.Option as maybe
-use Rattle.tag_layout.specs.Layout.{Layout}
 use Rattle.tag_core.specs.declared.caller.Caller.{Caller}
 use Rattle.tag_search.specs.declared.hint.Hint.{Hint}
-use Rattle.wake_book.specs.declared.groups.Waiter.{Waiter}
 use Rattle.wake_book.specs.declared.steps.BookStep.{BookStep}
 use Rattle.wake_book.specs.declared.steps.GroupStep.{GroupStep}
 use Rattle.wake_book.specs.Groups as groups
-use Rattle.tag_queue.specs.declared.agent.Agent.{Agent}
-use Rattle.tag_queue.specs.declared.queue.Queue.{Queue}
 use Rattle.tag_queue.specs.Agents as queue
 use Rattle.tag_sets.specs.declared.hand.Hand.{Hand}
 use Rattle.tag_sets.specs.declared.kind.Kind.{Kind}
@@ -42,6 +39,10 @@ layout_of tags kind = queue.layout_of (queue_of tags kind)
 -- the minimum shallow depth of the ordinary set, at least 1
 abbrev pub least_of : {R : Type 0} → Tags R → ℕ
 least_of tags = queue.least_of tags.ordinary
+
+-- how hands wait for an ordinary tag
+abbrev pub waits_of : {R : Type 0} → Tags R → Waits
+waits_of tags = queue.waits_of tags.ordinary
 
 -- the number of reserved tags, as the hand knows it
 abbrev pub split_of : {R : Type 0} → Hand R → ℕ

@@ -1,13 +1,9 @@
 -- What a call finds that loads the words of a set.
-use Rattle.std.specs.Prelude.{◌≡◌, ℕ, suc, List, [], ◌∷◌, slice_index_or, Bool, nat_eq, ◌&&◌}
-use Rattle.std.specs.Int.{bit_at}
-use Rattle.tag_layout.specs.Layout.{Layout, word_of, place_of}
+use Rattle.std.specs.Prelude.{◌&&◌, ◌∷◌, ◌≡◌}
+use Rattle.tag_sets.specs.Uses.{[], Agent, bit_at, Bool, caller_of, Holds, Layout, List, nat_eq, place_of, record_of, SameElse, SameMap, slice_index_or, suc, word_of, ℕ}
 use Rattle.tag_core.specs.declared.word_step.WordStep.{WordStep}
 use Rattle.tag_core.specs.declared.word_step.WordStep.TheVariants.{Look, LookAside}
-use Rattle.tag_core.specs.Callers.{record_of, SameMap}
 use Rattle.tag_search.specs.Shared.{record_after_all}
-use Rattle.tag_queue.specs.declared.agent.Agent.{Agent}
-use Rattle.tag_queue.specs.Agents.{caller_of, Holds, SameElse}
 
 -- the pair found for this word: its bits (1 is taken) and its cleared set (1 is set aside)
 abbrev pub word_in : List (ℕ × ℕ) → ℕ → ℕ × ℕ

@@ -1,6 +1,6 @@
 -- What two hands that are passed in together show about each other.
 use Rattle.std.specs.Prelude.{◌≡◌}
-use Rattle.tag_core.specs.Callers.{record_of}
+use Rattle.tag_sets.specs.Uses.{record_of}
 use Rattle.tag_core.specs.Meeting.{ShareHistory}
 use Rattle.tag_queue.specs.Agents as queue
 use Rattle.tag_sets.specs.declared.hand.Hand.{Hand}

@@ -1,13 +1,7 @@
 -- Two new sets of tags, and their hands.
-use Rattle.std.specs.Prelude.{◌≡◌, ℕ, ◌≤◌, List, All, map, length, None}
-use mathlib.Core.Option.{some}
-use lib.ListN.{get_elem?}
-use Rattle.tag_layout.specs.declared.layout.TheConstants.{MAX_DEPTH}
-use Rattle.tag_queue.specs.declared.agent.Agent.{Agent}
-use Rattle.tag_queue.specs.declared.queue.Options.{Options}
-use Rattle.tag_queue.specs.declared.queue.Queue.{Queue}
+use Rattle.std.specs.Prelude.{◌≡◌, ◌≤◌}
+use Rattle.tag_sets.specs.Uses.{Agent, All, get_elem?, HasFirstHint, HasPlacedHint, length, List, map, MAX_DEPTH, None, Options, Queue, some, ℕ}
 use Rattle.tag_queue.specs.Opening as queue
-use Rattle.tag_queue.specs.Opening.{HasFirstHint, HasPlacedHint}
 use Rattle.tag_sets.specs.declared.hand.Hand.{Hand}
 use Rattle.tag_sets.specs.declared.tags.Tags.{Tags}
 use Rattle.tag_sets.specs.Hands.{IsHandOf, Holds, number_of, split_of}

@@ -1,7 +1,6 @@
 -- Reports whose loads are in no list of steps: nothing links what they tell to the words as they were.
-use Rattle.std.specs.Prelude.{◌≡◌, ℕ, ◌+◌, ◌*◌, ◌<◌, ◌≤◌, List, length, nat_eq}
-use Rattle.sums.specs.Below.{count_below}
-use Rattle.tag_layout.specs.Layout.{Layout, words, word_bits}
+use Rattle.std.specs.Prelude.{◌*◌, ◌+◌, ◌<◌, ◌≡◌, ◌≤◌}
+use Rattle.tag_sets.specs.Uses.{count_below, Layout, length, List, nat_eq, word_bits, words, ℕ}
 use Rattle.tag_sets.specs.declared.shown.Shown.{Shown}
 use Rattle.tag_sets.specs.Bits.{bit_in, Marks}
 use Rattle.tag_sets.specs.Looks.{is_busy_in}

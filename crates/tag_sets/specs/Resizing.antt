@@ -1,11 +1,7 @@
 -- Resizes of the ordinary set: when they are refused, and what they change.
-use Rattle.std.specs.Prelude.{◌≡◌, ◌⊎◌, ℕ, ◌+◌, ◌-◌, ◌<◌, ◌≤◌, List, All, map, length, Result, IsErrAnd}
-use mathlib.Core.Option.{some}
-use lib.ListN.{get_elem?}
+use Rattle.std.specs.Prelude.{◌+◌, ◌-◌, ◌<◌, ◌≡◌, ◌≤◌, ◌⊎◌}
+use Rattle.tag_sets.specs.Uses.{Agent, All, get_elem?, IsErrAnd, length, List, map, MAX_DEPTH, Queue, Result, some, ℕ}
 use Rattle.step_ledger.specs.Gather.{HasAll, IsLeastMissing}
-use Rattle.tag_layout.specs.declared.layout.TheConstants.{MAX_DEPTH}
-use Rattle.tag_queue.specs.declared.agent.Agent.{Agent}
-use Rattle.tag_queue.specs.declared.queue.Queue.{Queue}
 use Rattle.tag_queue.specs.declared.resizes.ResizeCause.{ResizeCause}
 use Rattle.tag_queue.specs.declared.resizes.ResizeCause.TheVariants.{Missing, DepthTooLarge, InUse, Waiting, Memory}
 use Rattle.tag_queue.specs.Agents as queue

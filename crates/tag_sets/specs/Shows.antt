@@ -1,7 +1,6 @@
 -- Shows: sizes, and sums over the words that the call found.
-use Rattle.std.specs.Prelude.{◌≡◌, ℕ, List, length}
-use Rattle.sums.specs.Below.{count_below}
-use Rattle.tag_layout.specs.Layout.{Layout, words, word_bits}
+use Rattle.std.specs.Prelude.{◌≡◌}
+use Rattle.tag_sets.specs.Uses.{count_below, Layout, length, List, word_bits, words, ℕ}
 use Rattle.tag_sets.specs.declared.hand.Hand.{Hand}
 use Rattle.tag_sets.specs.declared.kind.Kind.{Kind}
 use Rattle.tag_sets.specs.declared.shown.Shown.{Shown}

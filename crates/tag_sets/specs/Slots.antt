@@ -1,6 +1,6 @@
 -- The effect of reads and writes of slots, posts and takes on the hand that makes them.
-use Rattle.std.specs.Prelude.{◌≡◌, ◌≢◌, ◌⊎◌, ℕ}
-use mathlib.Core.Option.{some}
+use Rattle.std.specs.Prelude.{◌≡◌, ◌≢◌, ◌⊎◌}
+use Rattle.tag_sets.specs.Uses.{some, ℕ}
 use Rattle.tag_sets.specs.declared.fault.TagFault.{TagFault}
 use Rattle.tag_sets.specs.declared.fault.TagFault.TheVariants.{NoSuchTag, NotPosted}
 use Rattle.tag_queue.specs.Slots as queue

@@ -1,6 +1,6 @@
 -- The texts of shows and dumps.
-use Rattle.std.specs.Prelude.{ℕ, zero, suc, ◌-◌, ◌*◌, ◌/◌, ◌%◌, ◌==◌, min, if◌then◌else◌, false, List, [], ◌∷◌, ◌++◌, length, slice_index, codes}
-use Rattle.std.specs.Int.{div_ceil}
+use Rattle.std.specs.Prelude.{if◌then◌else◌, ◌%◌, ◌*◌, ◌++◌, ◌-◌, ◌/◌, ◌==◌, ◌∷◌}
+use Rattle.tag_sets.specs.Uses.{[], codes, div_ceil, false, length, List, min, slice_index, suc, zero, ℕ}
 use Rattle.std.specs.List.{flat_map, range_with_len}
 use Rattle.std.specs.Fmt.{decimal, digit_glyph}
 use Rattle.tag_sets.specs.declared.shown.Shown.{Shown}

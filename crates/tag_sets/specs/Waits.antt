@@ -1,15 +1,15 @@
 -- How hands wait.
-use Rattle.std.specs.Prelude.{◌≡◌, ℕ, ◌+◌, Some}
-use Rattle.wake_book.specs.declared.waiting.Left.{Left}
-use Rattle.wake_book.specs.Groups.{LeavesAs, IdlesOnce, StandsAsBefore}
-use Rattle.tag_queue.specs.declared.agent.Agent.{Agent}
-use Rattle.tag_queue.specs.Agents.{caller_of, hint_of, waiter_of}
+use Rattle.std.specs.Prelude.{◌+◌, ◌∷◌, ◌≡◌}
+use Rattle.tag_sets.specs.Uses.{Agent, ByBell, caller_of, hint_of, IdlesOnce, InGroups, LeavesAs, Left, RingsNobody, Some, StandsAsBefore, teller_of, waiter_of, Waits, ℕ}
+use Rattle.wake_book.specs.Waits.{active_at}
+use Rattle.wake_book.specs.declared.steps.GroupStep.TheVariants.{Look}
 use Rattle.tag_queue.specs.Waits as queue
 use Rattle.tag_queue.specs.Blocking as queue_blocking
 use Rattle.tag_sets.specs.declared.hand.Hand.{Hand}
 use Rattle.tag_sets.specs.declared.kind.Kind.TheVariants.{Ordinary}
 use Rattle.tag_sets.specs.declared.tags.Tags.{Tags}
-use Rattle.tag_sets.specs.Hands.{reserved_of, standing_of, layout_of, Changes}
+use Rattle.tag_sets.specs.Hands.{reserved_of, agent_of, group_steps, standing_of, layout_of, waits_of, Changes}
+use Rattle.tag_sets.specs.Hands.{waiter_of as hand_waiter_of}
 use Rattle.tag_sets.specs.Holding.{HoldsSame}
 
 -- the hand raised the active count and entered the group of its wait index, which then advanced by one
@@ -46,6 +46,18 @@ AgentStays old new = (caller_of new ≡ caller_of old) × (hint_of new ≡ hint_
 pub record Stays {R : Type 0} (old new : Hand R) : Type 0 where
   pub same : HoldsSame old new
   pub set : Changes Ordinary AgentStays old new
+
+-- the steps of a look for hands that wait in groups, which found this many: none where hands wait by the bell
+abbrev pub LookSteps : {R : Type 0} → Waits → ℕ → Hand R → Hand R → Type 0
+LookSteps InGroups found old new = group_steps new ≡ Look active_at found ∷ group_steps old
+LookSteps ByBell found old new = (found ≡ 0) × (new ≡ old)
+
+-- the hand looked for hands that wait in groups and found this many, and rang for nobody
+pub record LooksInGroups {R : Type 0} (tags : Tags R) (found : ℕ) (old new : Hand R) : Type 0 where
+  pub steps : LookSteps (waits_of tags) found old new
+  pub counts : teller_of (agent_of new Ordinary) ≡ teller_of (agent_of old Ordinary)
+  pub silent : RingsNobody (hand_waiter_of old) (hand_waiter_of new)
+  pub stays : Stays old new
 
 -- the hand waited for this ordinary tag by rounds in the ordinary set
 pub record WaitsFor {R : Type 0} (tags : Tags R) (tag : ℕ) (old new : Hand R) : Type 0 where

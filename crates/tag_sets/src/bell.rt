@@ -1,41 +1,47 @@
 //! Waits for an ordinary tag by the bell: a hand lists itself, learns that it was told, and gets up; and whoever makes
 //! ordinary tags free sees to them. A hand that waits so is in no wait group. Nobody waits for a reserved tag.
-ghost use Rattle.std.specs.Prelude.{◌≡◌, ◌+◌, ◌*◌, ◌<◌, ◌≤◌};
+ghost use Rattle.std.specs.Prelude.{◌≡◌, ◌+◌, ◌*◌, ◌<◌, ◌≤◌, OnOk, max};
 ghost use Rattle.tag_layout.specs.Layout.{words};
 ghost use Rattle.tag_core.specs.declared.bell.TheConstants.{LISTS};
 ghost use Rattle.tag_queue.specs.Bell.{ListsSelf, GetsUp, LooksForWaiters, SeesTo};
 ghost use Rattle.tag_sets.specs.Hands.{layout_of, IsHandOf, Changes, step_count};
 ghost use Rattle.tag_sets.specs.Holding.{HoldsSame};
 ghost use Rattle.tag_sets.specs.declared.kind.Kind.TheVariants.{Ordinary};
+ghost use Rattle.refusals.specs.Refusals.{RefusesBy};
+ghost use Rattle.tag_sets.specs.Refusals.{bell_checks};
 
+use crate::fault::TagFault;
 use crate::hand::Hand;
 use crate::tags::Tags;
 use tag_queue::Told;
 
 impl<R: Copy> Tags<R> {
     /// Lists the hand among those that wait, with the next turn. Afterwards it has to try each tag, by a get that finds
-    /// none, before it may sleep. One step.
-    pub fn list_self(&self, hand: &mut Hand<R>, list: u32)
+    /// none, before it may sleep. One step. `OtherWait` means that hands wait in groups.
+    pub fn list_self(&self, hand: &mut Hand<R>, list: u32) -> Result<(), TagFault>
         requires hand { IsHandOf self.now hand.old }
         requires within { list < LISTS }
         ensures hand { IsHandOf self.now hand.new }
-        ensures lists { Changes Ordinary (ListsSelf list) hand.old hand.new }
+        ensures refusals { RefusesBy (bell_checks self.now) (hand.new ≡ hand.old) result }
+        ensures lists { OnOk result (Changes Ordinary (ListsSelf list) hand.old hand.new) }
         ensures same { HoldsSame hand.old hand.new }
-        ensures bound { step_count hand.new ≡ 1 + step_count hand.old }
+        ensures bound { step_count hand.new ≤ 1 + step_count hand.old }
     {
-        self.ordinary.list_self(&mut hand.ordinary, list);
+        Ok(self.ordinary.list_self(&mut hand.ordinary, list)?)
     }
 
-    /// Lists the hand as `list_self` does, with the turn that it had: for one that was told and found no tag. One step.
-    pub fn list_again(&self, hand: &mut Hand<R>, list: u32)
+    /// Lists the hand as `list_self` does, with the turn that it had: for one that was told and found no tag. One step. It
+    /// is refused as `list_self` is: `OtherWait`.
+    pub fn list_again(&self, hand: &mut Hand<R>, list: u32) -> Result<(), TagFault>
         requires hand { IsHandOf self.now hand.old }
         requires within { list < LISTS }
         ensures hand { IsHandOf self.now hand.new }
-        ensures lists { Changes Ordinary (ListsSelf list) hand.old hand.new }
+        ensures refusals { RefusesBy (bell_checks self.now) (hand.new ≡ hand.old) result }
+        ensures lists { OnOk result (Changes Ordinary (ListsSelf list) hand.old hand.new) }
         ensures same { HoldsSame hand.old hand.new }
-        ensures bound { step_count hand.new ≡ 1 + step_count hand.old }
+        ensures bound { step_count hand.new ≤ 1 + step_count hand.old }
     {
-        self.ordinary.list_again(&mut hand.ordinary, list);
+        Ok(self.ordinary.list_again(&mut hand.ordinary, list)?)
     }
 
     /// Ends the hand's wait, and returns whether somebody had told it, or it did not wait there. One that was told has to
@@ -80,7 +86,7 @@ impl<R: Copy> Tags<R> {
     pub fn see_to(&self, hand: &mut Hand<R>, freed: u32) -> Told
         requires hand { IsHandOf self.now hand.old }
         ensures hand { IsHandOf self.now hand.new }
-        ensures sees_to { Changes Ordinary (SeesTo 6 result) hand.old hand.new }
+        ensures sees_to { Changes Ordinary (SeesTo (max freed 1) 6 result) hand.old hand.new }
         ensures same { HoldsSame hand.old hand.new }
         ensures bound { step_count hand.new ≤ 6 + step_count hand.old }
     {
@@ -94,7 +100,7 @@ impl<R: Copy> Tags<R> {
     pub fn see_to_all(&self, hand: &mut Hand<R>) -> Told
         requires hand { IsHandOf self.now hand.old }
         ensures hand { IsHandOf self.now hand.new }
-        ensures sees_to { Changes Ordinary (SeesTo (2 * words (layout_of self.now Ordinary) + 8) result) hand.old hand.new }
+        ensures sees_to { Changes Ordinary (SeesTo 1 (2 * words (layout_of self.now Ordinary) + 8) result) hand.old hand.new }
         ensures same { HoldsSame hand.old hand.new }
         ensures bound { step_count hand.new ≤ 2 * words (layout_of self.now Ordinary) + 8 + step_count hand.old }
     {

@@ -50,6 +50,9 @@ impl From<QueueOpenFault> for SetFault {
 /// Why a call on a tag or a wait was refused.
 #[derive(Clone, Copy, Debug, PartialEq, Eq, Error)]
 pub enum TagFault {
+    /// The tags were opened for the other kind of wait.
+    #[error("the tags were opened for the other kind of wait")]
+    OtherWait,
     /// No tag has this number.
     #[error("no tag has this number")]
     NoSuchTag,
@@ -88,6 +91,7 @@ impl From<QueueFault> for TagFault {
 
     fn from(fault: QueueFault) -> TagFault {
         match fault {
+            QueueFault::OtherWait => TagFault::OtherWait,
             QueueFault::NoSuchTag => TagFault::NoSuchTag,
             QueueFault::NotHeld => TagFault::NotHeld,
             QueueFault::NotPosted => TagFault::NotPosted,

@@ -8,6 +8,7 @@ ghost use Rattle.tag_sets.specs.Waits.{WaitsFor};
 ghost use Rattle.refusals.specs.Refusals.{RefusesBy};
 ghost use Rattle.tag_sets.specs.Refusals.{get_checks, shallow_checks, batch_checks, blocking_checks};
 ghost use Rattle.tag_sets.specs.Calls.{DoesGetReserved};
+ghost use Rattle.tag_queue.specs.declared.queue.Waits.TheVariants.{InGroups};
 
 use crate::fault::TagFault;
 use crate::hand::Hand;
@@ -85,13 +86,13 @@ impl<R: Copy> Tags<R> {
     }
 
     /// Takes a free ordinary tag like `get`, and waits as long as it finds none, until it is granted a wakeup or rung.
-    /// Nothing promises that it returns.
-    /// `NoSuchTag` means that there are no ordinary tags, `Waiting` that the hand is already in a wait group, `Spent`
-    /// that its life in the ordinary set is used up.
+    /// Nothing promises that it returns. `OtherWait` means that hands wait by the bell, `NoSuchTag` that there are no
+    /// ordinary tags, `Waiting` that the hand is already in a wait group, `Spent` that its life in the ordinary set is
+    /// used up.
     pub fn get_blocking<W: Wait>(&self, rt: &W, hand: &mut Hand<R>) -> Result<u32, TagFault>
         requires hand { IsHandOf self.now hand.old }
         ensures hand { IsHandOf self.now hand.new }
-        ensures refusals { RefusesBy (blocking_checks self.now hand.old) (hand.new ≡ hand.old) result }
+        ensures refusals { RefusesBy (blocking_checks InGroups self.now hand.old) (hand.new ≡ hand.old) result }
         ensures gets { IfOk result (λ tag. BlockingGets self.now tag hand.old hand.new) }
         ensures waits { IfOk result (λ tag. WaitsFor self.now tag hand.old hand.new) }
     {

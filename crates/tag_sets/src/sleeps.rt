@@ -1,6 +1,6 @@
 //! Sleeps by the bell for an ordinary tag, and who wakes the sleepers: a hand sleeps until it is told, and whoever tells
 //! hands wakes the sleepers among them. Nobody waits for a reserved tag.
-ghost use Rattle.std.specs.Prelude.{◌≡◌, ◌+◌, ◌≤◌, IfOk};
+ghost use Rattle.std.specs.Prelude.{◌≡◌, ◌+◌, ◌≤◌, IfOk, max};
 ghost use Rattle.tag_bell.specs.declared.told.TheConstants.{SLEEPERS};
 ghost use Rattle.tag_bell.specs.Callers.{IsWaiting};
 ghost use Rattle.tag_bell.specs.Sleeping.{told_by};
@@ -12,19 +12,19 @@ ghost use Rattle.tag_sets.specs.Holding.{HoldsSame};
 ghost use Rattle.tag_sets.specs.Sleeping.{SeesToAndWakes, ClearsAndWakes, GetsSleeping};
 ghost use Rattle.tag_sets.specs.declared.kind.Kind.TheVariants.{Ordinary};
 ghost use Rattle.refusals.specs.Refusals.{RefusesBy};
-ghost use Rattle.tag_sets.specs.Refusals.{tag_checks, blocking_checks};
+ghost use Rattle.tag_sets.specs.Refusals.{clear_and_wake_checks, blocking_checks};
+ghost use Rattle.tag_queue.specs.declared.queue.Waits.TheVariants.{ByBell};
 
 use crate::fault::TagFault;
 use crate::hand::Hand;
 use crate::tags::Tags;
 use std::sync::Wait;
-use tag_queue::{Told, Woken};
-use wake_book::Ring;
+use tag_queue::{Told, Waits, Woken};
 
 impl<R: Copy> Tags<R> {
     /// Takes a free ordinary tag like `get`, and waits by the bell as long as it finds none. Returns the tag, and whom it
-    /// woke: once it has a tag it sees to all others. Nothing promises that it returns. It is refused as `get_blocking` is:
-    /// `NoSuchTag`, `Waiting`, `Spent`.
+    /// woke: once it has a tag it sees to all others. Nothing promises that it returns. `OtherWait` means
+    /// that hands wait in groups; otherwise it is refused as `get_blocking` is: `NoSuchTag`, `Waiting`, `Spent`.
     pub fn get_sleeping<W: Wait>(
         &self,
         rt: &W,
@@ -32,7 +32,7 @@ impl<R: Copy> Tags<R> {
     ) -> Result<(u32, Woken), TagFault>
         requires hand { IsHandOf self.now hand.old }
         ensures hand { IsHandOf self.now hand.new }
-        ensures refusals { RefusesBy (blocking_checks self.now hand.old) (hand.new ≡ hand.old) result }
+        ensures refusals { RefusesBy (blocking_checks ByBell self.now hand.old) (hand.new ≡ hand.old) result }
         ensures gets { IfOk result (λ got. GetsSleeping self.now got.0 got.1 hand.old hand.new) }
     {
         let (number, woken) = self.ordinary.get_sleeping(rt, &mut hand.ordinary)?;
@@ -64,7 +64,7 @@ impl<R: Copy> Tags<R> {
     pub fn wake(&self, hand: &mut Hand<R>, freed: u32) -> Woken
         requires hand { IsHandOf self.now hand.old }
         ensures hand { IsHandOf self.now hand.new }
-        ensures wakes { SeesToAndWakes 6 result hand.old hand.new }
+        ensures wakes { SeesToAndWakes (max freed 1) 6 result hand.old hand.new }
         ensures same { HoldsSame hand.old hand.new }
         ensures bound { step_count hand.new ≤ 6 + step_count hand.old }
     {
@@ -76,27 +76,31 @@ impl<R: Copy> Tags<R> {
     pub fn wake_next(&self, hand: &mut Hand<R>) -> Woken
         requires hand { IsHandOf self.now hand.old }
         ensures hand { IsHandOf self.now hand.new }
-        ensures wakes { SeesToAndWakes (see_to_all_steps (layout_of self.now Ordinary)) result hand.old hand.new }
+        ensures wakes { SeesToAndWakes 1 (see_to_all_steps (layout_of self.now Ordinary)) result hand.old hand.new }
         ensures same { HoldsSame hand.old hand.new }
         ensures bound { step_count hand.new ≤ see_to_all_steps (layout_of self.now Ordinary) + step_count hand.old }
     {
         self.ordinary.wake_next(&mut hand.ordinary)
     }
 
-    /// Clears a held tag as `clear::<Ring>` does. If it is an ordinary one, it then tells one of those that wait by the bell,
-    /// if there are any, and wakes it if it sleeps. Returns whom it told. It is refused as `clear` is: `NoSuchTag`,
-    /// `NotHeld`.
+    /// Clears a held tag. If it is an ordinary one, it then tells one of those that wait by the bell, if there are any, and
+    /// wakes it if it sleeps. Returns whom it told. `OtherWait` means that hands wait in groups; otherwise it is refused as
+    /// `clear` is: `NoSuchTag`, `NotHeld`.
     pub fn clear_and_wake(&self, hand: &mut Hand<R>, tag: u32) -> Result<Woken, TagFault>
         requires hand { IsHandOf self.now hand.old }
         ensures hand { IsHandOf self.now hand.new }
-        ensures refusals { RefusesBy (tag_checks self.now hand.old tag) (hand.new ≡ hand.old) result }
+        ensures refusals { RefusesBy (clear_and_wake_checks self.now hand.old tag) (hand.new ≡ hand.old) result }
         ensures wakes { IfOk result (λ woken. ClearsAndWakes self.now tag woken hand.old hand.new) }
         ensures bound { step_count hand.new ≤ clear_and_wake_steps + step_count hand.old }
     {
-        self.clear::<Ring>(hand, tag)?;
+        if self.waits() != Waits::ByBell {
+            return Err(TagFault::OtherWait);
+        }
         if tag < self.reserved_count {
+            self.reserved.clear_uncounted(&mut hand.reserved, tag)?;
             return Ok(Woken::none());
         }
-        Ok(self.wake(hand, 1))
+        let number = tag - self.reserved_count;
+        Ok(self.ordinary.clear_and_wake(&mut hand.ordinary, number)?)
     }
 }

@@ -7,7 +7,7 @@ ghost use Rattle.wake_book.specs.declared.steps.BookStep.TheVariants.{LookComple
 ghost use Rattle.wake_book.specs.declared.steps.GroupStep.TheVariants.{Look};
 ghost use Rattle.tag_queue.specs.Agents.{teller_of};
 ghost use Rattle.tag_sets.specs.Hands.{IsHandOf, agent_of, standing_of, wait_index_of, book_steps, group_steps, waiter_of};
-ghost use Rattle.tag_sets.specs.Waits.{Leaves, Stays};
+ghost use Rattle.tag_sets.specs.Waits.{Leaves, LooksInGroups, Stays};
 ghost use Rattle.tag_sets.specs.declared.kind.Kind.TheVariants.{Ordinary};
 ghost use Rattle.refusals.specs.Refusals.{RefusesBy};
 ghost use Rattle.tag_sets.specs.Refusals.{leave_checks};
@@ -17,16 +17,28 @@ use crate::fault::TagFault;
 use crate::hand::Hand;
 use crate::tags::Tags;
 use std::sync::Wait;
-use tag_queue::Wakes;
+use tag_queue::{Waits, Wakes};
 use wake_book::Left;
 
+impl<R> Tags<R> {
+    ghost use Rattle.tag_sets.specs.Hands.{waits_of};
+
+    /// Returns how hands wait for an ordinary tag. This makes no step.
+    #[inline]
+    pub fn waits(&self) -> Waits
+        ensures { result ≡ waits_of self.now }
+    {
+        self.ordinary.waits()
+    }
+}
+
 impl<R: Copy> Tags<R> {
-    /// Enters the wait group of the hand's wait index, advances that index, and returns the group, 0 to 7. `Waiting`
-    /// means that the hand is already in a group.
+    /// Enters the wait group of the hand's wait index, advances that index, and returns the group, 0 to 7. `OtherWait`
+    /// means that hands wait by the bell, `Waiting` that the hand is already in a group.
     pub fn prepare_wait(&self, hand: &mut Hand<R>) -> Result<u32, TagFault>
         requires hand { IsHandOf self.now hand.old }
         ensures hand { IsHandOf self.now hand.new }
-        ensures does { DoesPrepare result hand.old hand.new }
+        ensures does { DoesPrepare self.now result hand.old hand.new }
     {
         Ok(self.ordinary.prepare_wait(&mut hand.ordinary)?)
     }
@@ -82,5 +94,19 @@ impl<R: Copy> Tags<R> {
         ensures same { Stays hand.old hand.new }
     {
         self.ordinary.active(&mut hand.ordinary)
+    }
+
+    /// Looks for hands that wait in groups: loads the number of active waiters as `active` does, or where hands wait by the
+    /// bell returns 0 and makes no step.
+    #[inline]
+    pub fn active_in_groups(&self, hand: &mut Hand<R>) -> u64
+        requires hand { IsHandOf self.now hand.old }
+        ensures hand { IsHandOf self.now hand.new }
+        ensures looks { LooksInGroups self.now result hand.old hand.new }
+    {
+        if self.waits() == Waits::ByBell {
+            return 0;
+        }
+        self.active(hand)
     }
 }

@@ -1,8 +1,6 @@
 -- Callers with caches may go to other threads.
-use denote.Param.Send.{IsSend, recorded_send, enum_send, sendable}
+use Rattle.tag_tests.proofs.Uses.{enum_send, hand_field_send, IsSend, recorded_send, sendable, u64-field}
 use denote.Enum.Declared.{shape as choices_of}
-use denote.Struct.Field.{u64-field}
-use Rattle.tag_sets.proofs.Crossing.{hand_field_send}
 use Rattle.tag_cache.proofs.Crossing.{cache_field_send}
 use Rattle.tag_tests.specs.contracts.caller.Caller as caller
 

@@ -1,1 +1,2 @@
+mod Uses
 pub mod Crossing

@@ -1,6 +1,5 @@
 -- Caches go to threads that share the tags.
-use denote.Param.Send.{sendable}
-use Rattle.std.proofs.Crossing.{crosses}
+use Rattle.tag_bench.proofs.Uses.{crosses, sendable}
 use Rattle.tag_cache.proofs.Crossing.{cache_send}
 use Rattle.tag_bench.proofs.Cached.{cached_sync}
 use Rattle.tag_bench.proofs.run_on_caches.Goals as goal

@@ -1,7 +1,5 @@
 -- Callers go to threads that share the map.
-use denote.Param.Send.{sendable}
-use Rattle.std.proofs.Crossing.{crosses}
-use Rattle.tag_core.proofs.Crossing.{caller_send, map_sync}
+use Rattle.tag_bench.proofs.Uses.{caller_send, crosses, map_sync, sendable}
 use Rattle.tag_bench.proofs.run_on_map.Goals as goal
 
 pub run-requires-send-T-Hand : goal.run-requires-send-T-Hand

@@ -1,7 +1,5 @@
 -- Agents go to threads that share the queue.
-use denote.Param.Send.{sendable}
-use Rattle.std.proofs.Crossing.{crosses}
-use Rattle.tag_queue.proofs.Crossing.{agent_send, queue_sync}
+use Rattle.tag_bench.proofs.Uses.{agent_send, crosses, queue_sync, sendable}
 use Rattle.tag_bench.proofs.run_on_queue.Goals as goal
 
 pub run-requires-send-T-Hand : goal.run-requires-send-T-Hand

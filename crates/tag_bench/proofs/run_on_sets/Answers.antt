@@ -1,7 +1,5 @@
 -- Hands go to threads that share the tags.
-use denote.Param.Send.{sendable}
-use Rattle.std.proofs.Crossing.{crosses}
-use Rattle.tag_sets.proofs.Crossing.{hand_send, tags_sync}
+use Rattle.tag_bench.proofs.Uses.{crosses, hand_send, sendable, tags_sync}
 use Rattle.tag_bench.proofs.run_on_sets.Goals as goal
 
 pub run-requires-send-T-Hand : goal.run-requires-send-T-Hand

@@ -10,7 +10,7 @@ ghost use Rattle.tag_queue.specs.Refusals.{blocking_checks};
 
 use crate::agent::Agent;
 use crate::fault::QueueFault;
-use crate::queue::Queue;
+use crate::queue::{Queue, Waits};
 use std::sync::Wait;
 use tag_core::Caller;
 use wake_book::{Groups, Key, Left, Waiter};
@@ -18,15 +18,18 @@ use wake_book::{Groups, Key, Left, Waiter};
 impl<R: Copy> Queue<R> {
     /// Takes a free tag like `get`, and waits as long as it finds none: it enters a wait group, searches once more, and
     /// sleeps there if it finds none again, until it is granted a wakeup or rung. Nothing promises that it returns.
-    /// `NoSuchTag` means that the queue has no tags, `Waiting` that the agent is already in a wait group, `Spent` that
-    /// its life is used up.
+    /// `OtherWait` means that the queue's agents wait by the bell, `NoSuchTag` that it has no tags, `Waiting` that the agent
+    /// is already in a wait group, `Spent` that its life is used up.
     pub fn get_blocking<W: Wait>(&self, rt: &W, agent: &mut Agent<R>) -> Result<u32, QueueFault>
         requires agent { IsAgentOf self.now agent.old }
         ensures agent { IsAgentOf self.now agent.new }
-        ensures refusals { RefusesBy (blocking_checks self.now agent.old) (agent.new ≡ agent.old) result }
+        ensures refusals { RefusesBy (blocking_checks Waits.InGroups self.now agent.old) (agent.new ≡ agent.old) result }
         ensures gets { IfOk result (λ tag. BlockingGets (layout_of self.now) tag agent.old agent.new) }
         ensures waits { IfOk result (λ tag. WaitsFor (layout_of self.now) tag agent.old agent.new) }
     {
+        if self.waits != Waits::InGroups {
+            return Err(QueueFault::OtherWait);
+        }
         if self.map.layout().depth() == 0 {
             return Err(QueueFault::NoSuchTag);
         }

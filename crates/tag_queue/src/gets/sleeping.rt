@@ -8,15 +8,15 @@ ghost use Rattle.tag_queue.specs.Refusals.{blocking_checks};
 
 use crate::agent::Agent;
 use crate::fault::QueueFault;
-use crate::queue::Queue;
+use crate::queue::{Queue, Waits};
 use std::sync::Wait;
 use tag_bell::{SLEEPERS, Woken};
 use wake_book::Groups;
 
 impl<R: Copy> Queue<R> {
     /// Takes a free tag like `get`, and waits by the bell as long as it finds none. Returns the tag, and whom it woke: once
-    /// it has a tag it sees to all others. Nothing promises that it returns. It is refused as `get_blocking` is:
-    /// `NoSuchTag`, `Waiting`, `Spent`.
+    /// it has a tag it sees to all others. Nothing promises that it returns. `OtherWait` means that the queue's agents wait in
+    /// groups; otherwise it is refused as `get_blocking` is: `NoSuchTag`, `Waiting`, `Spent`.
     pub fn get_sleeping<W: Wait>(
         &self,
         rt: &W,
@@ -24,9 +24,12 @@ impl<R: Copy> Queue<R> {
     ) -> Result<(u32, Woken), QueueFault>
         requires agent { IsAgentOf self.now agent.old }
         ensures agent { IsAgentOf self.now agent.new }
-        ensures refusals { RefusesBy (blocking_checks self.now agent.old) (agent.new ≡ agent.old) result }
+        ensures refusals { RefusesBy (blocking_checks Waits.ByBell self.now agent.old) (agent.new ≡ agent.old) result }
         ensures gets { IfOk result (λ got. GetsSleeping (layout_of self.now) got.0 got.1 agent.old agent.new) }
     {
+        if self.waits != Waits::ByBell {
+            return Err(QueueFault::OtherWait);
+        }
         if self.map.layout().depth() == 0 {
             return Err(QueueFault::NoSuchTag);
         }
@@ -61,14 +64,14 @@ impl<R: Copy> Queue<R> {
         ensures agent { IsAgentOf self.now agent.new }
         ensures wins { WinsListed (layout_of self.now) result agent.old agent.new }
     {
-        self.list_self(agent, SLEEPERS);
+        self.enlist(agent, SLEEPERS);
         for _ in rt.forever() {
             if let Some(tag) = self.try_get(agent) {
                 self.get_up(agent, SLEEPERS);
                 return tag;
             }
             self.sleep(rt, agent);
-            self.list_again(agent, SLEEPERS);
+            self.enlist_again(agent, SLEEPERS);
         }
         unreachable!()
     }

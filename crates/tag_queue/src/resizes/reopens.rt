@@ -82,6 +82,7 @@ impl<R: Copy> Queue<R> {
                 let batch = layout.wake_batch(self.min_shallow);
                 let mut book = self.book;
                 book.rebatch(batch);
+                let waits = self.waits;
                 let queue = Queue {
                     map,
                     book,
@@ -90,6 +91,7 @@ impl<R: Copy> Queue<R> {
                     shallowest: self.shallowest,
                     min_shallow: self.min_shallow,
                     callers: self.callers,
+                    waits,
                     fill: self.fill,
                 };
                 Ok((queue, callers))
@@ -103,6 +105,7 @@ impl<R: Copy> Queue<R> {
                     shallowest: self.shallowest,
                     min_shallow: self.min_shallow,
                     callers: self.callers,
+                    waits: self.waits,
                     fill: self.fill,
                 };
                 Err((queue, callers))

@@ -1,10 +1,8 @@
 -- Each bit of the shifted mask is one of the batch, and stands at that tag's place.
-use Rattle.std.proofs.Common.{◌≡◌, ℕ, ◌+◌, ◌-◌, ◌*◌, ◌%◌, ◌^◌, ◌<◌, ◌==◌, eqb-true, arith, sym, ap, ◌∙◌, subst}
-use Rattle.std.specs.Int.{bit_at}
-use Rattle.std.proofs.lemmas.Nat.{mod_below}
-use Rattle.tag_layout.specs.Layout.{Layout, word_bits, word_of, place_of}
+use Rattle.tag_bench.proofs.Uses.{ap, arith, bit_at, eqb-true, Layout, layout_of, mod_below, place_of, subst, sym, word_bits, word_of, ℕ, ◌∙◌}
+use Rattle.std.proofs.Common.{◌≡◌, ◌+◌, ◌-◌, ◌*◌, ◌%◌, ◌^◌, ◌<◌, ◌==◌}
 use Rattle.tag_layout.proofs.PlaceFacts.{word_bits-le, word_bits-pos, tag_at-back}
-use Rattle.tag_core.specs.Callers.{layout_of, Holds}
+use Rattle.tag_core.specs.Callers.{Holds}
 use Rattle.tag_search.proofs.OneTag.{both_true}
 use Rattle.tag_bench.proofs.Shifts.{bit-of_shifted}
 use Rattle.tag_bench.proofs.batches.give_run.Goals as goal

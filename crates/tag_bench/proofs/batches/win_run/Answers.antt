@@ -1,11 +1,7 @@
 -- The caller acquires the tags of the answer.
-use Rattle.std.proofs.Common.{◌≡◌, ℕ, ◌+◌, Option, Some, None, refl}
-use Rattle.std.specs.Prelude.{IfSome}
-use Rattle.std.specs.Int.{bit_at}
-use Rattle.tag_layout.specs.Layout.{Layout}
-use Rattle.tag_core.specs.declared.caller.Caller.{Caller}
+use Rattle.tag_bench.proofs.Uses.{bit_at, Caller, GainsRun, IfSome, Layout, None, Option, refl, Some, ℕ}
+use Rattle.std.proofs.Common.{◌≡◌, ◌+◌}
 use Rattle.tag_core.specs.Callers.{Holds}
-use Rattle.tag_search.specs.Gains.{GainsRun}
 use Rattle.tag_bench.proofs.batches.win_run.Goals as goal
 
 holds-run : {R : Type 0} (l : Layout) (answer : Option (ℕ × ℕ)) (old new : Caller R) → GainsRun l answer old new

@@ -1,7 +1,5 @@
 -- Callers go to threads that share the map.
-use denote.Param.Send.{sendable}
-use Rattle.std.proofs.Crossing.{crosses}
-use Rattle.tag_core.proofs.Crossing.{caller_send, map_sync}
+use Rattle.tag_bench.proofs.Uses.{caller_send, crosses, map_sync, sendable}
 use Rattle.tag_bench.proofs.claims.run.Goals as goal
 
 pub carry_out-requires-send-T-Hand : goal.carry_out-requires-send-T-Hand

@@ -1,7 +1,5 @@
 -- Agents go to threads that share the queue.
-use denote.Param.Send.{sendable}
-use Rattle.std.proofs.Crossing.{crosses}
-use Rattle.tag_queue.proofs.Crossing.{agent_send, queue_sync}
+use Rattle.tag_bench.proofs.Uses.{agent_send, crosses, queue_sync, sendable}
 use Rattle.tag_bench.proofs.waits.run.Goals as goal
 
 pub carry_out-requires-send-T-Hand : goal.carry_out-requires-send-T-Hand

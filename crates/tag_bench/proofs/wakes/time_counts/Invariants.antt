@@ -1,6 +1,5 @@
 -- The tellers stay those of the book.
-use Rattle.std.proofs.Common.{All}
-use Rattle.wake_book.specs.Book.{IsTellerOf}
+use Rattle.tag_bench.proofs.Uses.{All, IsTellerOf}
 use Rattle.tag_bench.proofs.wakes.time_counts.Given as goal
 
 abbrev pub invariant-loop-run : goal.invariant-loop-run

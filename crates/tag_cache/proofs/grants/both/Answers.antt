@@ -1,9 +1,6 @@
 -- Each entry goes up once, and with it the sum.
-use Rattle.std.proofs.Common.{arith, ◌≡◌, ◌≢◌, ℕ, ◌+◌, ◌<◌, length, length-set, get_or, get_or-set_same, get_or-set_other, set, sum, sym, ap, ◌∙◌}
-use mathlib.Core.Logic.{dite}
-use native.Mathlib.Decide.{ℕ_discrete}
-use Rattle.std.proofs.lemmas.List.{take_all}
-use Rattle.std.proofs.lemmas.List.Sums.{sum_by_more}
+use Rattle.std.specs.Prelude.{◌+◌, ◌<◌, ◌≡◌, ◌≢◌}
+use Rattle.tag_cache.proofs.Uses.{ap, arith, dite, get_or, get_or-set_other, get_or-set_same, length, length-set, set, sum, sum_by_more, sym, take_all, ℕ, ℕ_discrete, ◌∙◌}
 use Rattle.wake_book.proofs.Granting.{sum_set}
 use Rattle.tag_cache.proofs.grants.both.Goals as goal
 

@@ -1,12 +1,7 @@
 -- Map, book and groups are opened for the same number of agents, so their parts can be joined one by one.
-use Rattle.std.proofs.Common.{rules, ℕ, List, map, sym, ◌∙◌, subst}
-use Rattle.tag_layout.specs.Layout.{Layout, wake_batch}
-use Rattle.tag_core.specs.Opening.{IsNew, AreNew}
-use Rattle.wake_book.specs.declared.book.Teller.{Teller}
-use Rattle.wake_book.specs.declared.groups.Waiter.{Waiter}
+use Rattle.tag_queue.proofs.Uses.{AreNew, IsNew, Layout, List, map, rules, subst, sym, Teller, teller_of, Waiter, wake_batch, ℕ, ◌∙◌}
 use Rattle.wake_book.specs.Book as book
 use Rattle.wake_book.specs.Groups as groups
-use Rattle.tag_queue.specs.Agents.{teller_of}
 use Rattle.tag_queue.proofs.Opening.{fresh_count, fit_new, none_stepped, own_all}
 use Rattle.tag_queue.proofs.opens.lay_out.Goals as goal
 
@@ -42,4 +37,5 @@ returns-clause-open g c = let parts = c.in_ok-agents.ensures.parts in let option
       hints = c.in_ok-agents.ensures.hints;
       least = search rules;
       min_shallow = search rules;
+      waits = search rules;
     }

@@ -1,9 +1,7 @@
 -- Each turn takes the next agent of both lists and makes the next hand, and both lists end together.
-use Rattle.std.proofs.Common.{arith, ◌≡◌, [], ◌∷◌, ◌++◌, All, refl, sym, subst}
-use Rattle.std.proofs.lemmas.List.Elements.{All-push}
+use Rattle.std.specs.Prelude.{◌++◌, ◌∷◌, ◌≡◌}
+use Rattle.tag_sets.proofs.Uses.{[], All, All-push, arith, Hand, IsSplitAt, ordinary_part, refl, reserved_part, subst, sym}
 use Rattle.tag_queue.proofs.Fronts.{goes_on}
-use Rattle.tag_sets.specs.declared.hand.Hand.{Hand}
-use Rattle.tag_sets.specs.Opening.{reserved_part, ordinary_part, IsSplitAt}
 use Rattle.tag_sets.proofs.opens.join.Goals as goal
 
 pub loop-reserved-preserved : goal.loop-reserved-preserved

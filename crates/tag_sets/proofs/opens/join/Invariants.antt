@@ -1,7 +1,7 @@
 -- The agents of the hands so far, followed by those still to come, are the agents passed in.
-use Rattle.std.proofs.Common.{◌≡◌, ◌++◌, All, map}
+use Rattle.std.specs.Prelude.{◌++◌, ◌≡◌}
+use Rattle.tag_sets.proofs.Uses.{All, IsSplitAt, map, ordinary_part, reserved_part}
 use Rattle.std.specs.Vec.Iter.{into_iter_items, into_iter_len}
-use Rattle.tag_sets.specs.Opening.{reserved_part, ordinary_part, IsSplitAt}
 use Rattle.tag_sets.proofs.opens.join.Given as goal
 
 abbrev pub invariant-loop-reserved : goal.invariant-loop-reserved

@@ -98,7 +98,7 @@ fn shared<R: AllocGlobal + Wait + Threads + Sync>(
         most: 8,
         keeping: Keeping::Always,
     };
-    let (tags, hands) = Tags::open(alloc, depth, 0, options(THREADS), 0u64)?;
+    let (tags, hands) = Tags::open(alloc, depth, 0, options(THREADS).with_bell(), 0u64)?;
     let callers = share(rt, &tags, terms.callers(alloc, &tags, hands)?);
     let hands = hands_of(alloc, &tags, callers)?;
     match Tags::gather(tags, hands) {
@@ -145,7 +145,7 @@ fn next_cache(tags: &Tags<u64>, hands: &mut Vec<Hand<u64>>, most: u32) -> Result
 
 #[test]
 fn a_kept_tag_is_returned_at_once(rt: HostRuntime) -> Result<(), Fail> {
-    let (tags, mut hands) = Tags::open(rt.alloc(), 1, 0, options(1), 0u64)?;
+    let (tags, mut hands) = Tags::open(rt.alloc(), 1, 0, options(1).with_bell(), 0u64)?;
     let mut cache = next_cache(&tags, &mut hands, 1)?;
     let (first, _) = cache.get_sleeping(&rt, &tags)?;
     cache.clear_and_wake(&tags, first)?;
@@ -176,7 +176,7 @@ fn list_some(tags: &Tags<u64>, hands: &mut Vec<Hand<u64>>, sleepers: u32) -> Res
 {
     for _ in 0..sleepers {
         let mut hand = next_hand(tags, hands)?;
-        tags.list_self(&mut hand, SLEEPERS);
+        tags.list_self(&mut hand, SLEEPERS)?;
     }
     Ok(())
 }
@@ -200,7 +200,7 @@ fn told_by_last_clear(
 
 /// Opens four tags for eight hands, and has the last of them do so.
 fn told<R: AllocGlobal>(rt: &R, most: u32, sleepers: u32) -> Result<(u64, u32), Fail> {
-    let (tags, mut hands) = Tags::open(rt.alloc(), 4, 0, options(8), 0u64)?;
+    let (tags, mut hands) = Tags::open(rt.alloc(), 4, 0, options(8).with_bell(), 0u64)?;
     told_by_last_clear(&tags, &mut hands, most, sleepers)
 }
 
@@ -226,5 +226,42 @@ fn a_clear_wakes_for_tags_that_it_gave_back_itself(rt: HostRuntime) -> Result<()
 #[test]
 fn a_clear_keeps_its_tag_where_nobody_sleeps(rt: HostRuntime) -> Result<(), Fail> {
     assert_eq!(rt; told(&rt, 8, 0)?, (0, 4));
+    Ok(())
+}
+
+#[test]
+fn caches_whose_hands_wait_in_groups_do_not_wait_by_the_bell(rt: HostRuntime) -> Result<(), Fail> {
+    let (tags, mut hands) = Tags::open(rt.alloc(), 1, 0, options(1), 0u64)?;
+    let mut cache = next_cache(&tags, &mut hands, 1)?;
+    assert_eq!(rt;
+        cache.get_sleeping(&rt, &tags).err(),
+        Some(TagFault::OtherWait)
+    );
+    assert_eq!(rt; cache.list_self(&tags, SLEEPERS), Err(TagFault::OtherWait));
+    cache.get(&tags)?;
+    assert_eq!(rt;
+        cache.clear_and_wake(&tags, 0).err(),
+        Some(TagFault::OtherWait)
+    );
+    assert_eq!(rt; cache.clear::<Ring>(&tags, 0)?, 0);
+    assert_eq!(rt;
+        cache.get_sleeping(&rt, &tags).err(),
+        Some(TagFault::OtherWait)
+    );
+    Ok(())
+}
+
+#[test]
+fn caches_whose_hands_wait_by_the_bell_do_not_wait_in_groups(rt: HostRuntime) -> Result<(), Fail> {
+    let (tags, mut hands) = Tags::open(rt.alloc(), 1, 0, options(1).with_bell(), 0u64)?;
+    let mut cache = next_cache(&tags, &mut hands, 1)?;
+    cache.get(&tags)?;
+    cache.clear::<Ring>(&tags, 0)?;
+    assert_eq!(rt; cache.get_blocking(&rt, &tags), Err(TagFault::OtherWait));
+    assert_eq!(rt;
+        cache.prepare_wait::<Ring>(&tags).err(),
+        Some(TagFault::OtherWait)
+    );
+    assert_eq!(rt; (cache.count(), cache.wakes(&tags).active), (1, 0));
     Ok(())
 }

@@ -4,9 +4,9 @@ use crate::tests::calls::Call::{Clear, FinishWait, Get, GetBlocking, PrepareWait
 use crate::tests::queue::stages::{expect, expect_totals};
 use crate::tests::steps::Step::Calls;
 use crate::tests::totals::{all_totals, options, totals};
-use std::test::Fail;
-use tag_queue::Options;
-use tag_sets::TagFault::{NoSuchTag, NotWaiting, Waiting};
+use std::test::*;
+use tag_queue::{Options, Queue, QueueFault, SLEEPERS};
+use tag_sets::TagFault::{NoSuchTag, NotWaiting, OtherWait, Waiting};
 use wake_book::Left as Leave;
 
 #[test]
@@ -74,6 +74,50 @@ fn a_wait_is_refused_to_who_stands_and_its_end_to_who_does_not(
             (1, Wakes, Found(1, 1, 1, 0)),
         ],
     )
+}
+
+#[test]
+fn agents_that_wait_by_the_bell_wait_in_no_group_and_count_nothing(
+    rt: HostRuntime,
+) -> Result<(), Fail> {
+    expect(
+        &rt,
+        8,
+        options(1).with_bell(),
+        &[
+            (0, PrepareWait, Refused(OtherWait)),
+            (0, GetBlocking, Refused(OtherWait)),
+            (0, Get, Tag(0)),
+            (0, Clear(0), Woken(0)),
+            (0, Wakes, Found(0, 0, 0, 0)),
+        ],
+    )
+}
+
+#[test]
+fn agents_that_wait_in_groups_do_not_wait_by_the_bell(rt: HostRuntime) -> Result<(), Fail> {
+    let (queue, mut agents) = Queue::open(rt.alloc(), 1, options(1), 0u64)?;
+    let Some(mut agent) = agents.pop() else {
+        return Err(Fail::new("there is no agent"));
+    };
+    queue.get(&mut agent)?;
+    assert_eq!(rt;
+        queue.get_sleeping(&rt, &mut agent).err(),
+        Some(QueueFault::OtherWait)
+    );
+    assert_eq!(rt;
+        queue.list_self(&mut agent, SLEEPERS),
+        Err(QueueFault::OtherWait)
+    );
+    assert_eq!(rt;
+        queue.list_again(&mut agent, SLEEPERS),
+        Err(QueueFault::OtherWait)
+    );
+    assert_eq!(rt;
+        queue.clear_and_wake(&mut agent, 0).err(),
+        Some(QueueFault::OtherWait)
+    );
+    Ok(())
 }
 
 #[test]

@@ -49,7 +49,7 @@ fn share<R: Wait + Threads + Sync>(
 
 /// Opens that many tags for eight hands, which share them, and gathers all.
 fn shared<R: AllocGlobal + Wait + Threads + Sync>(rt: &R, depth: u32) -> Result<Totals, Fail> {
-    let (tags, hands) = Tags::open(rt.alloc(), depth, 0, options(THREADS), 0u64)?;
+    let (tags, hands) = Tags::open(rt.alloc(), depth, 0, options(THREADS).with_bell(), 0u64)?;
     let hands = share(rt, &tags, hands);
     match Tags::gather(tags, hands) {
         Ok(sums) => Ok(sums.tags),
@@ -80,8 +80,8 @@ fn tell_one_after_another(tags: &Tags<u64>, hands: &mut Vec<Hand<u64>>) -> Resul
     let mut first = next_hand(tags, hands)?;
     tags.get(&mut first)?;
     tags.get(&mut second)?;
-    tags.list_self(&mut third, SLEEPERS);
-    tags.list_self(&mut fourth, SLEEPERS);
+    tags.list_self(&mut third, SLEEPERS)?;
+    tags.list_self(&mut fourth, SLEEPERS)?;
     let by_first = tags.clear_and_wake(&mut first, 0)?.told().sleepers;
     tags.clear::<Ring>(&mut second, 1)?;
     tags.get_up(&mut third, SLEEPERS);
@@ -91,16 +91,58 @@ fn tell_one_after_another(tags: &Tags<u64>, hands: &mut Vec<Hand<u64>>) -> Resul
 
 #[test]
 fn who_was_told_and_has_a_tag_sees_to_the_other(rt: HostRuntime) -> Result<(), Fail> {
-    let (tags, mut hands) = Tags::open(rt.alloc(), 2, 0, options(4), 0u64)?;
+    let (tags, mut hands) = Tags::open(rt.alloc(), 2, 0, options(4).with_bell(), 0u64)?;
     assert_eq!(rt; tell_one_after_another(&tags, &mut hands)?, (4, 8));
     Ok(())
 }
 
 #[test]
 fn one_that_finds_a_tag_does_not_sleep(rt: HostRuntime) -> Result<(), Fail> {
-    let (tags, mut hands) = Tags::open(rt.alloc(), 1, 0, options(2), 0u64)?;
+    let (tags, mut hands) = Tags::open(rt.alloc(), 1, 0, options(2).with_bell(), 0u64)?;
     let mut hand = next_hand(&tags, &mut hands)?;
     let (tag, woken) = tags.get_sleeping(&rt, &mut hand)?;
     assert_eq!(rt; (tag, woken.told().is_none()), (0, true));
+    Ok(())
+}
+
+#[test]
+fn hands_that_wait_in_groups_do_not_wait_by_the_bell(rt: HostRuntime) -> Result<(), Fail> {
+    let (tags, mut hands) = Tags::open(rt.alloc(), 2, 1, options(1), 0u64)?;
+    let mut hand = next_hand(&tags, &mut hands)?;
+    tags.get(&mut hand)?;
+    tags.get_reserved(&mut hand)?;
+    assert_eq!(rt;
+        tags.get_sleeping(&rt, &mut hand).err(),
+        Some(TagFault::OtherWait)
+    );
+    assert_eq!(rt;
+        tags.list_self(&mut hand, SLEEPERS),
+        Err(TagFault::OtherWait)
+    );
+    assert_eq!(rt;
+        tags.list_again(&mut hand, SLEEPERS),
+        Err(TagFault::OtherWait)
+    );
+    assert_eq!(rt;
+        tags.clear_and_wake(&mut hand, 0).err(),
+        Some(TagFault::OtherWait)
+    );
+    assert_eq!(rt;
+        tags.clear_and_wake(&mut hand, 1).err(),
+        Some(TagFault::OtherWait)
+    );
+    Ok(())
+}
+
+#[test]
+fn hands_that_wait_by_the_bell_count_nothing(rt: HostRuntime) -> Result<(), Fail> {
+    let (tags, mut hands) = Tags::open(rt.alloc(), 1, 0, options(1).with_bell(), 0u64)?;
+    let mut hand = next_hand(&tags, &mut hands)?;
+    assert_eq!(rt; tags.prepare_wait(&mut hand), Err(TagFault::OtherWait));
+    assert_eq!(rt; tags.get_blocking(&rt, &mut hand), Err(TagFault::OtherWait));
+    tags.get(&mut hand)?;
+    assert_eq!(rt; tags.clear::<Ring>(&mut hand, 0)?, 0);
+    let found = tags.wakes(&mut hand);
+    assert_eq!(rt; (found.counted, found.active), (0, 0));
     Ok(())
 }

@@ -1,7 +1,6 @@
 -- The cache stood first among the rest, which are all caches at first.
-use Rattle.std.proofs.Common.{◌≡◌, arith, suc, sym, ap, subst, length, All}
-use Rattle.std.specs.Vec.Iter.{into_iter_items}
-use Rattle.tag_cache.specs.Caches.{IsCacheOf}
+use Rattle.tag_bench.proofs.Uses.{All, ap, arith, into_iter_items, IsCacheOf, length, subst, suc, sym}
+use Rattle.std.proofs.Common.{◌≡◌}
 use Rattle.tag_bench.proofs.shared_cache.CachedTagAllocator.gather.Goals as goal
 
 pub loop-cache-init : goal.loop-cache-init

@@ -1,7 +1,5 @@
 -- The caches that are still to come belong to the tags.
-use Rattle.std.proofs.Common.{All}
-use Rattle.std.specs.Vec.Iter.{into_iter_items}
-use Rattle.tag_cache.specs.Caches.{IsCacheOf}
+use Rattle.tag_bench.proofs.Uses.{All, into_iter_items, IsCacheOf}
 use Rattle.tag_bench.proofs.shared_cache.CachedTagAllocator.gather.Given as goal
 
 abbrev pub invariant-loop-cache : goal.invariant-loop-cache

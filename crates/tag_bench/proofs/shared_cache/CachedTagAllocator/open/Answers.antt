@@ -1,10 +1,7 @@
 -- A hand that belongs to the tags makes a cache that does.
-use Rattle.std.proofs.Common.{arith, All, ℕ, List, Some, sym, subst}
+use Rattle.tag_bench.proofs.Uses.{All, arith, Cache, IsCacheOf, IsHandOf, List, Some, subst, sym, ℕ}
 use Rattle.std.proofs.lemmas.List.Elements.{All-pop, All-push}
 use Rattle.tag_sets.specs.declared.hand.Hand.{Hand}
-use Rattle.tag_sets.specs.Hands.{IsHandOf}
-use Rattle.tag_cache.specs.declared.cache.Cache.{Cache}
-use Rattle.tag_cache.specs.Caches.{IsCacheOf}
 use Rattle.tag_bench.proofs.shared_cache.CachedTagAllocator.open.Goals as goal
 
 pub loop-hand-preserved : goal.loop-hand-preserved

@@ -1,7 +1,6 @@
 -- Each hand that is left belongs to the tags, and so does each cache; there is room for the rest.
-use Rattle.std.proofs.Common.{◌+◌, ◌≤◌, All, vec_len, vec_capacity}
-use Rattle.tag_sets.specs.Hands.{IsHandOf}
-use Rattle.tag_cache.specs.Caches.{IsCacheOf}
+use Rattle.tag_bench.proofs.Uses.{All, IsCacheOf, IsHandOf, vec_capacity, vec_len}
+use Rattle.std.proofs.Common.{◌+◌, ◌≤◌}
 use Rattle.tag_bench.proofs.shared_cache.CachedTagAllocator.open.Given as goal
 
 abbrev pub invariant-loop-hand : goal.invariant-loop-hand

@@ -1,7 +1,5 @@
 -- The agent holds the tag that it gains by its search, and still does after its look for sleepers.
-use Rattle.std.proofs.Common.{ℕ, sym, subst}
-use Rattle.std.specs.Prelude.{IfSome}
-use Rattle.tag_core.specs.declared.caller.Caller.{Caller}
+use Rattle.tag_bench.proofs.Uses.{Caller, IfSome, subst, sym, ℕ}
 use Rattle.tag_core.specs.Callers.{Holds}
 use Rattle.tag_bench.proofs.Gained.{holds_answer}
 use Rattle.tag_bench.proofs.shared_queue.QueueU64TagAllocator.get.Goals as goal

@@ -1,6 +1,6 @@
 -- An empty window can be moved.
-use Rattle.std.proofs.Common.{arith, ℕ, ◌*◌, ◌/◌, inl, inr, refl}
-use Rattle.tag_cache.specs.Caches.{KeepsNone}
+use Rattle.std.specs.Prelude.{◌*◌, ◌/◌}
+use Rattle.tag_cache.proofs.Uses.{arith, inl, inr, KeepsNone, refl, ℕ}
 use Rattle.tag_cache.proofs.Reusing.{none_kept}
 use Rattle.tag_cache.proofs.Windows.{none_in}
 use Rattle.tag_cache.proofs.cache.Cache.aim.Goals as goal

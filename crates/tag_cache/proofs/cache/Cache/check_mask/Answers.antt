@@ -1,11 +1,7 @@
 -- The hand's refusals are the user's, and a tag that is kept is one that the user does not hold.
-use Rattle.std.proofs.Common.{rules, arith, ◌≡◌, ◌≤◌, All, inl, inr, refl}
-use Rattle.std.specs.Prelude.{bit_and}
-use Rattle.tag_queue.specs.Masks.{tags_in}
-use Rattle.tag_sets.specs.declared.fault.TagFault.TheVariants.{BadCount, NoSuchTag, NotHeld}
-use Rattle.tag_sets.specs.Batches.{AreOrdinary}
+use Rattle.std.specs.Prelude.{◌≡◌, ◌≤◌}
+use Rattle.tag_cache.proofs.Uses.{All, AreOrdinary, arith, BadCount, bit_and, Holds, inl, inr, NoSuchTag, NotHeld, refl, rules, tags_in}
 use Rattle.tag_sets.specs.Hands as hands
-use Rattle.tag_cache.specs.Caches.{Holds}
 use Rattle.tag_cache.proofs.Refused.{refused_user}
 use Rattle.tag_cache.proofs.Shifting.{no_common}
 use Rattle.tag_cache.proofs.cache.Cache.check_mask.Goals as goal

@@ -1,8 +1,6 @@
 -- An ordinary tag goes the way that is called for, and a reserved one goes back.
-use Rattle.std.proofs.Common.{arith, ◌≤◌, ◌∙◌, inl, inr, sym}
-use Rattle.tag_queue.proofs.Granted.{none_granted}
-use Rattle.tag_sets.specs.Hands.{reserved_of}
-use Rattle.tag_sets.proofs.Numbering.{ordinary_at, reserved_at}
+use Rattle.std.specs.Prelude.{◌≤◌}
+use Rattle.tag_cache.proofs.Uses.{arith, inl, inr, none_granted, ordinary_at, reserved_at, reserved_of, sym, ◌∙◌}
 use Rattle.tag_cache.proofs.Answering.{does_clear}
 use Rattle.tag_cache.proofs.Reusing.{known_ordinary_of, unknown_other}
 use Rattle.tag_cache.proofs.cache.Cache.clear_any.Goals as goal

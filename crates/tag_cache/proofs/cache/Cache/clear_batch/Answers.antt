@@ -1,9 +1,6 @@
 -- The hand's refusals are the user's, and a tag that is kept is one that the user does not hold.
-use Rattle.std.proofs.Common.{rules, inl, inr, refl}
-use Rattle.tag_sets.specs.declared.fault.TagFault.TheVariants.{BadCount, NoSuchTag, NotHeld}
-use Rattle.tag_sets.specs.Batches.{CountsTags, AreOrdinary}
+use Rattle.tag_cache.proofs.Uses.{AreHeldOnce, AreOrdinary, BadCount, CountsTags, inl, inr, NoSuchTag, NotHeld, refl, rules}
 use Rattle.tag_sets.specs.Batches as hand_batches
-use Rattle.tag_cache.specs.Batches.{AreHeldOnce}
 use Rattle.tag_cache.proofs.Listing.{hand_holds, user_holds, none_is_kept, list_less, list_tallies}
 use Rattle.tag_cache.proofs.Refused.{refused_user}
 use Rattle.tag_cache.proofs.cache.Cache.clear_batch.Goals as goal

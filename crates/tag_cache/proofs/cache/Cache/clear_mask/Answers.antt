@@ -1,11 +1,6 @@
 -- What is said of the list of the mask's tags is said of the mask.
-use Rattle.std.proofs.Common.{rules, ◌≤◌, ℕ, All, subst}
-use Rattle.tag_queue.specs.Masks.{tags_in}
-use Rattle.tag_queue.proofs.RunTags.{tags_in-length}
-use Rattle.tag_sets.specs.declared.fault.TagFault.TheVariants.{BadCount, NoSuchTag, NotHeld}
-use Rattle.tag_sets.specs.Batches.{AreOrdinary}
-use Rattle.tag_cache.specs.Caches.{Holds}
-use Rattle.tag_cache.specs.Tallies.{Tallies}
+use Rattle.std.specs.Prelude.{◌≤◌}
+use Rattle.tag_cache.proofs.Uses.{All, AreOrdinary, BadCount, Holds, NoSuchTag, NotHeld, rules, subst, tags_in, tags_in-length, Tallies, ℕ}
 use Rattle.tag_cache.proofs.Listing.{list_less, list_tallies}
 use Rattle.tag_cache.proofs.Refused.{refused_user}
 use Rattle.tag_cache.proofs.cache.Cache.clear_mask.Goals as goal

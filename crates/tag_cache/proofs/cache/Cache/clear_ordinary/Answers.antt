@@ -1,13 +1,7 @@
 -- After the look the tag goes the way that this calls for.
-use Rattle.std.proofs.Common.{◌≤◌, ◌∙◌, ℕ, inr, sym, subst}
-use Rattle.tag_queue.proofs.Granted.{look_grants_none}
-use Rattle.tag_sets.specs.declared.hand.Hand.{Hand}
-use Rattle.tag_sets.specs.Hands.{IsHandOf, waiter_of}
-use Rattle.tag_cache.specs.declared.way.Way.{Way}
-use Rattle.tag_cache.specs.declared.way.Way.TheVariants.{Keep, KeepInstead, GiveBack, GiveBackAll}
-use Rattle.tag_cache.specs.Clears.{CallsFor}
-use Rattle.tag_cache.specs.Rings.{GrantsNone}
-use Rattle.tag_cache.proofs.Granting.{looked_told}
+use Rattle.std.specs.Prelude.{◌≤◌}
+use Rattle.tag_cache.proofs.Uses.{CallsFor, GiveBack, GiveBackAll, GrantsNone, Hand, inr, IsHandOf, Keep, KeepInstead, subst, sym, waiter_of, Way, ℕ, ◌∙◌}
+use Rattle.tag_cache.proofs.Granting.{looked_none, looked_told}
 use Rattle.tag_cache.proofs.Looking.{calls_from, held_on, knows_on, leaves_still, went}
 use Rattle.tag_cache.proofs.cache.Cache.clear_ordinary.Goals as goal
 
@@ -38,7 +32,7 @@ returns-in-Keep g c = let tags = c.args.tags.now in let old = c.args.self.now in
           (record { hand = e.hand; also = e.also; none = c.nobody.ensures.woken });
       tells = c.nobody.ensures.tells (waiter_of old.hand) (waiter_of new.hand)
           (subst (λ (h : Hand g.row.R.Denot). GrantsNone old.hand h) (sym e.hand)
-          (look_grants_none c.look-active.result (waiter_of old.hand) (waiter_of mid.hand) l.looks.looks l.looks.silent));
+          (looked_none c.look-active.result old.hand mid.hand l.looks));
       knows = λ leaves. knows_on tag old mid l.fields new
           (e.knows (leaves_still tag old mid l.fields.first l.fields.keeping leaves));
     }

@@ -1,12 +1,8 @@
 -- After the look the tag is kept, or all goes back. A tag that has a place is held and ordinary, so it needs no test.
-use Rattle.std.proofs.Common.{arith, ◌≤◌, ◌∙◌, ℕ, inl, sym, subst}
-use Rattle.tag_queue.proofs.Granted.{look_grants_none}
-use Rattle.tag_sets.specs.declared.hand.Hand.{Hand}
-use Rattle.tag_sets.specs.Hands.{waiter_of}
-use Rattle.tag_cache.specs.declared.way.Way.TheVariants.{Keep, GiveBackAll}
-use Rattle.tag_cache.specs.Rings.{GrantsNone}
+use Rattle.std.specs.Prelude.{◌≤◌}
+use Rattle.tag_cache.proofs.Uses.{arith, GiveBackAll, GrantsNone, Hand, inl, Keep, subst, sym, waiter_of, ℕ, ◌∙◌}
 use Rattle.tag_cache.proofs.Answering.{does_clear, known_passes}
-use Rattle.tag_cache.proofs.Granting.{looked_told}
+use Rattle.tag_cache.proofs.Granting.{looked_none, looked_told}
 use Rattle.tag_cache.proofs.Looking.{held_on, knows_on, place_from, went}
 use Rattle.tag_cache.proofs.Reusing.{known_held, known_ordinary, known_ordinary_of, known_within}
 use Rattle.tag_cache.proofs.cache.Cache.clear_placed.Goals as goal
@@ -63,5 +59,5 @@ returns-clause-does g c = let tags = c.args.tags.now in let old = c.args.self.no
     ))
     (c.nobody.ensures.tells (waiter_of old.hand) (waiter_of new.hand)
     (subst (λ (h : Hand g.row.R.Denot). GrantsNone old.hand h) (sym e.hand)
-    (look_grants_none c.look.result (waiter_of old.hand) (waiter_of mid.hand) l.looks.looks l.looks.silent)))
+    (looked_none c.look.result old.hand mid.hand l.looks)))
     (λ leaves. knows_on tag old mid l.fields new e.knows)

@@ -1,6 +1,6 @@
 -- Exactly the kept tags went back, so the user's stay, and telling makes no step.
-use Rattle.std.proofs.Common.{ℕ, ◌≤◌, ◌∙◌, sym, subst}
-use Rattle.tag_cache.specs.Clears.{GivesKept}
+use Rattle.std.specs.Prelude.{◌≤◌}
+use Rattle.tag_cache.proofs.Uses.{GivesKept, subst, sym, ℕ, ◌∙◌}
 use Rattle.tag_cache.proofs.Carrying.{same_then_same, terms_twice}
 use Rattle.tag_cache.proofs.Giving.{flushed, flush_tallies}
 use Rattle.tag_cache.proofs.Looking.{same_window, window_twice}

@@ -1,7 +1,6 @@
 -- A kept tag, or one that the hand gains.
-use Rattle.std.proofs.Common.{rules}
+use Rattle.tag_cache.proofs.Uses.{GetsAndLooks, rules}
 use Rattle.std.specs.Prelude.{Some}
-use Rattle.tag_sets.specs.Freed.{GetsAndLooks}
 use Rattle.tag_sets.specs.Gets as hand_gets
 use Rattle.tag_cache.proofs.Getting.{gets_after}
 use Rattle.tag_cache.proofs.Reusing.{gets_kept}

@@ -1,11 +1,11 @@
 -- A kept tag, or one that the hand gains.
-use Rattle.std.proofs.Common.{rules}
+use Rattle.tag_cache.proofs.Uses.{ByBell, rules}
 use Rattle.tag_cache.proofs.Sleeping.{kept_got, refused_empty, slept_for}
 use Rattle.tag_cache.proofs.cache.Cache.get_sleeping.Goals as goal
 
 pub returns-then-keeps_none-clause-refusals : goal.returns-then-keeps_none-clause-refusals
 returns-then-keeps_none-clause-refusals g c = refused_empty c.args.tags.now c.args.self.now c.sleep_for.new.self
-    (c.keeps_none.ensures.0 c.if-keeps_none.true) c.sleep_for.result c.sleep_for.ensures.refusals
+    ByBell (c.keeps_none.ensures.0 c.if-keeps_none.true) c.sleep_for.result c.sleep_for.ensures.refusals
 
 pub returns-then-keeps_none-clause-gets : goal.returns-then-keeps_none-clause-gets
 returns-then-keeps_none-clause-gets g c = let slept = c.sleep_for in

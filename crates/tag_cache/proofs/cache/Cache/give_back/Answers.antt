@@ -1,10 +1,5 @@
 -- The tag is forgotten, and then the hand gives it back.
-use Rattle.std.proofs.Common.{ℕ, refl, sym, subst}
-use Rattle.tag_sets.specs.declared.hand.Hand.{Hand}
-use Rattle.tag_sets.specs.Hands.{IsHandOf}
-use Rattle.tag_cache.specs.Caches.{IsKept}
-use Rattle.tag_cache.specs.Clears.{GivesOne}
-use Rattle.tag_cache.specs.Rings.{GrantsNone}
+use Rattle.tag_cache.proofs.Uses.{GivesOne, GrantsNone, Hand, IsHandOf, IsKept, refl, subst, sym, ℕ}
 use Rattle.tag_cache.proofs.Carrying.{keeps_twice, own_after, same_fields}
 use Rattle.tag_cache.proofs.Reusing.{held_still}
 use Rattle.tag_cache.proofs.cache.Cache.give_back.Goals as goal

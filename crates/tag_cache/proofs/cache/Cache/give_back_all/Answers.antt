@@ -1,8 +1,6 @@
 -- The kept tags go back, and then this one; telling makes no step.
-use Rattle.std.proofs.Common.{arith, ℕ, ◌≤◌, ◌∙◌, inl, refl, sym, subst}
-use Rattle.tag_queue.proofs.Granted.{granted_since, none_granted}
-use Rattle.tag_sets.specs.Hands.{waiter_of}
-use Rattle.tag_cache.specs.Clears.{GivesWith}
+use Rattle.std.specs.Prelude.{◌≤◌}
+use Rattle.tag_cache.proofs.Uses.{arith, GivesWith, granted_since, inl, none_granted, refl, subst, sym, waiter_of, ℕ, ◌∙◌}
 use Rattle.tag_cache.proofs.Carrying.{none_after, terms_twice}
 use Rattle.tag_cache.proofs.Giving.{flushed, gives_few}
 use Rattle.tag_cache.proofs.Looking.{knows_less_then_same, same_known, same_then_knows_less}

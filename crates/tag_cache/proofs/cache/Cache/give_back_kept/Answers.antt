@@ -1,8 +1,5 @@
 -- The kept tags are held and ordinary, so the hand gives them back; then none is kept.
-use Rattle.std.proofs.Common.{arith, refl}
-use Rattle.std.specs.Prelude.{count_ones}
-use Rattle.std.proofs.lemmas.Nat.{ones_le_self}
-use Rattle.tag_sets.specs.declared.kind.Kind.TheVariants.{Ordinary}
+use Rattle.tag_cache.proofs.Uses.{arith, count_ones, ones_le_self, Ordinary, refl}
 use Rattle.tag_cache.proofs.Carrying.{own_after}
 use Rattle.tag_cache.proofs.Giving.{counts_few, kept_held, kept_ordinary, kept_in, mask_gives}
 use Rattle.tag_cache.proofs.Reusing.{none_kept}

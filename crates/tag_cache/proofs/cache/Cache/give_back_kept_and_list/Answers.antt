@@ -1,7 +1,5 @@
 -- The kept tags go first, and then the list; telling makes no step.
-use Rattle.std.proofs.Common.{◌∙◌, refl}
-use Rattle.tag_queue.proofs.Granted.{granted_since}
-use Rattle.tag_sets.specs.Hands.{waiter_of}
+use Rattle.tag_cache.proofs.Uses.{granted_since, refl, waiter_of, ◌∙◌}
 use Rattle.tag_cache.proofs.Carrying.{own_after, same_fields}
 use Rattle.tag_cache.proofs.Giving.{flushed, list_few}
 use Rattle.tag_cache.proofs.Listing.{all_still}

@@ -1,8 +1,5 @@
 -- The kept tags go first, and then the tags of the mask; telling makes no step.
-use Rattle.std.proofs.Common.{ℕ, ◌∙◌, refl}
-use Rattle.tag_queue.specs.Masks.{tags_in}
-use Rattle.tag_queue.proofs.Granted.{granted_since}
-use Rattle.tag_sets.specs.Hands.{waiter_of}
+use Rattle.tag_cache.proofs.Uses.{granted_since, refl, tags_in, waiter_of, ℕ, ◌∙◌}
 use Rattle.tag_cache.proofs.Carrying.{own_after, same_fields}
 use Rattle.tag_cache.proofs.Giving.{flushed, list_few, mask_gives}
 use Rattle.tag_cache.proofs.Listing.{all_still}

@@ -1,6 +1,6 @@
 -- A known tag is in the window, so it has a place if there is one.
-use Rattle.std.proofs.Common.{arith, ◌≤◌, ⊎_elim}
-use Rattle.tag_cache.specs.Caches.{IsLast, count_of}
+use Rattle.std.specs.Prelude.{◌≤◌}
+use Rattle.tag_cache.proofs.Uses.{arith, count_of, IsLast, ⊎_elim}
 use Rattle.tag_cache.proofs.Carrying.{is_not}
 use Rattle.tag_cache.proofs.Reusing.{known_within}
 use Rattle.tag_cache.proofs.cache.Cache.has_place.Goals as goal

@@ -1,6 +1,5 @@
 -- The tag is the last one known exactly if the mask without it is 0.
-use Rattle.std.proofs.Common.{eq-eqb, eqb-true}
-use Rattle.std.proofs.lemmas.Bool.{false≢true}
+use Rattle.tag_cache.proofs.Uses.{eq-eqb, eqb-true, false≢true}
 use Rattle.tag_cache.proofs.Windows.{none_else}
 use Rattle.tag_cache.proofs.cache.Cache.is_last.Goals as goal
 

@@ -1,10 +1,7 @@
 -- The window is at the tag, where there is a place for it.
-use Rattle.std.proofs.Common.{◌≤◌, ◌∙◌, inr, sym, subst}
-use Rattle.tag_sets.specs.declared.hand.Hand.{Hand}
+use Rattle.std.specs.Prelude.{◌≤◌}
+use Rattle.tag_cache.proofs.Uses.{Cache, Hand, inr, IsLast, KnowsLess, subst, sym, ◌∙◌}
 use Rattle.tag_sets.specs.Hands as hands
-use Rattle.tag_cache.specs.declared.cache.Cache.{Cache}
-use Rattle.tag_cache.specs.Caches.{IsLast}
-use Rattle.tag_cache.specs.Changes.{KnowsLess}
 use Rattle.tag_cache.proofs.Moving.{also_from, can_there, place_there, within}
 use Rattle.tag_cache.proofs.Reusing.{held_still}
 use Rattle.tag_cache.proofs.cache.Cache.keep.Goals as goal

@@ -1,7 +1,6 @@
 -- The tag's bit joins the mask of the kept tags, and leaves that of the known ones.
-use Rattle.std.proofs.Common.{◌<◌, ◌≤◌, inl, refl, ⊎_elim}
-use Rattle.std.proofs.lemmas.Bool.{cases_lt}
-use Rattle.tag_cache.specs.Caches.{count_of}
+use Rattle.std.specs.Prelude.{◌<◌, ◌≤◌}
+use Rattle.tag_cache.proofs.Uses.{cases_lt, count_of, inl, refl, ⊎_elim}
 use Rattle.tag_cache.proofs.Joining.{joins, joined_owns}
 use Rattle.tag_cache.proofs.Windows.{popped_fits, without_bit, without_in}
 use Rattle.tag_cache.proofs.cache.Cache.keep_at.Goals as goal

@@ -1,10 +1,6 @@
 -- The kept tags go back, and then there is a place for the tag, where none is kept; telling makes no step.
-use Rattle.std.proofs.Common.{◌≤◌, ◌∙◌, ℕ, sym, subst}
-use Rattle.wake_book.specs.Groups.{GrantsUnrung}
-use Rattle.tag_queue.proofs.Granted.{granted_since}
-use Rattle.tag_sets.specs.declared.hand.Hand.{Hand}
-use Rattle.tag_sets.specs.Hands.{waiter_of}
-use Rattle.tag_cache.specs.Clears.{GivesKept}
+use Rattle.std.specs.Prelude.{◌≤◌}
+use Rattle.tag_cache.proofs.Uses.{GivesKept, granted_since, GrantsUnrung, Hand, subst, sym, waiter_of, ℕ, ◌∙◌}
 use Rattle.tag_cache.proofs.Cautious.{can_still, has_place, last_back, only_after}
 use Rattle.tag_cache.proofs.Giving.{flushed}
 use Rattle.tag_cache.proofs.Looking.{knows_less_then_same, leaves_still, same_known, same_then_knows_less}

@@ -1,6 +1,6 @@
 -- None of the tags so far is kept.
-use Rattle.std.proofs.Common.{ℕ, ◌<◌, get_or}
-use Rattle.tag_cache.specs.Caches.{IsKept}
+use Rattle.std.specs.Prelude.{◌<◌}
+use Rattle.tag_cache.proofs.Uses.{get_or, IsKept, ℕ}
 use Rattle.tag_cache.proofs.cache.Cache.keeps_none_of.Given as goal
 
 abbrev pub invariant-loop-tag : goal.invariant-loop-tag

@@ -1,7 +1,6 @@
 -- The tags so far have left the mask.
-use Rattle.std.proofs.Common.{◌≢◌, ◌↔◌, ℕ, ◌<◌, get_or}
-use Rattle.tag_cache.specs.Windows.{IsIn}
-use Rattle.tag_cache.specs.Caches.{IsKnown}
+use Rattle.std.specs.Prelude.{◌<◌, ◌↔◌, ◌≢◌}
+use Rattle.tag_cache.proofs.Uses.{get_or, IsIn, IsKnown, ℕ}
 use Rattle.tag_cache.proofs.cache.Cache.known_without_all.Given as goal
 
 abbrev pub invariant-loop-tag : goal.invariant-loop-tag

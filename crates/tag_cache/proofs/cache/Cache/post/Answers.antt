@@ -1,6 +1,5 @@
 -- A tag that is not known is posted by no step on the wait groups, and so without grants.
-use Rattle.std.proofs.Common.{rules, ℕ, sym, subst}
-use Rattle.tag_cache.specs.Slots.{PostsLast}
+use Rattle.tag_cache.proofs.Uses.{PostsLast, rules, subst, sym, ℕ}
 use Rattle.tag_cache.proofs.Passing.{grants_none}
 use Rattle.tag_cache.proofs.Reusing.{known_held}
 use Rattle.tag_cache.proofs.Below.{held_allowed}

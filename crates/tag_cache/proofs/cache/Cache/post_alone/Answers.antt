@@ -1,7 +1,5 @@
 -- The tag is forgotten, and then the hand gives it up.
-use Rattle.std.proofs.Common.{rules, refl, sym, subst}
-use Rattle.tag_sets.specs.declared.hand.Hand.{Hand}
-use Rattle.tag_sets.specs.Hands.{IsHandOf}
+use Rattle.tag_cache.proofs.Uses.{Hand, IsHandOf, refl, rules, subst, sym}
 use Rattle.tag_cache.proofs.Carrying.{owns_but, post_still}
 use Rattle.tag_cache.proofs.Passing.{forgotten_passes, posts_moves}
 use Rattle.tag_cache.proofs.Reusing.{held_still, known_held}

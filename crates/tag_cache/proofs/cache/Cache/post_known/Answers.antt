@@ -1,8 +1,5 @@
 -- If the tag is the last one known, nothing is kept when it leaves; otherwise it leaves alone.
-use Rattle.std.proofs.Common.{sym, subst}
-use Rattle.wake_book.specs.declared.groups.Waiter.{Waiter}
-use Rattle.tag_sets.specs.Hands.{waiter_of}
-use Rattle.tag_cache.specs.Caches.{IsLast}
+use Rattle.tag_cache.proofs.Uses.{IsLast, subst, sym, Waiter, waiter_of}
 use Rattle.tag_cache.proofs.Carrying.{not_true}
 use Rattle.tag_cache.proofs.Passing.{grants_none, passes, passes_last, posts_waiter}
 use Rattle.tag_cache.proofs.Tallying.{tallies_on}

@@ -1,8 +1,5 @@
 -- The hand no longer holds the tag, which was neither kept nor known.
-use Rattle.std.proofs.Common.{rules}
-use Rattle.std.proofs.lemmas.Result.{on_ok_weaker}
-use Rattle.tag_sets.specs.Slots.{Posts}
-use Rattle.tag_cache.specs.Caches.{IsKept}
+use Rattle.tag_cache.proofs.Uses.{IsKept, on_ok_weaker, Posts, rules}
 use Rattle.tag_cache.proofs.Carrying.{not_true, owns_but, post_still}
 use Rattle.tag_cache.proofs.Passing.{last_on, posted_tallies, posts_waiter, unknown_passes}
 use Rattle.tag_cache.proofs.Reusing.{last_unknown}

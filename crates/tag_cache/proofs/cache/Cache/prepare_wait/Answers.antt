@@ -1,7 +1,5 @@
 -- After the flush nothing is kept, and the hand is still in no wait group; telling makes no step.
-use Rattle.std.specs.Prelude.{IsSome}
-use Rattle.std.proofs.Common.{rules, ◌∙◌}
-use Rattle.tag_sets.specs.Hands.{standing_of}
+use Rattle.tag_cache.proofs.Uses.{IsSome, rules, standing_of, ◌∙◌}
 use Rattle.tag_cache.proofs.Carrying.{not_true, same_then_same, none_after}
 use Rattle.tag_cache.proofs.Granting.{then_enters}
 use Rattle.tag_cache.proofs.Looking.{window_twice}

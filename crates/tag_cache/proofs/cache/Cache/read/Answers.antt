@@ -1,6 +1,5 @@
 -- The hand keeps its tags with the values of their slots.
-use Rattle.std.proofs.Common.{rules}
-use Rattle.tag_cache.specs.Caches.{IsKept}
+use Rattle.tag_cache.proofs.Uses.{IsKept, rules}
 use Rattle.tag_cache.proofs.Carrying.{not_true, same_on, owns, still_on}
 use Rattle.tag_cache.proofs.Below.{unkept_refuses, held_allowed}
 use Rattle.tag_cache.proofs.Reusing.{known_held}

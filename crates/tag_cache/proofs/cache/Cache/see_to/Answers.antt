@@ -1,8 +1,5 @@
 -- Looking at the lists changes nothing; then the kept tags stay, or all go back.
-use Rattle.std.proofs.Common.{rules, inl, inr, ◌∙◌, subst, Bool}
-use Rattle.wake_book.specs.declared.groups.Waiter.{Waiter}
-use Rattle.tag_sets.specs.Hands.{waiter_of}
-use Rattle.tag_cache.specs.Bell.{LooksForWaiters}
+use Rattle.tag_cache.proofs.Uses.{Bool, inl, inr, LooksForWaiters, rules, subst, Waiter, waiter_of, ◌∙◌}
 use Rattle.tag_cache.proofs.Carrying.{same_then_same, terms_twice}
 use Rattle.tag_cache.proofs.Looking.{window_twice}
 use Rattle.tag_cache.proofs.Passing.{grants_none}

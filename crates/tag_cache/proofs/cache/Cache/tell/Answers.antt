@@ -1,6 +1,5 @@
 -- The hand keeps its tags, and makes no step.
-use Rattle.std.proofs.Common.{rules}
-use Rattle.tag_sets.specs.Hands.{waiter_of}
+use Rattle.tag_cache.proofs.Uses.{rules, waiter_of}
 use Rattle.tag_cache.proofs.Granting.{as_none}
 use Rattle.tag_cache.proofs.Steady.{stays_rests, owns_rests, same_tags}
 use Rattle.tag_cache.proofs.cache.Cache.tell.Goals as goal

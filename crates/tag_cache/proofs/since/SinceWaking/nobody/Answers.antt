@@ -1,6 +1,5 @@
 -- Nobody was granted a wakeup in between.
-use Rattle.wake_book.specs.declared.grants.TheConstants.{NO_GRANTS}
-use Rattle.tag_queue.proofs.Granted.{granted_since}
+use Rattle.tag_cache.proofs.Uses.{granted_since, NO_GRANTS}
 use Rattle.tag_cache.proofs.since.SinceWaking.nobody.Goals as goal
 
 pub returns-clause-tells : goal.returns-clause-tells

@@ -1,6 +1,6 @@
 -- The tags so far are held.
-use Rattle.std.proofs.Common.{ℕ, ◌<◌, get_or}
-use Rattle.tag_core.specs.Callers.{Holds}
+use Rattle.std.specs.Prelude.{◌<◌}
+use Rattle.tag_queue.proofs.Uses.{get_or, Holds, ℕ}
 use Rattle.tag_queue.proofs.clears.batches.are_held_once.Given as goal
 
 abbrev pub invariant-loop-tag : goal.invariant-loop-tag

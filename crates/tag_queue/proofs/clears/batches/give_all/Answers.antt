@@ -1,8 +1,6 @@
 -- Each tag joins the last run or ends it; then one give frees that run, and the tag begins the next.
-use Rattle.std.proofs.Common.{rules, arith, ◌≡◌, ◌≢◌, ℕ, ◌+◌, ◌*◌, ◌%◌, ◌^◌, ◌<◌, ◌≤◌, length, get_or, bit_or, sym, ap, ◌∙◌, subst, ⊎_elim}
-use Rattle.std.proofs.lemmas.Nat.{one_shl}
-use Rattle.tag_layout.specs.Layout.{Layout, words, word_of, place_of, word_depth}
-use Rattle.tag_core.specs.declared.caller.Caller.{Caller}
+use Rattle.std.specs.Prelude.{◌%◌, ◌*◌, ◌+◌, ◌<◌, ◌^◌, ◌≡◌, ◌≢◌, ◌≤◌}
+use Rattle.tag_queue.proofs.Uses.{ap, arith, bit_or, Caller, get_or, Layout, length, one_shl, place_of, rules, subst, sym, word_depth, word_of, words, ℕ, ⊎_elim, ◌∙◌}
 use Rattle.tag_queue.proofs.SoFar.{SoFar, begins, gives_held, ends, joins_run, begins_run}
 use Rattle.tag_queue.proofs.clears.batches.give_all.Goals as goal
 use Rattle.tag_queue.proofs.clears.batches.give_all.Goals.{then-here-word, else-here-word}

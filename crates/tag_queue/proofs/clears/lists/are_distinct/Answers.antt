@@ -1,9 +1,6 @@
 -- The loop ends early exactly at a number that is among those before it; otherwise all are distinct.
-use Rattle.std.proofs.Common.{rules, arith, ◌≡◌, ◌≢◌, ℕ, ◌<◌, length, take, get_or, sym, ap, ◌∙◌, eqb-true, eq-eqb}
-use mathlib.Core.Logic.{dite}
-use native.Mathlib.Decide.{ℕ_discrete}
-use Rattle.std.proofs.lemmas.Grind.{get_or_default_zero}
-use Rattle.std.proofs.lemmas.List.{length-take, get_or-take}
+use Rattle.std.specs.Prelude.{◌<◌, ◌≡◌, ◌≢◌}
+use Rattle.tag_queue.proofs.Uses.{ap, arith, dite, eq-eqb, eqb-true, get_or, get_or-take, get_or_default_zero, length, length-take, rules, sym, take, ℕ, ℕ_discrete, ◌∙◌}
 use Rattle.tag_queue.proofs.clears.lists.are_distinct.Goals as goal
 
 pub returns-then-contains : goal.returns-then-contains

@@ -1,9 +1,8 @@
 -- The three lists are consumed in step, so agents made and parts left are all that was passed in, and each agent's
 -- parts fit.
-use Rattle.std.proofs.Common.{arith, ◌≡◌, ℕ, ◌+◌, [], ◌∷◌, ◌++◌, All, length, length-append, ap, ◌∙◌, sym, subst}
-use Rattle.std.proofs.lemmas.List.Elements.{All-push}
-use Rattle.tag_queue.specs.Agents.{caller_of, teller_of, waiter_of}
-use Rattle.tag_queue.specs.Parts.{HasHint}
+use Rattle.std.specs.Prelude.{◌++◌, ◌+◌, ◌∷◌, ◌≡◌}
+use Rattle.tag_queue.proofs.Uses.{[], All-push, ap, arith, caller_of, HasHint, length, length-append, subst, sym, teller_of, waiter_of, ℕ, ◌∙◌}
+use Rattle.std.proofs.Common.{All}
 use Rattle.tag_queue.proofs.Fronts.{at_next, goes_on}
 use Rattle.tag_queue.proofs.opens.parts.join.Goals as goal
 

@@ -1,8 +1,7 @@
 -- Each part passed in is either in an agent made so far or still in its iterator, in the same order.
-use Rattle.std.proofs.Common.{◌≡◌, ◌+◌, ◌++◌, All, map, length}
-use Rattle.std.specs.Vec.Iter.{into_iter_items, into_iter_len}
-use Rattle.tag_queue.specs.Agents.{caller_of, teller_of, waiter_of}
-use Rattle.tag_queue.specs.Parts.{HasHint}
+use Rattle.std.specs.Prelude.{◌++◌, ◌+◌, ◌≡◌}
+use Rattle.tag_queue.proofs.Uses.{caller_of, HasHint, into_iter_items, into_iter_len, length, map, teller_of, waiter_of}
+use Rattle.std.proofs.Common.{All}
 use Rattle.tag_queue.proofs.opens.parts.join.Given as goal
 
 abbrev pub invariant-loop-number : goal.invariant-loop-number

@@ -1,8 +1,5 @@
 -- Each turn places the next agent, which is still as it was passed in.
-use Rattle.std.proofs.Common.{subst, arith, sym}
-use Rattle.tag_queue.specs.declared.agent.Agent.{Agent}
-use Rattle.tag_queue.specs.Agents.{IsAgentOf}
-use Rattle.tag_queue.specs.Placing.{IsPlaced}
+use Rattle.tag_queue.proofs.Uses.{Agent, arith, IsAgentOf, IsPlaced, subst, sym}
 use Rattle.tag_queue.proofs.OneByOne.{next_is, left_more, changed_more}
 use Rattle.tag_queue.proofs.opens.placing.place_all.Goals as goal
 

@@ -1,7 +1,6 @@
 -- The agents before the index are placed, and the others are as they were.
-use Rattle.std.proofs.Common.{◌≡◌, take, drop}
-use Rattle.std.specs.List.{AllZip}
-use Rattle.tag_queue.specs.Placing.{IsPlaced}
+use Rattle.std.specs.Prelude.{◌≡◌}
+use Rattle.tag_queue.proofs.Uses.{AllZip, drop, IsPlaced, take}
 use Rattle.tag_queue.proofs.opens.placing.place_all.Given as goal
 
 abbrev pub invariant-loop-agent : goal.invariant-loop-agent

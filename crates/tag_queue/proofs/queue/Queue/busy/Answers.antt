@@ -1,7 +1,5 @@
 -- The agents' records and wait groups are unchanged, so the cause that is found holds of the agents passed in.
-use Rattle.std.proofs.Common.{arith, List, sym, ap, ◌∙◌}
-use Rattle.tag_queue.specs.declared.agent.Agent.{Agent}
-use Rattle.tag_queue.specs.Resizing.{standing_count}
+use Rattle.tag_queue.proofs.Uses.{Agent, ap, arith, List, standing_count, sym, ◌∙◌}
 use Rattle.tag_queue.proofs.Unchanged.{counted, unchanged-standing}
 use Rattle.tag_queue.proofs.queue.Queue.busy.Goals.{then-totals-ne0-via-then-totals-ne0, then-totals-ne0-via-else-totals-ne0+then-totals-ne0-2}
 use Rattle.tag_queue.proofs.queue.Queue.busy.Goals as goal

@@ -1,12 +1,7 @@
 -- A charge that was won is followed by a walk for one batch, and any other charge by no step at all.
-use Rattle.std.proofs.Common.{rules, ℕ, subst, sym}
-use Rattle.wake_book.specs.declared.charge.Charge.{Charge}
-use Rattle.wake_book.specs.declared.charge.Charge.TheVariants.{Won}
+use Rattle.tag_queue.proofs.Uses.{batch_of, book_steps, cap_of, Charge, group_steps, IsCharge, IsWalk, rules, subst, sym, Won, ℕ}
 use Rattle.wake_book.specs.Book as book
 use Rattle.wake_book.specs.Groups as groups
-use Rattle.wake_book.specs.Charging.{IsCharge}
-use Rattle.wake_book.specs.Walks.{IsWalk}
-use Rattle.tag_queue.specs.Agents.{batch_of, cap_of, book_steps, group_steps}
 use Rattle.tag_queue.proofs.Counting.{follows_none}
 use Rattle.tag_queue.proofs.queue.Queue.charge.Goals as goal
 

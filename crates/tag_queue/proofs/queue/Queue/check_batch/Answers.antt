@@ -1,7 +1,5 @@
 -- The numbers passed the checks before this one, so the agent does not hold them all, or one is named twice.
-use Rattle.std.proofs.Common.{rules, inl, inr, refl}
-use Rattle.tag_queue.specs.Agents.{layout_of, caller_of}
-use Rattle.tag_queue.specs.Batches.{CountsTags, AreTags, AreHeldOnce}
+use Rattle.tag_queue.proofs.Uses.{AreHeldOnce, AreTags, caller_of, CountsTags, inl, inr, layout_of, refl, rules}
 use Rattle.tag_queue.proofs.queue.Queue.check_batch.Goals as goal
 
 pub returns-then-not-are_held_once : goal.returns-then-not-are_held_once

@@ -1,8 +1,7 @@
 -- The mask's highest bit is that of its last tag, below which are all others.
-use Rattle.std.proofs.Common.{rules, arith, ℕ, ◌+◌, ◌<◌, ◌≤◌, ap, inl, inr, refl}
-use Rattle.std.specs.Prelude.{All}
-use Rattle.tag_layout.specs.Layout.{Layout}
-use Rattle.tag_queue.specs.Agents.{layout_of, Holds}
+use Rattle.std.specs.Prelude.{◌+◌, ◌<◌, ◌≤◌}
+use Rattle.tag_queue.proofs.Uses.{All, ap, arith, inl, inr, Layout, layout_of, refl, rules, ℕ}
+use Rattle.tag_queue.specs.Agents.{Holds}
 use Rattle.tag_queue.specs.Masks.{tags_in}
 use Rattle.tag_queue.proofs.MaskHolds.{is_last, some_tag, not_tags, are_tags}
 use Rattle.tag_queue.proofs.queue.Queue.check_mask.Goals as goal

@@ -1,6 +1,5 @@
 -- The put changes only the map, and `complete` only the book and the groups, so both effects hold together.
-use Rattle.wake_book.specs.declared.groups.Waiter.{Waiter}
-use Rattle.tag_queue.specs.Agents.{waiter_of}
+use Rattle.tag_queue.proofs.Uses.{Waiter, waiter_of}
 use Rattle.tag_queue.proofs.Counting.{counts_after}
 use Rattle.tag_queue.proofs.Granted.{told_after}
 use Rattle.tag_queue.proofs.queue.Queue.clear_held.Goals as goal

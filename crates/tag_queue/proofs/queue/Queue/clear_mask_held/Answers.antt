@@ -1,7 +1,5 @@
 -- The tags are freed before they are counted, so the agent never counts more than it gave back.
-use Rattle.std.proofs.Common.{count_ones}
-use Rattle.wake_book.specs.declared.groups.Waiter.{Waiter}
-use Rattle.tag_queue.specs.Agents.{waiter_of}
+use Rattle.tag_queue.proofs.Uses.{count_ones, Waiter, waiter_of}
 use Rattle.tag_queue.proofs.Counting.{counts_after}
 use Rattle.tag_queue.proofs.Granted.{told_after}
 use Rattle.tag_queue.proofs.MaskHolds.{few_ones}

@@ -1,18 +1,10 @@
 -- All callers, tellers and waiters were gathered, so the totals of the three parts are those of the agents.
-use Rattle.std.proofs.Common.{ℕ, List, sym, ap, ◌∙◌, subst}
+use Rattle.tag_queue.proofs.Uses.{agents_of, ap, BookStep, GroupStep, HasAll, IsBalanced, IsBooked, List, number_of, Record, some_there, subst, sym, ℕ, ◌∙◌}
 use Rattle.step_ledger.specs.Records.{numbers}
-use Rattle.step_ledger.specs.Gather.{HasAll}
 use Rattle.step_ledger.specs.declared.record.Record as ledger
-use Rattle.step_ledger.proofs.Turned.{some_there}
-use Rattle.tag_core.specs.declared.record.Record.{Record}
 use Rattle.tag_core.specs.Gathering as tags
-use Rattle.wake_book.specs.declared.steps.BookStep.{BookStep}
-use Rattle.wake_book.specs.declared.steps.GroupStep.{GroupStep}
 use Rattle.wake_book.specs.Book as book
 use Rattle.wake_book.specs.Groups as groups
-use Rattle.wake_book.specs.Booked.{IsBooked}
-use Rattle.wake_book.specs.Balance.{IsBalanced}
-use Rattle.tag_queue.specs.Agents.{agents_of, number_of}
 use Rattle.tag_queue.proofs.Gathering.{caller_numbers, teller_numbers, waiter_numbers, gathers}
 use Rattle.tag_queue.proofs.queue.Queue.close.Goals as goal
 

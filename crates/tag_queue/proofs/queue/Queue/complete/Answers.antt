@@ -1,15 +1,13 @@
 -- No step on the map follows the look. If it found waiters, the completion is counted; a charge that was won is followed
 -- by a walk for one batch, any other charge by no step. The look itself grants nobody a wakeup.
-use Rattle.std.proofs.Common.{rules, arith, List, inr, sym, ap, ◌∙◌, subst}
-use Rattle.wake_book.specs.declared.steps.GroupStep.{GroupStep}
-use Rattle.wake_book.specs.Groups.{sighted_beside, sighted_steps}
-use Rattle.tag_queue.specs.Agents.{batch_of, group_steps}
-use Rattle.tag_queue.specs.Clears.{Follows}
+use Rattle.std.specs.Prelude.{◌≡◌}
+use Rattle.tag_queue.proofs.Uses.{ap, arith, batch_of, ByBell, Follows, group_steps, GroupStep, inr, List, rules, sighted_beside, sighted_steps, subst, sym, waits_of, ◌∙◌}
+use Rattle.tag_queue.proofs.Counting.{counts_in_groups}
 use Rattle.tag_queue.proofs.Granted.{look_grants_none}
 use Rattle.tag_queue.proofs.queue.Queue.complete.Goals as goal
 
 pub returns-then-found-eq0-clause-tells : goal.returns-then-found-eq0-clause-tells
-returns-then-found-eq0-clause-tells g c = c.nobody.ensures.tells c.args.agent.now.waiter c.sight-found.new.waiter
+returns-then-found-eq0-clause-tells g c = c.nobody-then-found-eq0.ensures.tells c.args.agent.now.waiter c.sight-found.new.waiter
     (look_grants_none c.sight-found.result.0 c.args.agent.now.waiter c.sight-found.new.waiter c.sight-found.ensures.step
     c.sight-found.ensures.groups.1.3)
 
@@ -19,8 +17,9 @@ returns-clause-tells g c = c.charge_and_tell.ensures.tells c.args.agent.now (loo
 
 pub returns-clause-counts : goal.returns-clause-counts
 returns-clause-counts g c = let charges = c.charge_and_tell.ensures.charges in
-    let look = c.sight-found.ensures in let told = c.charge_and_tell.ensures in record {
-      counts = inr (record {
+    let look = c.sight-found.ensures in let told = c.charge_and_tell.ensures in
+    let not : ¬ (waits_of c.args.self.now ≡ ByBell) = search rules in record {
+      counts = counts_in_groups c.args.self.now c.args.n c.args.agent.now c.charge_and_tell.new.agent _ not (inr (record {
         active = c.sight-found.result.0;
         some = omega (arith, c.if-found-eq0.false);
         sights = record {
@@ -32,6 +31,6 @@ returns-clause-counts g c = let charges = c.charge_and_tell.ensures.charges in
         follows = subst (λ (z : List GroupStep). Follows (batch_of c.args.self.now) charges.charge z
             (group_steps c.charge_and_tell.new.agent) (g.W.Waking.woken c.charge_and_tell.result)) c.sight-found.ensures.step
             charges.follows;
-      });
+      }));
       stands = search rules;
     }

@@ -1,7 +1,5 @@
 -- The bound is that of the search on the map: all other steps of a batch are its own.
-use Rattle.std.proofs.Common.{rules, arith}
-use Rattle.tag_queue.specs.Agents.{layout_of}
-use Rattle.tag_queue.specs.Gets.{most_steps}
+use Rattle.tag_queue.proofs.Uses.{arith, layout_of, most_steps, rules}
 use Rattle.tag_queue.proofs.Getting.{few_steps}
 use Rattle.tag_queue.proofs.queue.Queue.get_batch_freed.Goals as goal
 

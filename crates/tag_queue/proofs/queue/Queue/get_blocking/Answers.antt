@@ -1,7 +1,5 @@
 -- Each turn is a round that found no tag and used up none of the agent's life; the last get or stay finds one.
-use Rattle.std.proofs.Common.{None, inl, inr, suc}
-use Rattle.wake_book.specs.Groups.{wait_index_of}
-use Rattle.tag_queue.specs.Agents.{layout_of, waiter_of}
+use Rattle.tag_queue.proofs.Uses.{inl, inr, layout_of, None, suc, wait_index_of, waiter_of}
 use Rattle.tag_queue.proofs.Looking.{searched_plain}
 use Rattle.tag_queue.proofs.Rounds.{search_keeps_room, searched_there, gets_by_rounds}
 use Rattle.tag_queue.proofs.queue.Queue.get_blocking.Goals as goal

@@ -1,7 +1,6 @@
 -- The agent made rounds that found no tag, still has room for one, and is in no wait group; and nothing refused the call.
-use Rattle.std.proofs.Common.{◌≡◌, ℕ, ◌≤◌, None}
-use Rattle.tag_queue.specs.Agents.{layout_of, IsAgentOf, HasRoom, standing_of}
-use Rattle.tag_queue.specs.Blocking.{AreRounds}
+use Rattle.std.specs.Prelude.{◌≡◌, ◌≤◌}
+use Rattle.tag_queue.proofs.Uses.{AreRounds, HasRoom, InGroups, IsAgentOf, layout_of, None, standing_of, waits_of, ℕ}
 use Rattle.tag_queue.proofs.queue.Queue.get_blocking.Given as goal
 
 abbrev pub invariant-loop : goal.invariant-loop
@@ -10,6 +9,6 @@ invariant-loop g l = record {
   agent : IsAgentOf l.self l.agent;
   room : HasRoom l.agent 1;
   out : standing_of l.agent ≡ None;
-  free : (1 ≤ (layout_of l.self).depth) × (standing_of l.fn.agent ≡ None) × HasRoom l.fn.agent 1;
+  free : (waits_of l.self ≡ InGroups) × (1 ≤ (layout_of l.self).depth) × (standing_of l.fn.agent ≡ None) × HasRoom l.fn.agent 1;
   rounds : (rounds : ℕ) × AreRounds rounds (layout_of l.self) l.fn.agent l.agent;
 }

@@ -1,17 +1,15 @@
 -- Each turn is a sleep that used up none of the agent's life; the last get wins a tag.
-use Rattle.std.proofs.Common.{suc, None, refl, ◌∙◌}
-use Rattle.tag_bell.specs.declared.told.TheConstants.{SLEEPERS}
-use Rattle.tag_queue.specs.Agents.{layout_of}
+use Rattle.tag_queue.proofs.Uses.{layout_of, None, refl, SLEEPERS, suc, ◌∙◌}
 use Rattle.tag_queue.proofs.Looking.{searched_plain}
 use Rattle.tag_queue.proofs.Rounds.{search_keeps_room}
 use Rattle.tag_queue.proofs.Sleeping.{waits_there, begins_again, may_sleep, listed_room, listed_begins}
 use Rattle.tag_queue.proofs.queue.Queue.get_listed.Goals as goal
 
 pub loop-init : goal.loop-init
-loop-init g c = let old = c.args.agent.now in let new = c.list_self.new.agent in let lists = c.list_self.ensures.lists in
+loop-init g c = let old = c.args.agent.now in let new = c.enlist.new.agent in let lists = c.enlist.ensures.lists in
     record {
       turns = (tt, tt);
-      agent = c.list_self.ensures.agent;
+      agent = c.enlist.ensures.agent;
       room = listed_room old new lists c.requires.room;
       begins = listed_begins old new lists c.requires.begins;
       sleeps = 0;
@@ -47,9 +45,9 @@ pub loop-preserved : goal.loop-preserved
 loop-preserved g c =
     let l = layout_of c.args.self.now in let inv = c.loop.invariant in let old = c.loop.agent in
     let tried = c.try_get.new.agent in let none = c.in_default.ensures.gets in
-    let new = c.list_again.new.agent in let lists = c.list_again.ensures.lists in record {
+    let new = c.enlist_again.new.agent in let lists = c.enlist_again.ensures.lists in record {
       turns = (tt, tt);
-      agent = c.list_again.ensures.agent;
+      agent = c.enlist_again.ensures.agent;
       room = listed_room tried new lists
           (search_keeps_room l _ _ _ _ (searched_plain l None old tried none) inv.room);
       begins = listed_begins tried new lists (begins_again l old tried none);

@@ -1,10 +1,6 @@
 -- The agent has slept some times, and has listed itself again: it has room for a tag, and begins at the first one.
-use Rattle.std.proofs.Common.{◌≡◌, ℕ}
-use Rattle.tag_bell.specs.declared.told.TheConstants.{SLEEPERS}
-use Rattle.tag_queue.specs.declared.agent.Agent.{Agent}
-use Rattle.tag_queue.specs.Agents.{layout_of, IsAgentOf, HasRoom, hint_of}
-use Rattle.tag_queue.specs.Bell.{ListsSelf}
-use Rattle.tag_queue.specs.Sleeping.{AreSleeps}
+use Rattle.std.specs.Prelude.{◌≡◌}
+use Rattle.tag_queue.proofs.Uses.{Agent, AreSleeps, HasRoom, hint_of, IsAgentOf, layout_of, ListsSelf, SLEEPERS, ℕ}
 use Rattle.tag_queue.proofs.queue.Queue.get_listed.Given as goal
 
 abbrev pub invariant-loop : goal.invariant-loop

@@ -1,7 +1,5 @@
 -- The bound is that of the search on the map: all other steps of a get are its own.
-use Rattle.std.proofs.Common.{arith}
-use Rattle.tag_queue.specs.Agents.{layout_of}
-use Rattle.tag_queue.specs.Gets.{most_steps}
+use Rattle.tag_queue.proofs.Uses.{arith, layout_of, most_steps}
 use Rattle.tag_queue.proofs.Getting.{few_steps}
 use Rattle.tag_queue.proofs.queue.Queue.get_shallow_freed.Goals as goal
 

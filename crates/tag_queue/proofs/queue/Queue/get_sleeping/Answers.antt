@@ -1,9 +1,15 @@
 -- Once the agent has a tag, it sees to all others.
-use Rattle.std.proofs.Common.{◌≡◌, ◌∙◌}
-use Rattle.tag_bell.specs.declared.told.TheConstants.{SLEEPERS}
-use Rattle.tag_queue.specs.Agents.{layout_of, caller_of}
+use Rattle.std.specs.Prelude.{◌≡◌}
+use Rattle.tag_queue.proofs.Uses.{caller_of, layout_of, rules, SLEEPERS, ◌∙◌}
 use Rattle.tag_queue.proofs.Sleeping.{gains_then_keeps, gains_it, waits_so, up_again, counts_none}
 use Rattle.tag_queue.proofs.queue.Queue.get_sleeping.Goals as goal
+
+pub returns-clause-refusals : goal.returns-clause-refusals
+returns-clause-refusals g c = record {
+  first = tt;
+  passes = (search rules, (search rules, (search rules, (search rules, tt))));
+  same = tt;
+}
 
 pub returns-clause-gets : goal.returns-clause-gets
 returns-clause-gets g c =

@@ -1,9 +1,6 @@
 -- Gives leave the agent's number unchanged, and add the tags freed to what it gave back.
-use Rattle.std.proofs.Common.{arith, ◌<◌, sym, ap, ◌∙◌, subst}
-use Rattle.tag_core.specs.declared.record.Record.{Record}
-use Rattle.tag_core.specs.declared.shape.Shape.{Shape}
-use Rattle.tag_core.specs.Callers.{record_of}
-use Rattle.tag_queue.specs.Agents.{layout_of}
+use Rattle.std.specs.Prelude.{◌<◌}
+use Rattle.tag_queue.proofs.Uses.{ap, arith, layout_of, Record, record_of, Shape, subst, sym, ◌∙◌}
 use Rattle.tag_queue.proofs.Giving.{few_gives, same_number, same_shape}
 use Rattle.tag_queue.proofs.queue.Queue.give_back.Goals as goal
 

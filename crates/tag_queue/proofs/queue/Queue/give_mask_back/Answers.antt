@@ -1,10 +1,6 @@
 -- Gives leave the agent's number unchanged, and add the tags freed to what it gave back.
-use Rattle.std.proofs.Common.{arith, ℕ, ◌+◌, ◌<◌, sym, ap, ◌∙◌, subst}
-use Rattle.tag_core.specs.declared.record.Record.{Record}
-use Rattle.tag_core.specs.declared.shape.Shape.{Shape}
-use Rattle.tag_core.specs.Callers.{record_of}
-use Rattle.tag_search.specs.Follows.{ClearFollows}
-use Rattle.tag_queue.specs.Agents.{hint_of}
+use Rattle.std.specs.Prelude.{◌+◌, ◌<◌}
+use Rattle.tag_queue.proofs.Uses.{ap, arith, ClearFollows, hint_of, Record, record_of, Shape, subst, sym, ℕ, ◌∙◌}
 use Rattle.tag_queue.proofs.Giving.{same_number, same_shape}
 use Rattle.tag_queue.proofs.RunTags.{last_in}
 use Rattle.tag_queue.proofs.MaskHolds.{is_last, last_held}

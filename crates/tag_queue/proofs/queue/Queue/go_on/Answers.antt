@@ -1,7 +1,6 @@
 -- With the next map the queue gets the batch of its layout; without one it gets its own map back.
-use Rattle.std.proofs.Common.{◌≡◌, ℕ, refl, sym, ap, ◌∙◌, subst}
-use Rattle.tag_layout.specs.Layout.{Layout, wake_batch}
-use Rattle.wake_book.specs.Book.{Rebatches}
+use Rattle.std.specs.Prelude.{◌≡◌}
+use Rattle.tag_queue.proofs.Uses.{ap, Layout, Rebatches, refl, subst, sym, wake_batch, ℕ, ◌∙◌}
 use Rattle.tag_queue.proofs.Refits.{same_queue}
 use Rattle.tag_queue.proofs.queue.Queue.go_on.Goals as goal
 
@@ -15,6 +14,7 @@ returns-in-Ok-clause-rest g c =
       groups = refl;
       least = refl;
       min_shallow = refl;
+      waits = refl;
       fill = refl;
     }
 

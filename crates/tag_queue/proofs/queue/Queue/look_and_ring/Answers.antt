@@ -1,6 +1,5 @@
 -- The ring makes no step, so the look is still the last step when it is over.
-use Rattle.std.proofs.Common.{rules, arith, refl, sym, ◌∙◌}
-use Rattle.wake_book.specs.declared.rings.Rung.TheVariants.{Nudged}
+use Rattle.tag_queue.proofs.Uses.{arith, Nudged, refl, rules, sym, ◌∙◌}
 use Rattle.tag_queue.proofs.queue.Queue.look_and_ring.Goals as goal
 
 pub returns-then-active-ne0-clause-looks : goal.returns-then-active-ne0-clause-looks

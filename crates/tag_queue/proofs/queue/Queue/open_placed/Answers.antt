@@ -1,10 +1,5 @@
 -- The agents that `open` returns are placed, and are otherwise unchanged.
-use Rattle.std.proofs.Common.{List, sym, ◌∙◌, subst}
-use Rattle.std.proofs.lemmas.List.{with_items_is}
-use Rattle.std.specs.List.{AllZip}
-use Rattle.tag_queue.specs.declared.agent.Agent.{Agent}
-use Rattle.tag_queue.specs.Opening.{IsOpenPlaced}
-use Rattle.tag_queue.specs.Placing.{IsPlaced}
+use Rattle.tag_queue.proofs.Uses.{Agent, AllZip, IsOpenPlaced, IsPlaced, List, subst, sym, with_items_is, ◌∙◌}
 use Rattle.tag_queue.proofs.Placed.{opens_placed}
 use Rattle.tag_queue.proofs.queue.Queue.open_placed.Goals as goal
 

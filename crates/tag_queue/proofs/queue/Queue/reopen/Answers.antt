@@ -1,12 +1,6 @@
 -- The callers keep their order and numbers, on the next map or their own, so each fits the shell of its agent again.
-use Rattle.std.proofs.Common.{List, map, refl, sym, ◌∙◌, subst}
-use Rattle.step_ledger.specs.Gather.{HasAll}
-use Rattle.tag_core.specs.declared.caller.Caller.{Caller}
-use Rattle.tag_core.specs.Callers.{IsCallerOf, record_of}
+use Rattle.tag_queue.proofs.Uses.{agents_of, All, Caller, HasAll, IsCallerOf, List, map, NoneInUse, record_of, refl, subst, sym, ◌∙◌}
 use Rattle.tag_core.specs.Gathering as tags
-use Rattle.std.specs.Prelude.{All}
-use Rattle.tag_queue.specs.Agents.{agents_of}
-use Rattle.tag_queue.specs.Using.{NoneInUse}
 use Rattle.tag_queue.proofs.Refits.{callers_own, callers_there, own_again, fit_moved, resized_here, fit_back, back_here}
 use Rattle.tag_queue.proofs.queue.Queue.reopen.Goals as goal
 

@@ -1,11 +1,7 @@
 -- The checks leave the agents unchanged, so each refusal, and the resize itself, is about the agents passed in.
-use Rattle.std.proofs.Common.{◌≡◌, ℕ, List, refl, sym, ap, subst}
+use Rattle.std.specs.Prelude.{◌≡◌}
+use Rattle.tag_queue.proofs.Uses.{agents_of, ap, AreUnchanged, IsResized, Layout, List, NoneInUse, Record, refl, subst, sym, ℕ}
 use Rattle.std.proofs.lemmas.Result.{IfOk-weaker, IfErr-weaker}
-use Rattle.tag_layout.specs.Layout.{Layout}
-use Rattle.tag_core.specs.declared.record.Record.{Record}
-use Rattle.tag_queue.specs.Agents.{agents_of, AreUnchanged}
-use Rattle.tag_queue.specs.Resizing.{IsResized}
-use Rattle.tag_queue.specs.Using.{NoneInUse}
 use Rattle.tag_queue.proofs.Refusals.{told_err, told_free}
 use Rattle.tag_queue.proofs.Resized.{unchanged-there, unchanged-trans, resized_from}
 use Rattle.tag_queue.proofs.Unchanged.{unchanged-records}

@@ -1,9 +1,5 @@
 -- The last agent's caller lends its record first and gets it back last, so all agents are unchanged and in order.
-use Rattle.std.proofs.Common.{List, [], refl, sym, ap, subst}
-use lib.ListN.{get_elem?}
-use Rattle.tag_core.specs.declared.record.Record.{Record}
-use Rattle.tag_core.specs.Callers.{IsCallerOf, record_of}
-use Rattle.tag_queue.specs.Agents.{IsAgentOf, caller_of, agents_of, shape_of}
+use Rattle.tag_queue.proofs.Uses.{[], agents_of, ap, caller_of, get_elem?, IsAgentOf, IsCallerOf, List, Record, record_of, refl, shape_of, subst, sym}
 use Rattle.tag_queue.proofs.Unchanged.{all_numbers, all_settled, last_own, front_own, lent_back, all_pushed, unchanged-back}
 use Rattle.tag_queue.proofs.queue.Queue.settle.Goals as goal
 

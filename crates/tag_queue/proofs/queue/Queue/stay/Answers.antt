@@ -1,12 +1,9 @@
 -- The search keeps the waiter in the group that it entered, so that is the one in which it rests and which it leaves.
-use Rattle.std.proofs.Common.{◌≡◌, ℕ, List, ◌∷◌, Some, refl, sym, ap, ◌∙◌, subst}
-use Rattle.wake_book.specs.declared.steps.GroupStep.{GroupStep}
-use Rattle.wake_book.specs.declared.steps.GroupStep.TheVariants.{Enter, Raise}
-use Rattle.wake_book.specs.Groups.{steps_of, standing_of, wait_index_of, announced_beside, announced_steps}
-use Rattle.wake_book.specs.Walks.{IsLeave}
+use Rattle.std.specs.Prelude.{◌∷◌, ◌≡◌}
+use Rattle.tag_queue.proofs.Uses.{announced_beside, announced_steps, ap, Enter, GroupStep, IsLeave, layout_of, List, Raise, refl, Some, subst, sym, wait_index_of, ℕ, ◌∙◌}
+use Rattle.wake_book.specs.Groups.{steps_of, standing_of}
 use Rattle.tag_queue.proofs.Looking.{began, stood_still, indexed_alike}
 use Rattle.tag_queue.proofs.Rounds.{leaves_there, passes_since}
-use Rattle.tag_queue.specs.Agents.{layout_of}
 use Rattle.tag_queue.proofs.queue.Queue.stay.Goals as goal
 
 pub returns-clause-stay : goal.returns-clause-stay

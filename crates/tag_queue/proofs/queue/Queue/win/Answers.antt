@@ -1,6 +1,5 @@
 -- A get that finds none leaves as much room, and the next one begins at the first tag.
-use Rattle.std.proofs.Common.{None, inl, inr}
-use Rattle.tag_queue.specs.Agents.{layout_of}
+use Rattle.tag_queue.proofs.Uses.{inl, inr, layout_of, None}
 use Rattle.tag_queue.proofs.Looking.{searched_plain}
 use Rattle.tag_queue.proofs.Rounds.{search_keeps_room}
 use Rattle.tag_queue.proofs.Sleeping.{begins_again}

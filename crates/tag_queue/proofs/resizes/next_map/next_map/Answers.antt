@@ -1,12 +1,6 @@
 -- All callers settle with no tag in use; then they move to the next map, or are returned unchanged.
-use Rattle.std.proofs.Common.{rules, List, map, sym, subst}
-use Rattle.tag_core.specs.declared.record.Record.{Record}
-use Rattle.tag_core.specs.declared.map.Map.{Map}
-use Rattle.tag_core.specs.Callers.{record_of}
-use Rattle.tag_core.specs.Reopening.{IsNext}
+use Rattle.tag_queue.proofs.Uses.{IsNext, List, Map, map, NoneInUse, Record, record_of, rules, subst, sym, unchanged-records}
 use Rattle.tag_core.proofs.Reopenings.{leads_on}
-use Rattle.tag_core.proofs.Settlings.{unchanged-records}
-use Rattle.tag_queue.specs.Using.{NoneInUse}
 use Rattle.tag_queue.proofs.NextMaps.{none_used, reopened_after, goes_on_after}
 use Rattle.tag_queue.proofs.resizes.next_map.next_map.Goals as goal
 

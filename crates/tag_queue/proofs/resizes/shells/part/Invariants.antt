@@ -1,8 +1,6 @@
 -- Each agent is either taken apart or still in the iterator, in the same order, and there is room for the rest.
-use Rattle.std.proofs.Common.{◌≡◌, ◌+◌, ◌≤◌, ◌++◌, map, vec_len, vec_capacity}
-use Rattle.std.specs.Vec.Iter.{into_iter_items, into_iter_len}
-use Rattle.tag_queue.specs.Agents.{caller_of}
-use Rattle.tag_queue.specs.Shells.{shell_of}
+use Rattle.std.specs.Prelude.{◌++◌, ◌+◌, ◌≡◌, ◌≤◌}
+use Rattle.tag_queue.proofs.Uses.{caller_of, into_iter_items, into_iter_len, map, shell_of, vec_capacity, vec_len}
 use Rattle.tag_queue.proofs.resizes.shells.part.Given as goal
 
 abbrev pub invariant-loop-agent : goal.invariant-loop-agent

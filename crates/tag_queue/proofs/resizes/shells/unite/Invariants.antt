@@ -1,8 +1,6 @@
 -- Each caller and shell is either in an agent or still in its iterator, and those that are left fit together.
-use Rattle.std.proofs.Common.{◌≡◌, ◌+◌, ◌≤◌, ◌++◌, map, vec_len, vec_capacity}
-use Rattle.std.specs.Vec.Iter.{into_iter_items, into_iter_len}
-use Rattle.tag_queue.specs.Agents.{caller_of}
-use Rattle.tag_queue.specs.Shells.{shell_of, FitShells}
+use Rattle.std.specs.Prelude.{◌++◌, ◌+◌, ◌≡◌, ◌≤◌}
+use Rattle.tag_queue.proofs.Uses.{caller_of, FitShells, into_iter_items, into_iter_len, map, shell_of, vec_capacity, vec_len}
 use Rattle.tag_queue.proofs.resizes.shells.unite.Given as goal
 
 abbrev pub invariant-loop-caller : goal.invariant-loop-caller

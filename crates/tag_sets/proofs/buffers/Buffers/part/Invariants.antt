@@ -1,6 +1,6 @@
 -- The agents of the hands left, followed by those taken out in reverse, are all agents; there is room for the rest.
-use Rattle.std.proofs.Common.{◌≡◌, ◌+◌, ◌≤◌, ◌++◌, map, reverse, vec_len, vec_capacity}
-use Rattle.tag_sets.specs.Opening.{reserved_part, ordinary_part}
+use Rattle.std.specs.Prelude.{◌++◌, ◌+◌, ◌≡◌, ◌≤◌}
+use Rattle.tag_sets.proofs.Uses.{map, ordinary_part, reserved_part, reverse, vec_capacity, vec_len}
 use Rattle.tag_sets.proofs.buffers.Buffers.part.Given as goal
 
 abbrev pub invariant-loop-hand : goal.invariant-loop-hand

@@ -1,7 +1,6 @@
 -- Each turn makes a hand of the last agent of each list; both lists end together, and then the hands are reversed.
-use Rattle.std.proofs.Common.{arith, ◌≡◌, [], ◌∷◌, ◌++◌, refl, ◌∙◌}
-use Rattle.tag_sets.specs.declared.hand.Hand.{Hand}
-use Rattle.tag_sets.specs.Opening.{reserved_part, ordinary_part, IsSplitAt}
+use Rattle.std.specs.Prelude.{◌++◌, ◌∷◌, ◌≡◌}
+use Rattle.tag_sets.proofs.Uses.{[], arith, Hand, IsSplitAt, ordinary_part, refl, reserved_part, ◌∙◌}
 use Rattle.tag_sets.proofs.Reuniting.{came_off, all_turned}
 use Rattle.tag_sets.proofs.buffers.Buffers.unite.Goals as goal
 

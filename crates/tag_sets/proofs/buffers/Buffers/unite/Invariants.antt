@@ -1,6 +1,6 @@
 -- The agents that are left, followed by those of the hands made in reverse, are all agents; there is room for the rest.
-use Rattle.std.proofs.Common.{◌≡◌, ◌+◌, ◌≤◌, ◌++◌, All, map, reverse, vec_len, vec_capacity}
-use Rattle.tag_sets.specs.Opening.{reserved_part, ordinary_part, IsSplitAt}
+use Rattle.std.specs.Prelude.{◌++◌, ◌+◌, ◌≡◌, ◌≤◌}
+use Rattle.tag_sets.proofs.Uses.{All, IsSplitAt, map, ordinary_part, reserved_part, reverse, vec_capacity, vec_len}
 use Rattle.tag_sets.proofs.buffers.Buffers.unite.Given as goal
 
 abbrev pub invariant-loop-reserved : goal.invariant-loop-reserved

@@ -1,7 +1,6 @@
 -- The subtraction succeeds exactly for an ordinary tag, and its result is the tag's number, stored after those so far.
-use Rattle.std.proofs.Common.{arith, ◌-◌, ◌<◌, ◌≤◌, ◌∷◌, ◌++◌, [], ℕ, List, length, take, sym, ap, ◌∙◌}
-use Rattle.std.proofs.lemmas.List.{length-set, take_more_set, map_more}
-use Rattle.std.proofs.lemmas.List.Elements.{All-more}
+use Rattle.std.specs.Prelude.{◌++◌, ◌-◌, ◌<◌, ◌∷◌, ◌≤◌}
+use Rattle.tag_sets.proofs.Uses.{[], All-more, ap, arith, length, length-set, List, map_more, sym, take, take_more_set, ℕ, ◌∙◌}
 use Rattle.tag_sets.specs.Batches.{numbers_of}
 use Rattle.tag_sets.proofs.clears.batches.ordinary_numbers.Goals as goal
 

@@ -1,8 +1,6 @@
 -- Where the first tag is reserved but no tag of the mask is, the mask is moved down to the first ordinary number.
-use Rattle.std.proofs.Common.{arith, ◌≡◌, ℕ, ◌+◌, ◌-◌, ◌/◌, ◌^◌, ◌≤◌, refl}
-use Rattle.std.specs.Int.{trailing_zeros, w64}
-use Rattle.tag_queue.specs.Masks.{mask_bit}
-use Rattle.tag_queue.proofs.MaskHolds.{all_in, each_in}
+use Rattle.std.specs.Prelude.{◌+◌, ◌-◌, ◌/◌, ◌^◌, ◌≡◌, ◌≤◌}
+use Rattle.tag_sets.proofs.Uses.{all_in, arith, each_in, mask_bit, refl, trailing_zeros, w64, ℕ}
 use Rattle.tag_sets.proofs.MaskNumbers.{from_ordinary, all_from, lower_fits, from_reserved, lowest, not_lower, same_ones}
 use Rattle.tag_sets.proofs.clears.masks.ordinary_mask.Goals.{Else-mask-under}
 use Rattle.tag_sets.proofs.clears.masks.ordinary_mask.Goals as goal

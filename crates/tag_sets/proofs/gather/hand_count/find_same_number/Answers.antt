@@ -1,11 +1,6 @@
 -- Every pair of hands is compared, so the numbers all differ unless a pair with the same number is found.
-use Rattle.std.proofs.Common.{arith, ◌≡◌, ◌≢◌, ℕ, get_or, sym, ap, ◌∙◌}
-use Rattle.std.proofs.lemmas.Grind.{get_or_default_zero}
-use Rattle.std.proofs.lemmas.List.{length-map, get_or-map}
-use mathlib.Core.Logic.{dite}
-use native.Mathlib.Decide.{ℕ_discrete}
-use Rattle.tag_sets.specs.Hands.{number_of}
-use Rattle.tag_sets.specs.Gathering.{numbers_of}
+use Rattle.std.specs.Prelude.{◌≡◌, ◌≢◌}
+use Rattle.tag_sets.proofs.Uses.{ap, arith, dite, get_or, get_or-map, get_or_default_zero, length-map, number_of, numbers_of, sym, ℕ, ℕ_discrete, ◌∙◌}
 use Rattle.tag_sets.proofs.gather.hand_count.find_same_number.Goals as goal
 
 pub loop-first-preserved : goal.loop-first-preserved

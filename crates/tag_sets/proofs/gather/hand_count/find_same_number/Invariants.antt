@@ -1,6 +1,6 @@
 -- The numbers before `second` all differ, and the one at `second` differs from those before `first`.
-use Rattle.std.proofs.Common.{◌≢◌, ℕ, ◌<◌, get_or}
-use Rattle.tag_sets.specs.Gathering.{numbers_of}
+use Rattle.std.specs.Prelude.{◌<◌, ◌≢◌}
+use Rattle.tag_sets.proofs.Uses.{get_or, numbers_of, ℕ}
 use Rattle.tag_sets.proofs.gather.hand_count.find_same_number.Given as goal
 
 abbrev pub invariant-loop-second : goal.invariant-loop-second

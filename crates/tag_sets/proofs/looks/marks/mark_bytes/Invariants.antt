@@ -1,7 +1,6 @@
 -- The bits of the places so far are marked, and no other bit has changed.
-use Rattle.std.proofs.Common.{◌≡◌, nat_eq, length}
-use Rattle.std.specs.Int.{bit_at}
-use Rattle.tag_sets.specs.Bits.{Marks}
+use Rattle.std.specs.Prelude.{◌≡◌}
+use Rattle.tag_sets.proofs.Uses.{bit_at, length, Marks, nat_eq}
 use Rattle.tag_sets.proofs.looks.marks.mark_bytes.Given as goal
 
 abbrev pub invariant-loop-place : goal.invariant-loop-place

@@ -1,8 +1,6 @@
 -- Each turn appends the text of one byte to those of the bytes before it, and all of them together are the lines.
-use Rattle.std.proofs.Common.{◌≡◌, ℕ, suc, ◌+◌, ◌++◌, ◌%◌, [], List, sym, subst, slice_index, length, arith}
-use Rattle.std.specs.Prelude.{◌==◌, if◌then◌else◌, codes}
-use Rattle.std.specs.Io.KnownBytes.{Appends}
-use Rattle.tag_sets.specs.Texts.{byte_text, hex_digits}
+use Rattle.std.specs.Prelude.{if◌then◌else◌, ◌%◌, ◌++◌, ◌+◌, ◌==◌, ◌≡◌}
+use Rattle.tag_sets.proofs.Uses.{[], Appends, arith, byte_text, codes, hex_digits, length, List, slice_index, subst, suc, sym, ℕ}
 use Rattle.tag_sets.proofs.Dumped.{head, end, texts_below, texts_below-all}
 use Rattle.tag_sets.proofs.Writings.{appends_none, appends_then}
 use Rattle.tag_sets.proofs.looks.texts.write_dump.Goals as goal

@@ -1,8 +1,6 @@
 -- Each turn appends the number's next lower digit.
-use Rattle.std.proofs.Common.{◌≡◌, ℕ, ◌+◌, ◌-◌, ◌*◌, ◌/◌, ◌%◌, ◌^◌, false, [], ◌∷◌, sym, ap, ◌∙◌, subst, arith}
-use Rattle.std.specs.Fmt.{digit_glyph}
-use Rattle.std.specs.Io.KnownBytes.{Appends}
-use Rattle.tag_sets.specs.Texts.{hex_digits}
+use Rattle.std.specs.Prelude.{◌%◌, ◌*◌, ◌+◌, ◌-◌, ◌/◌, ◌^◌, ◌∷◌, ◌≡◌}
+use Rattle.tag_sets.proofs.Uses.{[], ap, Appends, arith, digit_glyph, false, hex_digits, subst, sym, ℕ, ◌∙◌}
 use Rattle.tag_sets.proofs.Writings.{appends_none, appends_then, hex_digits-next}
 use Rattle.tag_sets.proofs.looks.texts.write_hex.Goals as goal
 

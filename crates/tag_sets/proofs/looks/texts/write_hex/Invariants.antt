@@ -1,7 +1,6 @@
 -- The digits so far are those of the number without its last digits, which are still to come.
-use Rattle.std.proofs.Common.{◌*◌, ◌/◌, ◌-◌, ◌^◌}
-use Rattle.std.specs.Io.KnownBytes.{Appends}
-use Rattle.tag_sets.specs.Texts.{hex_digits}
+use Rattle.std.specs.Prelude.{◌*◌, ◌-◌, ◌/◌, ◌^◌}
+use Rattle.tag_sets.proofs.Uses.{Appends, hex_digits}
 use Rattle.tag_sets.proofs.looks.texts.write_hex.Given as goal
 
 abbrev pub invariant-loop-done : goal.invariant-loop-done

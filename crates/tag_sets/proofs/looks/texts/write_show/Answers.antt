@@ -1,6 +1,5 @@
 -- The five fields and the last line feed are written in the order of the text.
-use Rattle.std.specs.Prelude.{codes}
-use Rattle.tag_sets.specs.Texts.{field}
+use Rattle.tag_sets.proofs.Uses.{codes, field}
 use Rattle.tag_sets.proofs.Writings.{appends_six}
 use Rattle.tag_sets.proofs.looks.texts.write_show.Goals as goal
 

@@ -1,9 +1,5 @@
 -- Each turn places the next hand, which is still as it was passed in.
-use Rattle.std.proofs.Common.{arith, sym, ◌∙◌, subst}
-use Rattle.tag_sets.specs.declared.hand.Hand.{Hand}
-use Rattle.tag_sets.specs.Hands.{IsHandOf}
-use Rattle.tag_sets.specs.Placing.{IsPlaced}
-use Rattle.tag_queue.proofs.OneByOne.{next_is, left_more, changed_more}
+use Rattle.tag_sets.proofs.Uses.{arith, changed_more, Hand, IsHandOf, IsPlaced, left_more, next_is, subst, sym, ◌∙◌}
 use Rattle.tag_sets.proofs.opens.placing.place_all.Goals as goal
 
 pub place-requires : goal.place-requires

@@ -1,7 +1,6 @@
 -- The hands before the index are placed, and the others are as they were.
-use Rattle.std.proofs.Common.{◌≡◌, take, drop}
-use Rattle.std.specs.List.{AllZip}
-use Rattle.tag_sets.specs.Placing.{IsPlaced}
+use Rattle.std.specs.Prelude.{◌≡◌}
+use Rattle.tag_sets.proofs.Uses.{AllZip, drop, IsPlaced, take}
 use Rattle.tag_sets.proofs.opens.placing.place_all.Given as goal
 
 abbrev pub invariant-loop-hand : goal.invariant-loop-hand

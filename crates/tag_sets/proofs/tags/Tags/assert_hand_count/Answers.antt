@@ -1,10 +1,7 @@
 -- By `meet`, two hands with one number would have different ones; so all numbers differ, and each is below the count,
 -- where there are more hands than that.
-use Rattle.std.proofs.Common.{arith, ◌≡◌, List, get_or, sym, ap, ◌∙◌, subst}
-use Rattle.std.proofs.lemmas.List.{length-map, get_or-map}
-use Rattle.tag_sets.specs.declared.hand.Hand.{Hand}
-use Rattle.tag_sets.specs.Hands.{IsHandOf, number_of}
-use Rattle.tag_sets.specs.Gathering.{HaveSameNumber, AreDistinct, numbers_of}
+use Rattle.std.specs.Prelude.{◌≡◌}
+use Rattle.tag_sets.proofs.Uses.{ap, AreDistinct, arith, get_or, get_or-map, Hand, HaveSameNumber, IsHandOf, length-map, List, number_of, numbers_of, subst, sym, ◌∙◌}
 use Rattle.tag_sets.proofs.Gathering.{few_hands, same_number}
 use Rattle.tag_sets.proofs.tags.Tags.assert_hand_count.Goals as goal
 

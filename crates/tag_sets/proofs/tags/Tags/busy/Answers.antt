@@ -1,7 +1,5 @@
 -- All bits are 0 at first; then each set marks its own busy tags, in bits that the other set leaves alone.
-use Rattle.std.proofs.Common.{arith, ℕ, List, length, get_or, ap, ◌∙◌}
-use Rattle.tag_core.proofs.Passing.{zeros}
-use Rattle.tag_sets.specs.declared.kind.Kind.TheVariants.{Ordinary, Reserved}
+use Rattle.tag_sets.proofs.Uses.{ap, arith, get_or, length, List, Ordinary, Reserved, zeros, ℕ, ◌∙◌}
 use Rattle.tag_sets.proofs.Around.{few_looks}
 use Rattle.tag_sets.proofs.Listing.{no_bit, lists, held_bit}
 use Rattle.tag_sets.proofs.tags.Tags.busy.Goals as goal

@@ -1,6 +1,5 @@
 -- The list's numbers correspond one to one to its tags, so what the ordinary set answers for them holds of the tags.
-use Rattle.std.proofs.Common.{refl}
-use Rattle.tag_sets.specs.Faults.{of_queue}
+use Rattle.tag_sets.proofs.Uses.{of_queue, refl}
 use Rattle.tag_sets.proofs.Batching.{list_alike}
 use Rattle.tag_sets.proofs.Told.{refuses_alike}
 use Rattle.tag_sets.proofs.tags.Tags.check_batch.Goals as goal

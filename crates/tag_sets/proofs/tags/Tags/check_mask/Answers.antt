@@ -1,6 +1,6 @@
 -- The mask's numbers correspond one to one to its tags, so what the ordinary set answers for them holds of the tags.
-use Rattle.std.proofs.Common.{arith, ◌≤◌, refl}
-use Rattle.tag_sets.specs.Faults.{of_queue}
+use Rattle.std.specs.Prelude.{◌≤◌}
+use Rattle.tag_sets.proofs.Uses.{arith, of_queue, refl}
 use Rattle.tag_sets.proofs.MaskAnswers.{mask_alike, still_some}
 use Rattle.tag_sets.proofs.Told.{refuses_alike}
 use Rattle.tag_sets.proofs.tags.Tags.check_mask.Goals as goal

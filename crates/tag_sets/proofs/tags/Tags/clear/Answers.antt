@@ -1,9 +1,6 @@
 -- The tag's number in its set is unique, so the put of the agent there is the clear of this tag alone.
-use Rattle.std.proofs.Common.{rules, refl, ◌≡◌, ◌-◌}
-use Rattle.tag_queue.proofs.Granted.{none_granted}
-use Rattle.tag_sets.specs.declared.kind.Kind.TheVariants.{Ordinary, Reserved}
-use Rattle.tag_sets.specs.Hands.{reserved_of, waiter_of}
-use Rattle.tag_sets.specs.Sets.{kind_of, number_in_set}
+use Rattle.std.specs.Prelude.{◌-◌, ◌≡◌}
+use Rattle.tag_sets.proofs.Uses.{kind_of, none_granted, number_in_set, Ordinary, refl, Reserved, reserved_of, rules, waiter_of}
 use Rattle.tag_sets.proofs.Passing.{placed, refused_at, clears_at}
 use Rattle.tag_sets.proofs.tags.Tags.clear.Goals as goal
 

@@ -1,6 +1,5 @@
 -- The list's numbers correspond one to one to its tags, so what the ordinary set answers for them holds of the tags.
-use Rattle.std.proofs.Common.{rules, refl}
-use Rattle.std.proofs.lemmas.Result.{err_from_is_err_and}
+use Rattle.tag_sets.proofs.Uses.{err_from_is_err_and, refl, rules}
 use Rattle.tag_sets.proofs.Batching.{list_refused, list_passes, gives_back}
 use Rattle.tag_sets.proofs.tags.Tags.clear_batch.Goals as goal
 

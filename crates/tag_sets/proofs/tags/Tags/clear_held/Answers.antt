@@ -1,8 +1,5 @@
 -- The tag's number in its set is unique, so the put of the agent there is the clear of this tag alone.
-use Rattle.std.proofs.Common.{refl}
-use Rattle.tag_queue.proofs.Granted.{none_granted}
-use Rattle.tag_sets.specs.declared.kind.Kind.TheVariants.{Ordinary, Reserved}
-use Rattle.tag_sets.specs.Hands.{waiter_of}
+use Rattle.tag_sets.proofs.Uses.{none_granted, Ordinary, refl, Reserved, waiter_of}
 use Rattle.tag_sets.proofs.Passing.{placed, clears_at}
 use Rattle.tag_sets.proofs.tags.Tags.clear_held.Goals as goal
 

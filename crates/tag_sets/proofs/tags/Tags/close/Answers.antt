@@ -1,13 +1,8 @@
 -- The agents of each set have all the numbers, so neither gather fails; they are at most 64, so the sums fit.
-use Rattle.std.proofs.Common.{arith, ◌≡◌, ℕ, List, All, map, length, sym, ap, ◌∙◌, subst}
-use Rattle.std.proofs.lemmas.Bool.{false≢true}
-use Rattle.std.proofs.lemmas.List.{length-map}
-use Rattle.step_ledger.specs.Gather.{HasAll}
-use Rattle.tag_queue.specs.declared.agent.Agent.{Agent}
+use Rattle.std.specs.Prelude.{◌≡◌}
+use Rattle.tag_sets.proofs.Uses.{Agent, All, ap, arith, false≢true, hands_of, HasAll, length, length-map, List, map, numbers_of, ordinary_part, reserved_part, subst, sym, ℕ, ◌∙◌}
 use Rattle.tag_queue.specs.Agents as queue
 use Rattle.tag_queue.specs.Gathering as queue_gathering
-use Rattle.tag_sets.specs.Opening.{reserved_part, ordinary_part}
-use Rattle.tag_sets.specs.Gathering.{hands_of, numbers_of}
 use Rattle.tag_sets.proofs.Gathering.{reserved_own, ordinary_own, reserved_numbers, ordinary_numbers, small_totals, gathers}
 use Rattle.tag_sets.proofs.tags.Tags.close.Goals as goal
 

@@ -1,9 +1,7 @@
 -- The number found is below the depth of its set, so adding the reserved tags gives an ordinary tag without overflow.
-use Rattle.std.proofs.Common.{arith, ℕ, ◌+◌, ◌<◌, Option, None, Some, sym, ap, subst}
+use Rattle.std.specs.Prelude.{◌+◌, ◌<◌}
+use Rattle.tag_sets.proofs.Uses.{ap, arith, layout_of, None, Option, Ordinary, reserved_of, Some, subst, sym, whole, ℕ}
 use Rattle.tag_queue.specs.Begun.{GetsFreed}
-use Rattle.tag_sets.specs.declared.kind.Kind.TheVariants.{Ordinary}
-use Rattle.tag_sets.specs.Gets.{whole}
-use Rattle.tag_sets.specs.Hands.{layout_of, reserved_of}
 use Rattle.tag_sets.proofs.Begun.{finished_low, finishes_get, finished_hand}
 use Rattle.tag_sets.proofs.tags.Tags.finish_get.Goals as goal
 

@@ -1,8 +1,6 @@
 -- A missing number is reported before anything is closed.
-use Rattle.std.proofs.Common.{◌≡◌, ℕ, true, false, subst}
-use Rattle.std.specs.Prelude.{◌↔◌}
-use Rattle.step_ledger.specs.Gather.{HasAll}
-use Rattle.tag_sets.specs.Gathering.{numbers_of}
+use Rattle.tag_sets.proofs.Uses.{false, HasAll, numbers_of, subst, true, ℕ}
+use Rattle.std.specs.Prelude.{◌↔◌, ◌≡◌}
 use Rattle.tag_sets.proofs.tags.Tags.gather.Goals as goal
 
 pub returns-in-Err-clause-succeeds : goal.returns-in-Err-clause-succeeds

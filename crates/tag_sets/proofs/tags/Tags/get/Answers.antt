@@ -1,6 +1,5 @@
 -- The look that follows is for as many tags as the get left free.
-use Rattle.std.proofs.Common.{ℕ, subst}
-use Rattle.tag_sets.specs.Freed.{LooksAfter}
+use Rattle.tag_sets.proofs.Uses.{LooksAfter, subst, ℕ}
 use Rattle.tag_sets.proofs.tags.Tags.get.Goals as goal
 
 pub returns-clause-gets : goal.returns-clause-gets

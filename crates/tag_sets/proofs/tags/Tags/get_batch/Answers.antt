@@ -1,6 +1,6 @@
 -- The look that follows is for as many tags as the batch left free, and under round robin it left none.
-use Rattle.std.proofs.Common.{arith, ◌≡◌, ℕ, Ok, sym, ap, ◌∙◌, subst}
-use Rattle.tag_sets.specs.Freed.{left_free, LooksAfter}
+use Rattle.std.specs.Prelude.{◌≡◌}
+use Rattle.tag_sets.proofs.Uses.{ap, arith, left_free, LooksAfter, Ok, subst, sym, ℕ, ◌∙◌}
 use Rattle.tag_sets.proofs.tags.Tags.get_batch.Goals as goal
 
 pub returns-clause-gets : goal.returns-clause-gets

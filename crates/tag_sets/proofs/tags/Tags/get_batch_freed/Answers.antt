@@ -1,10 +1,7 @@
 -- The first number is below the depth of its set, so adding the reserved tags gives an ordinary tag without overflow.
-use Rattle.std.proofs.Common.{rules, arith, ◌≡◌, ℕ, ◌+◌, ◌<◌, Bool, true, false, Option, None, Some, sym, ap, ◌∙◌, subst, refl}
+use Rattle.std.specs.Prelude.{◌+◌, ◌<◌, ◌≡◌}
+use Rattle.tag_sets.proofs.Uses.{ap, arith, Bool, false, GetsBatch, hint_of, layout_of, None, Option, Ordinary, refl, reserved_of, rules, Some, subst, sym, true, whole_run, ℕ, ◌∙◌}
 use Rattle.tag_queue.specs.Agents.{number_of}
-use Rattle.tag_queue.specs.Gets.{GetsBatch}
-use Rattle.tag_sets.specs.declared.kind.Kind.TheVariants.{Ordinary}
-use Rattle.tag_sets.specs.Hands.{layout_of, reserved_of, hint_of}
-use Rattle.tag_sets.specs.Gets.{whole_run}
 use Rattle.tag_sets.proofs.Getting.{batch_low, batch_of}
 use Rattle.tag_sets.proofs.Standing.{number_stays}
 use Rattle.tag_sets.proofs.tags.Tags.get_batch_freed.Goals as goal

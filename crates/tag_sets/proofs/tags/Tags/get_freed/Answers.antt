@@ -1,9 +1,6 @@
 -- The number found is below the depth of its set, so adding the reserved tags gives an ordinary tag without overflow.
-use Rattle.std.proofs.Common.{rules, arith, ◌≡◌, ℕ, ◌+◌, ◌<◌, Option, None, Some, sym, ap, subst}
-use Rattle.tag_queue.specs.Gets.{GetsPlain}
-use Rattle.tag_sets.specs.declared.kind.Kind.TheVariants.{Ordinary}
-use Rattle.tag_sets.specs.Hands.{layout_of, reserved_of}
-use Rattle.tag_sets.specs.Gets.{whole}
+use Rattle.std.specs.Prelude.{◌+◌, ◌<◌, ◌≡◌}
+use Rattle.tag_sets.proofs.Uses.{ap, arith, GetsPlain, layout_of, None, Option, Ordinary, reserved_of, rules, Some, subst, sym, whole, ℕ}
 use Rattle.tag_sets.proofs.Getting.{number_low, gets_of}
 use Rattle.tag_sets.proofs.tags.Tags.get_freed.Goals as goal
 

@@ -1,6 +1,5 @@
 -- The agent of the ordinary set keeps its tags, and so does the hand.
-use Rattle.std.proofs.Common.{refl}
-use Rattle.tag_sets.specs.declared.kind.Kind.TheVariants.{Ordinary}
+use Rattle.tag_sets.proofs.Uses.{Ordinary, refl}
 use Rattle.tag_sets.proofs.Lifting.{same}
 use Rattle.tag_sets.proofs.tags.Tags.get_up.Goals as goal
 

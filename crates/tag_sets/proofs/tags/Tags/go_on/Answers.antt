@@ -1,18 +1,9 @@
 -- Whether the ordinary set was resized or handed back, its agents are in the old order and keep their numbers, so they
 -- make hands with the untouched reserved agents again.
-use Rattle.std.proofs.Common.{arith, ◌≡◌, ℕ, ◌-◌, List, All, length, sym, ap, ◌∙◌, subst}
-use Rattle.std.proofs.lemmas.List.{length-map}
-use Rattle.step_ledger.specs.Gather.{HasAll}
-use Rattle.tag_layout.specs.Layout.{Layout}
-use Rattle.tag_queue.specs.declared.agent.Agent.{Agent}
-use Rattle.tag_queue.specs.declared.queue.Queue.{Queue}
+use Rattle.std.specs.Prelude.{◌-◌, ◌≡◌}
+use Rattle.tag_sets.proofs.Uses.{Agent, All, ap, arith, hands_of, HasAll, held_in, IsSplitAt, Layout, length, length-map, List, number_of, numbers_of, ordinary_part, posted_in, Queue, reserved_of, reserved_part, subst, sym, unchanged-numbers, unchanged-refl, ℕ, ◌∙◌}
 use Rattle.tag_queue.specs.Agents as queue
 use Rattle.tag_queue.specs.Resizing as queue_resizing
-use Rattle.tag_queue.specs.Using.{held_in, posted_in}
-use Rattle.tag_queue.proofs.Resized.{unchanged-refl, unchanged-numbers}
-use Rattle.tag_sets.specs.Hands.{number_of, reserved_of}
-use Rattle.tag_sets.specs.Opening.{reserved_part, ordinary_part, IsSplitAt}
-use Rattle.tag_sets.specs.Gathering.{hands_of, numbers_of}
 use Rattle.tag_sets.proofs.Gathering.{reserved_own, ordinary_own, reserved_numbers, ordinary_numbers}
 use Rattle.tag_sets.proofs.Resized.{part_kept}
 use Rattle.tag_sets.proofs.Reuniting.{all_unchanged, split_at}

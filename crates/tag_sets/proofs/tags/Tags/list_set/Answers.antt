@@ -1,15 +1,7 @@
 -- Each turn looks at one word, marks the bits of its busy tags and adds their number.
-use Rattle.std.proofs.Common.{arith, ◌≡◌, ℕ, ◌+◌, ◌*◌, ◌<◌, [], ◌∷◌, ◌++◌, min, nat_eq, bit_and, refl, sym, ap, ◌∙◌, subst}
-use Rattle.std.specs.Int.{bit_at, bit_not, w64}
-use Rattle.sums.specs.Below.{count_below}
-use Rattle.sums.proofs.Laws.{count_below-le}
-use Rattle.tag_layout.specs.Layout.{Layout, word_bits}
-use Rattle.tag_layout.proofs.PlaceFacts.{word_depth-pos, word_of-below}
+use Rattle.std.specs.Prelude.{◌*◌, ◌++◌, ◌+◌, ◌<◌, ◌∷◌, ◌≡◌}
+use Rattle.tag_sets.proofs.Uses.{[], agent_of, ap, arith, bit_and, bit_at, bit_not, count_below, count_below-le, FindsHeld, is_busy_in, Layout, ListsSet, Marks, min, nat_eq, refl, subst, sym, w64, word_bits, word_depth-pos, word_of-below, ℕ, ◌∙◌}
 use Rattle.tag_queue.specs.Agents as queue
-use Rattle.tag_sets.specs.Bits.{Marks}
-use Rattle.tag_sets.specs.Busy.{ListsSet}
-use Rattle.tag_sets.specs.Hands.{agent_of}
-use Rattle.tag_sets.specs.Looks.{FindsHeld, is_busy_in}
 use Rattle.tag_sets.proofs.Around.{starts, goes_on, found_holds}
 use Rattle.tag_sets.proofs.Marking.{marks-none}
 use Rattle.tag_sets.proofs.Sizes.{small_set, held_low}

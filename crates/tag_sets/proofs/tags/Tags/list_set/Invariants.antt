@@ -1,11 +1,7 @@
 -- The busy tags of the words so far are marked and counted, among them each tag of these words that the hand holds.
-use Rattle.std.proofs.Common.{◌≡◌, ℕ, ◌*◌, ◌<◌, true, List, length, min}
-use Rattle.sums.specs.Below.{count_below}
-use Rattle.tag_layout.specs.Layout.{word_bits, word_of}
+use Rattle.std.specs.Prelude.{◌*◌, ◌<◌, ◌≡◌}
+use Rattle.tag_sets.proofs.Uses.{agent_of, count_below, is_busy_in, IsHandOf, length, List, Marks, min, true, word_bits, word_of, ℕ}
 use Rattle.tag_queue.specs.Agents.{Holds}
-use Rattle.tag_sets.specs.Bits.{Marks}
-use Rattle.tag_sets.specs.Hands.{IsHandOf, agent_of}
-use Rattle.tag_sets.specs.Looks.{is_busy_in}
 use Rattle.tag_sets.proofs.Around.{SoFar}
 use Rattle.tag_sets.proofs.tags.Tags.list_set.Given as goal
 

@@ -1,6 +1,5 @@
 -- Neither look changes which tags the hand holds.
-use Rattle.std.proofs.Common.{refl}
-use Rattle.tag_sets.specs.declared.kind.Kind.TheVariants.{Ordinary, Reserved}
+use Rattle.tag_sets.proofs.Uses.{Ordinary, refl, Reserved}
 use Rattle.tag_sets.proofs.Lifting.{same}
 use Rattle.tag_sets.proofs.Uniting.{twice_same}
 use Rattle.tag_sets.proofs.tags.Tags.look_both.Goals as goal

@@ -1,6 +1,5 @@
 -- Both queues have as many agents as the options say, in the order of their numbers, so these pair up as hands.
-use Rattle.std.proofs.Common.{rules, sym, ◌∙◌}
-use Rattle.tag_queue.specs.Opening.{HasFirstHint}
+use Rattle.tag_sets.proofs.Uses.{HasFirstHint, rules, sym, ◌∙◌}
 use Rattle.tag_sets.proofs.Opening.{one_layout, as_many, opens}
 use Rattle.tag_sets.proofs.tags.Tags.open.Goals as goal
 

@@ -1,10 +1,5 @@
 -- The hands that `open` returns are placed, and are otherwise unchanged.
-use Rattle.std.proofs.Common.{List, sym, ◌∙◌, subst}
-use Rattle.std.proofs.lemmas.List.{with_items_is}
-use Rattle.std.specs.List.{AllZip}
-use Rattle.tag_sets.specs.declared.hand.Hand.{Hand}
-use Rattle.tag_sets.specs.Opening.{IsOpenPlaced}
-use Rattle.tag_sets.specs.Placing.{IsPlaced}
+use Rattle.tag_sets.proofs.Uses.{AllZip, Hand, IsOpenPlaced, IsPlaced, List, subst, sym, with_items_is, ◌∙◌}
 use Rattle.tag_sets.proofs.Placed.{opens_placed}
 use Rattle.tag_sets.proofs.tags.Tags.open_placed.Goals as goal
 

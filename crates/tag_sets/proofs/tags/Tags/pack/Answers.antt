@@ -1,17 +1,7 @@
 -- The bytes are 0 at first, and each turn marks the busy tags of one word in them.
-use Rattle.std.proofs.Common.{arith, ◌≡◌, inr, ℕ, ◌+◌, ◌*◌, ◌<◌, List, [], ◌∷◌, ◌++◌, min, length, get_or, nat_eq, Bool, bit_and, ap, ◌∙◌, subst}
-use Rattle.std.specs.Prelude.{◌&&◌}
-use Rattle.std.specs.Int.{bit_at, bit_not, w64}
-use Rattle.std.proofs.lemmas.Bool.{lt-ltb, le-ltb}
-use mathlib.Core.Logic.{dite}
-use native.Mathlib.Decide.{dec_lt}
-use Rattle.sums.specs.Below.{one_if}
-use Rattle.tag_layout.specs.Layout.{Layout, word_bits, tag_at}
-use Rattle.tag_layout.proofs.PlaceFacts.{word_depth-pos}
-use Rattle.tag_core.proofs.Passing.{zeros}
-use Rattle.tag_sets.specs.Bits.{Marks, bit_in}
+use Rattle.std.specs.Prelude.{◌&&◌, ◌*◌, ◌++◌, ◌+◌, ◌<◌, ◌∷◌, ◌≡◌}
+use Rattle.tag_sets.proofs.Uses.{[], ap, arith, bit_and, bit_at, bit_in, bit_not, Bool, dec_lt, dite, get_or, inr, is_busy_in, Layout, le-ltb, length, List, lt-ltb, Marks, min, nat_eq, one_if, subst, tag_at, w64, word_bits, word_depth-pos, zeros, ℕ, ◌∙◌}
 use Rattle.tag_sets.specs.Dumps.{Packs}
-use Rattle.tag_sets.specs.Looks.{is_busy_in}
 use Rattle.tag_sets.proofs.Around.{starts, goes_on}
 use Rattle.tag_sets.proofs.Listing.{no_bit}
 use Rattle.tag_sets.proofs.Marking.{marks-none}

@@ -1,9 +1,6 @@
 -- The busy tags of the words so far are marked, and no other bit is.
-use Rattle.std.proofs.Common.{◌≡◌, ℕ, ◌*◌, List, length, min}
-use Rattle.tag_layout.specs.Layout.{word_bits}
-use Rattle.tag_sets.specs.Bits.{Marks}
-use Rattle.tag_sets.specs.Hands.{IsHandOf}
-use Rattle.tag_sets.specs.Looks.{is_busy_in}
+use Rattle.std.specs.Prelude.{◌*◌, ◌≡◌}
+use Rattle.tag_sets.proofs.Uses.{is_busy_in, IsHandOf, length, List, Marks, min, word_bits, ℕ}
 use Rattle.tag_sets.proofs.Around.{SoFar}
 use Rattle.tag_sets.proofs.tags.Tags.pack.Given as goal
 

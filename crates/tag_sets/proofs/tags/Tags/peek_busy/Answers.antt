@@ -1,6 +1,5 @@
 -- All bits are 0 at first; then each set marks its own busy tags, in bits that the other set leaves alone.
-use Rattle.std.proofs.Common.{ℕ, List, length, get_or, ap, ◌∙◌}
-use Rattle.tag_core.proofs.Passing.{zeros}
+use Rattle.tag_sets.proofs.Uses.{ap, get_or, length, List, zeros, ℕ, ◌∙◌}
 use Rattle.tag_sets.proofs.Listing.{no_bit, peeks}
 use Rattle.tag_sets.proofs.tags.Tags.peek_busy.Goals as goal
 

@@ -1,13 +1,6 @@
 -- Each turn loads one word, marks the bits of its busy tags and adds their number.
-use Rattle.std.proofs.Common.{arith, ◌≡◌, ℕ, ◌+◌, ◌*◌, [], ◌∷◌, ◌++◌, length-append, min, nat_eq, bit_and, refl, ap, ◌∙◌, subst}
-use Rattle.std.specs.Int.{bit_at, bit_not, w64}
-use Rattle.sums.specs.Below.{count_below}
-use Rattle.sums.proofs.Laws.{count_below-le}
-use Rattle.tag_layout.specs.Layout.{Layout, word_bits}
-use Rattle.tag_layout.proofs.PlaceFacts.{word_depth-pos}
-use Rattle.tag_sets.specs.Bits.{Marks}
-use Rattle.tag_sets.specs.Peeks.{PeeksSet}
-use Rattle.tag_sets.specs.Looks.{is_busy_in}
+use Rattle.std.specs.Prelude.{◌*◌, ◌++◌, ◌+◌, ◌∷◌, ◌≡◌}
+use Rattle.tag_sets.proofs.Uses.{[], ap, arith, bit_and, bit_at, bit_not, count_below, count_below-le, is_busy_in, Layout, length-append, Marks, min, nat_eq, PeeksSet, refl, subst, w64, word_bits, word_depth-pos, ℕ, ◌∙◌}
 use Rattle.tag_sets.proofs.Marking.{marks-none}
 use Rattle.tag_sets.proofs.Sizes.{small_set}
 use Rattle.tag_sets.proofs.Tallies.{counted, none_yet, marks_word, all_words}

@@ -1,9 +1,6 @@
 -- The busy tags of the words so far are marked and counted.
-use Rattle.std.proofs.Common.{◌≡◌, ℕ, ◌*◌, List, length, min}
-use Rattle.sums.specs.Below.{count_below}
-use Rattle.tag_layout.specs.Layout.{word_bits}
-use Rattle.tag_sets.specs.Bits.{Marks}
-use Rattle.tag_sets.specs.Looks.{is_busy_in}
+use Rattle.std.specs.Prelude.{◌*◌, ◌≡◌}
+use Rattle.tag_sets.proofs.Uses.{count_below, is_busy_in, length, List, Marks, min, word_bits, ℕ}
 use Rattle.tag_sets.proofs.tags.Tags.peek_set.Given as goal
 
 abbrev pub invariant-loop-word : goal.invariant-loop-word

@@ -1,8 +1,6 @@
 -- Each turn adds the busy and the cleared bits of one word, which are apart; bits past the end of the set are masked out.
-use Rattle.std.proofs.Common.{arith, rules, ℕ, ◌+◌, refl, ap, ◌∙◌, [], ◌∷◌, ◌++◌, length-append, ◌*◌, min}
-use Rattle.tag_layout.specs.Layout.{word_bits}
-use Rattle.tag_sets.specs.Hands.{layout_of}
-use Rattle.tag_sets.specs.Looks.{is_busy_in, is_aside_in}
+use Rattle.std.specs.Prelude.{◌*◌, ◌++◌, ◌+◌, ◌∷◌}
+use Rattle.tag_sets.proofs.Uses.{[], ap, arith, is_aside_in, is_busy_in, layout_of, length-append, min, refl, rules, word_bits, ℕ, ◌∙◌}
 use Rattle.tag_sets.proofs.Sizes.{small_set}
 use Rattle.tag_sets.proofs.Tallies.{counted, none_yet, no_more}
 use Rattle.tag_sets.proofs.tags.Tags.peek_show.Goals as goal

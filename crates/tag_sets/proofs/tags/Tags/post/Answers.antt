@@ -1,6 +1,5 @@
 -- The tag's number in its set is unique, so the post of the agent there is a post of this tag alone.
-use Rattle.std.proofs.Common.{rules, refl}
-use Rattle.tag_sets.specs.declared.kind.Kind.TheVariants.{Ordinary, Reserved}
+use Rattle.tag_sets.proofs.Uses.{Ordinary, refl, Reserved, rules}
 use Rattle.tag_sets.proofs.Passing.{placed, refused_at, posts_at}
 use Rattle.tag_sets.proofs.tags.Tags.post.Goals as goal
 

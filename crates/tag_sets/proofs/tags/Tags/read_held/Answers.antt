@@ -1,6 +1,5 @@
 -- The agent in the tag's set reads the slot of the tag's number there, and writes back what it found.
-use Rattle.std.proofs.Common.{refl}
-use Rattle.tag_sets.specs.declared.kind.Kind.TheVariants.{Ordinary, Reserved}
+use Rattle.tag_sets.proofs.Uses.{Ordinary, refl, Reserved}
 use Rattle.tag_sets.proofs.Passing.{placed, reads_at}
 use Rattle.tag_sets.proofs.tags.Tags.read_held.Goals as goal
 

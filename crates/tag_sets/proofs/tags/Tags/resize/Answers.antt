@@ -1,12 +1,6 @@
 -- The checks leave the hands unchanged, so each refusal, and the resize itself, is about the hands passed in.
-use Rattle.std.proofs.Common.{◌≡◌, List, All, None, sym, ap, subst}
-use Rattle.std.specs.Prelude.{Option, MatchOption}
-use Rattle.std.proofs.lemmas.Result.{IfOk-weaker, IfErr-weaker}
-use Rattle.step_ledger.specs.Gather.{HasAll}
-use Rattle.tag_queue.specs.declared.resizes.ResizeCause.{ResizeCause}
-use Rattle.tag_sets.specs.declared.hand.Hand.{Hand}
-use Rattle.tag_sets.specs.Hands.{IsHandOf}
-use Rattle.tag_sets.specs.Resizing.{AreSame, AreUnchanged, AreUnused, BalanceInBoth, HasMap, IsResized, IsRefusedFor, IsRefusedAs}
+use Rattle.tag_sets.proofs.Uses.{All, ap, AreSame, AreUnchanged, AreUnused, BalanceInBoth, Hand, HasAll, HasMap, IfErr-weaker, IfOk-weaker, IsHandOf, IsRefusedAs, IsRefusedFor, IsResized, List, MatchOption, None, ResizeCause, subst, sym}
+use Rattle.std.specs.Prelude.{Option, ◌≡◌}
 use Rattle.tag_sets.proofs.Refusing.{Facts, facts_of, AreTold, told_err, Refused, refused_in}
 use Rattle.tag_sets.proofs.Resized.{same_facts, resized, kept_from, may_from, told_from, back_from}
 use Rattle.tag_sets.proofs.tags.Tags.resize.Given as given

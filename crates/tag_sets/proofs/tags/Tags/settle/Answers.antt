@@ -1,15 +1,7 @@
 -- Each set returns its agents unchanged and in order, so the hands that they make are those passed in.
-use Rattle.std.proofs.Common.{arith, ◌≡◌, ℕ, List, All, length, sym, ap, ◌∙◌, subst}
-use Rattle.std.proofs.lemmas.List.{length-map}
-use Rattle.step_ledger.specs.Gather.{HasAll}
-use Rattle.tag_queue.specs.declared.agent.Agent.{Agent}
-use Rattle.tag_queue.specs.declared.queue.Queue.{Queue}
+use Rattle.std.specs.Prelude.{◌≡◌}
+use Rattle.tag_sets.proofs.Uses.{Agent, All, ap, arith, Balance, hands_of, HasAll, IsSplitAt, length, length-map, List, number_of, numbers_of, ordinary_part, Queue, reserved_of, reserved_part, subst, sym, unchanged-numbers, ℕ, ◌∙◌}
 use Rattle.tag_queue.specs.Agents as queue
-use Rattle.tag_queue.specs.Using.{Balance}
-use Rattle.tag_queue.proofs.Resized.{unchanged-numbers}
-use Rattle.tag_sets.specs.Hands.{number_of, reserved_of}
-use Rattle.tag_sets.specs.Opening.{reserved_part, ordinary_part, IsSplitAt}
-use Rattle.tag_sets.specs.Gathering.{hands_of, numbers_of}
 use Rattle.tag_sets.proofs.Gathering.{reserved_own, ordinary_own, reserved_numbers, ordinary_numbers}
 use Rattle.tag_sets.proofs.Resized.{part_kept}
 use Rattle.tag_sets.proofs.Reuniting.{all_unchanged, split_at}

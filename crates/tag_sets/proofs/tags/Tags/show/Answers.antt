@@ -1,8 +1,6 @@
 -- Each turn adds the busy and the cleared bits of one word; bits past the end of the set are masked out.
-use Rattle.std.proofs.Common.{arith, ◌≡◌, ◌≤◌, [], ◌∷◌, ◌++◌, ap, ◌∙◌}
-use Rattle.tag_layout.specs.Layout.{Layout, words}
-use Rattle.tag_sets.specs.Hands.{layout_of}
-use Rattle.tag_sets.specs.Looks.{is_busy_in, is_aside_in}
+use Rattle.std.specs.Prelude.{◌++◌, ◌∷◌, ◌≡◌, ◌≤◌}
+use Rattle.tag_sets.proofs.Uses.{[], ap, arith, is_aside_in, is_busy_in, Layout, layout_of, words, ◌∙◌}
 use Rattle.tag_sets.proofs.Around.{starts, goes_on, few_looks}
 use Rattle.tag_sets.proofs.Sizes.{small_set}
 use Rattle.tag_sets.proofs.Tallies.{counted, none_yet}

@@ -1,9 +1,6 @@
 -- The sums are those of the words looked at so far.
-use Rattle.std.proofs.Common.{◌≡◌, ℕ, ◌*◌, List, min}
-use Rattle.sums.specs.Below.{count_below}
-use Rattle.tag_layout.specs.Layout.{word_bits}
-use Rattle.tag_sets.specs.Hands.{IsHandOf, layout_of}
-use Rattle.tag_sets.specs.Looks.{is_busy_in, is_aside_in}
+use Rattle.std.specs.Prelude.{◌*◌, ◌≡◌}
+use Rattle.tag_sets.proofs.Uses.{count_below, is_aside_in, is_busy_in, IsHandOf, layout_of, List, min, word_bits, ℕ}
 use Rattle.tag_sets.proofs.Around.{SoFar}
 use Rattle.tag_sets.proofs.tags.Tags.show.Given as goal
 

@@ -1,8 +1,5 @@
 -- The tag's number in its set is unique, so the take of the agent there is a take of this tag alone.
-use Rattle.std.proofs.Common.{rules, ap, refl}
-use Rattle.std.proofs.lemmas.Result.{err_from_is_err_and}
-use Rattle.tag_queue.specs.declared.agent.Agent.{Agent}
-use Rattle.tag_sets.specs.declared.kind.Kind.TheVariants.{Ordinary, Reserved}
+use Rattle.tag_sets.proofs.Uses.{Agent, ap, err_from_is_err_and, Ordinary, refl, Reserved, rules}
 use Rattle.tag_sets.proofs.Passing.{placed, takes_at, refuses_at}
 use Rattle.tag_sets.proofs.tags.Tags.take.Goals as goal
 

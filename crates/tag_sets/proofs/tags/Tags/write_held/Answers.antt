@@ -1,6 +1,5 @@
 -- The tag's number in its set is unique, so the write of the agent there is a write of this tag's slot alone.
-use Rattle.std.proofs.Common.{refl}
-use Rattle.tag_sets.specs.declared.kind.Kind.TheVariants.{Ordinary, Reserved}
+use Rattle.tag_sets.proofs.Uses.{Ordinary, refl, Reserved}
 use Rattle.tag_sets.proofs.Passing.{placed, writes_at}
 use Rattle.tag_sets.proofs.tags.Tags.write_held.Goals as goal
 

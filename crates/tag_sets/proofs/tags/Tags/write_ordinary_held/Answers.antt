@@ -1,7 +1,5 @@
 -- An ordinary tag's number in its set is what is left of it after the reserved ones.
-use Rattle.std.proofs.Common.{arith, refl, sym}
-use Rattle.tag_sets.specs.declared.kind.Kind.TheVariants.{Ordinary}
-use Rattle.tag_sets.specs.Hands.{split_of}
+use Rattle.tag_sets.proofs.Uses.{arith, Ordinary, refl, split_of, sym}
 use Rattle.tag_sets.proofs.Numbering.{ordinary_above}
 use Rattle.tag_sets.proofs.Passing.{IsAt, writes_at}
 use Rattle.tag_sets.proofs.tags.Tags.write_ordinary_held.Goals as goal

@@ -1,6 +1,5 @@
 -- The caller that joins the others is one of the tags' own, as they are.
-use Rattle.std.proofs.Common.{sym, subst}
-use Rattle.std.proofs.lemmas.List.Elements.{All-set}
+use Rattle.tag_tests.proofs.Uses.{All-set, subst, sym}
 use Rattle.tag_tests.proofs.tests.crowd.trade.Goals as goal
 
 pub returns-in-Some-clause-own : goal.returns-in-Some-clause-own

@@ -1,6 +1,5 @@
 -- Agents may go to other threads, and threads may share the queue.
-use denote.Param.Send.{sendable}
-use Rattle.std.proofs.Crossing.{crosses}
+use Rattle.tag_tests.proofs.Uses.{crosses, sendable}
 use Rattle.tag_queue.proofs.Crossing.{agent_send, queue_sync}
 use Rattle.tag_tests.proofs.tests.threads.played_on_queue.Goals as goal
 

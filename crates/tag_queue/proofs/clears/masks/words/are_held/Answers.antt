@@ -1,7 +1,5 @@
 -- The tags of one word are held exactly if those are that the bits name at their places in the word.
-use Rattle.std.proofs.Common.{ℕ, subst}
-use Rattle.tag_core.specs.declared.shape.Shape.{Shape}
-use Rattle.tag_core.specs.Holdings.{IsInMask}
+use Rattle.tag_queue.proofs.Uses.{IsInMask, Shape, subst, ℕ}
 use Rattle.tag_queue.proofs.MaskPlaced.{is_placed, holds_placed, placed_holds}
 use Rattle.tag_queue.proofs.clears.masks.words.are_held.Goals as goal
 

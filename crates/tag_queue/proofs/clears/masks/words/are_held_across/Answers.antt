@@ -1,7 +1,6 @@
 -- Each word's tags are tested at once: those before it are held, and those past the last word are none of the mask's.
-use Rattle.std.proofs.Common.{rules, arith, ◌≡◌, ℕ, ap, ◌∙◌}
-use Rattle.tag_layout.specs.Layout.{Layout, word_of}
-use Rattle.tag_core.specs.Callers.{Holds}
+use Rattle.std.specs.Prelude.{◌≡◌}
+use Rattle.tag_queue.proofs.Uses.{ap, arith, Holds, Layout, rules, word_of, ℕ, ◌∙◌}
 use Rattle.tag_queue.proofs.RunTags.{place_one}
 use Rattle.tag_queue.proofs.MaskParts.{start_le}
 use Rattle.tag_queue.proofs.MaskHolds.{all_in, each_in, near, last_below, holds_more, holds_part}

@@ -1,7 +1,6 @@
 -- The tags in the words so far are held.
-use Rattle.std.proofs.Common.{◌≡◌, ℕ, ◌*◌, ◌<◌}
-use Rattle.tag_layout.specs.Layout.{word_bits}
-use Rattle.tag_core.specs.Callers.{Holds}
+use Rattle.std.specs.Prelude.{◌*◌, ◌<◌, ◌≡◌}
+use Rattle.tag_queue.proofs.Uses.{Holds, word_bits, ℕ}
 use Rattle.tag_queue.specs.Masks.{mask_bit}
 use Rattle.tag_queue.proofs.clears.masks.words.are_held_across.Given as goal
 

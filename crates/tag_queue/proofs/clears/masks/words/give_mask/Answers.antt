@@ -1,6 +1,6 @@
 -- One step frees the tags of one word.
-use Rattle.std.proofs.Common.{arith, ℕ, ◌<◌, sym, subst}
-use Rattle.tag_layout.specs.Layout.{Layout}
+use Rattle.std.specs.Prelude.{◌<◌}
+use Rattle.tag_queue.proofs.Uses.{arith, Layout, subst, sym, ℕ}
 use Rattle.tag_queue.proofs.RunTags.{place_one}
 use Rattle.tag_queue.proofs.MaskHolds.{last_held}
 use Rattle.tag_queue.proofs.MaskPlaced.{is_placed, placed_holds, gives_placed, back_placed}

@@ -1,10 +1,6 @@
 -- One give frees the tags of each word that has any, and past the last word all are freed.
-use Rattle.std.proofs.Common.{arith, ◌≡◌, ℕ, ◌+◌, ◌<◌, sym, ap, ◌∙◌, subst}
-use Rattle.std.specs.Int.{bit_at}
-use Rattle.std.proofs.lemmas.Nat.{le-div}
-use Rattle.tag_layout.specs.Layout.{Layout, word_bits, word_of, tag_at, IsWithin}
-use Rattle.tag_layout.proofs.PlaceFacts.{word_bits-pos}
-use Rattle.tag_core.specs.declared.caller.Caller.{Caller}
+use Rattle.std.specs.Prelude.{◌+◌, ◌<◌, ◌≡◌}
+use Rattle.tag_queue.proofs.Uses.{ap, arith, bit_at, Caller, IsWithin, Layout, le-div, subst, sym, tag_at, word_bits, word_bits-pos, word_of, ℕ, ◌∙◌}
 use Rattle.tag_queue.specs.Masks.{mask_bit}
 use Rattle.tag_queue.proofs.RunTags.{place_one, bit_below}
 use Rattle.tag_queue.proofs.MaskParts.{start_le}

@@ -1,9 +1,6 @@
 -- The mask is moved to the beginning of the word, and cut down to the bits that the word uses.
-use Rattle.std.proofs.Common.{arith, ◌≡◌, ℕ, ◌+◌, ◌-◌, ◌*◌, ◌/◌, ◌%◌, ◌^◌, ◌<◌, ◌≤◌, sym, ap, ◌∙◌}
-use Rattle.std.specs.Int.{bit_at}
-use Rattle.std.proofs.lemmas.Nat.{and_le_r}
-use Rattle.tag_layout.specs.Layout.{word_bits, place_of}
-use Rattle.tag_layout.proofs.PlaceFacts.{tag_at-back}
+use Rattle.std.specs.Prelude.{◌%◌, ◌*◌, ◌+◌, ◌-◌, ◌/◌, ◌<◌, ◌^◌, ◌≡◌, ◌≤◌}
+use Rattle.tag_queue.proofs.Uses.{and_le_r, ap, arith, bit_at, place_of, sym, tag_at-back, word_bits, ℕ, ◌∙◌}
 use Rattle.tag_queue.proofs.MaskParts.{moved_up, moved_down, part_bits, used_low, past_start, in_word}
 use Rattle.tag_queue.proofs.clears.masks.words.part_in.Goals as goal
 use Rattle.tag_queue.proofs.clears.masks.words.part_in.Goals.{then-start-first, else-start-first}

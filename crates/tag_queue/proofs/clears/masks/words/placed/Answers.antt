@@ -1,6 +1,5 @@
 -- The mask is moved up to the place of its first tag, and its last tag is in the same word.
-use Rattle.std.proofs.Common.{arith}
-use Rattle.tag_layout.proofs.PlaceFacts.{word_bits-le}
+use Rattle.tag_queue.proofs.Uses.{arith, word_bits-le}
 use Rattle.tag_queue.proofs.MaskPlaced.{placed_bits, placed_within}
 use Rattle.tag_queue.proofs.clears.masks.words.placed.Goals as goal
 

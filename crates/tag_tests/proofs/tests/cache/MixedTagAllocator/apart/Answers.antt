@@ -1,6 +1,5 @@
 -- In each arm both callers stay the tags' own, by the call that it makes.
-use Rattle.std.proofs.Common.{sym, subst}
-use Rattle.tag_tests.specs.Mixed.{IsOwn}
+use Rattle.tag_tests.proofs.Uses.{IsOwn, subst, sym}
 use Rattle.tag_tests.proofs.tests.cache.MixedTagAllocator.apart.Goals as goal
 use Rattle.tag_tests.proofs.tests.cache.MixedTagAllocator.apart.Goals.{in-Bare-Bare, in-Bare-Cached, in-Cached-Cached, in-Cached-Bare}
 

@@ -1,8 +1,5 @@
 -- The hands of all callers belong to the tags, which `into_parts` returns and a failed gather hands back.
-use Rattle.std.proofs.Common.{ℕ, List, All, sym, ap, subst}
-use Rattle.tag_sets.specs.declared.hand.Hand.{Hand}
-use Rattle.tag_sets.specs.declared.tags.Tags.{Tags}
-use Rattle.tag_sets.specs.Hands.{IsHandOf}
+use Rattle.tag_tests.proofs.Uses.{All, ap, Hand, IsHandOf, List, subst, sym, Tags, ℕ}
 use Rattle.tag_tests.proofs.tests.cache.MixedTagAllocator.gather.Goals as goal
 
 pub gather-requires : goal.gather-requires

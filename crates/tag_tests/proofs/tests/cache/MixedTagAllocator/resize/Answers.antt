@@ -1,7 +1,5 @@
 -- The hands of all callers belong to the tags, which `into_parts` returns.
-use Rattle.std.proofs.Common.{ℕ, All, sym, subst}
-use Rattle.tag_sets.specs.declared.tags.Tags.{Tags}
-use Rattle.tag_sets.specs.Hands.{IsHandOf}
+use Rattle.tag_tests.proofs.Uses.{All, IsHandOf, subst, sym, Tags, ℕ}
 use Rattle.tag_tests.proofs.tests.cache.MixedTagAllocator.resize.Goals as goal
 
 pub resize-requires : goal.resize-requires

@@ -1,6 +1,5 @@
 -- The hands that are left are the tags' own.
-use Rattle.std.proofs.Common.{All}
-use Rattle.tag_sets.specs.Hands.{IsHandOf}
+use Rattle.tag_tests.proofs.Uses.{All, IsHandOf}
 use Rattle.tag_tests.proofs.tests.cache.sleeps.list_some.Given as goal
 
 abbrev pub invariant-loop : goal.invariant-loop

@@ -1,7 +1,5 @@
 -- Callers may go to other threads, which may share the tags, and each stays one of the tags' own.
-use denote.Param.Send.{sendable}
-use Rattle.std.proofs.Crossing.{crosses}
-use Rattle.tag_sets.proofs.Crossing.{tags_sync}
+use Rattle.tag_tests.proofs.Uses.{crosses, sendable, tags_sync}
 use Rattle.tag_tests.proofs.Crossing.{caller_goes}
 use Rattle.tag_tests.proofs.tests.cache.sleeps.share.Goals as goal
 

@@ -1,9 +1,6 @@
 -- Callers with caches may go to other threads, and threads may share the tags.
-use denote.Param.Send.{IsSync, recorded_sync, struct_sync, sendable}
+use Rattle.tag_tests.proofs.Uses.{crosses, IsSync, recorded_sync, sendable, struct_sync, tags_field_sync, u64-field}
 use denote.Struct.Declared.{shape as fields_of}
-use denote.Struct.Field.{u64-field}
-use Rattle.std.proofs.Crossing.{crosses}
-use Rattle.tag_sets.proofs.Crossing.{tags_field_sync}
 use Rattle.tag_tests.specs.contracts.tests.cache.mixed.Mixed as mixed
 use Rattle.tag_tests.proofs.Crossing.{caller_goes}
 use Rattle.tag_tests.proofs.tests.cache.threads.played_on_mixed.Goals as goal

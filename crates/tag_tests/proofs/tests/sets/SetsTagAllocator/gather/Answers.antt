@@ -1,8 +1,5 @@
 -- A failed gather hands back what it was given.
-use Rattle.std.proofs.Common.{ℕ, List, All, sym, ap, subst}
-use Rattle.tag_sets.specs.declared.hand.Hand.{Hand}
-use Rattle.tag_sets.specs.declared.tags.Tags.{Tags}
-use Rattle.tag_sets.specs.Hands.{IsHandOf}
+use Rattle.tag_tests.proofs.Uses.{All, ap, Hand, IsHandOf, List, subst, sym, Tags, ℕ}
 use Rattle.tag_tests.proofs.tests.sets.SetsTagAllocator.gather.Goals as goal
 
 pub returns-in-Err-clause-own : goal.returns-in-Err-clause-own

@@ -1,7 +1,5 @@
 -- The hand is the last of those that came with the tags.
-use Rattle.std.proofs.Common.{Some}
-use Rattle.std.proofs.lemmas.List.Elements.{All-pop}
-use Rattle.tag_sets.specs.Hands.{IsHandOf}
+use Rattle.tag_tests.proofs.Uses.{All-pop, IsHandOf, Some}
 use Rattle.tag_tests.proofs.tests.sets.example.the_first_example.Goals as goal
 
 pub get-requires : goal.get-requires

@@ -1,8 +1,6 @@
 -- The failed gather handed back what was passed in, so with the missing hand all belong to the same tags.
-use Rattle.std.proofs.Common.{ℕ, [], ◌∷◌, ◌++◌, All, sym, ap, ◌∙◌, subst}
-use Rattle.std.proofs.lemmas.List.Elements.{All-push}
-use Rattle.tag_sets.specs.declared.tags.Tags.{Tags}
-use Rattle.tag_sets.specs.Hands.{IsHandOf}
+use Rattle.tag_tests.proofs.Uses.{[], All, All-push, ap, IsHandOf, subst, sym, Tags, ℕ, ◌∙◌}
+use Rattle.std.proofs.Common.{◌∷◌, ◌++◌}
 use Rattle.tag_tests.proofs.tests.sets.excerpts.a_pool_is_shown_and_closed.Goals as goal
 
 pub gather-requires-2 : goal.gather-requires-2

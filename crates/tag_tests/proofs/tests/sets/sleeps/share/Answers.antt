@@ -1,7 +1,5 @@
 -- Hands may go to other threads, which may share the tags, and each hand stays one of the tags'.
-use denote.Param.Send.{sendable}
-use Rattle.std.proofs.Crossing.{crosses}
-use Rattle.tag_sets.proofs.Crossing.{hand_send, tags_sync}
+use Rattle.tag_tests.proofs.Uses.{crosses, hand_send, sendable, tags_sync}
 use Rattle.tag_tests.proofs.tests.sets.sleeps.share.Goals as goal
 
 pub for_each_mut-requires-send-T : goal.for_each_mut-requires-send-T

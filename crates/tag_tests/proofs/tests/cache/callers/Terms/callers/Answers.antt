@@ -1,10 +1,5 @@
 -- The hand stood first among the rest, and its caller has it.
-use Rattle.std.proofs.Common.{ℕ, List, arith, suc, sym, ap, subst, length, All}
-use Rattle.std.proofs.lemmas.List.Elements.{All-push}
-use Rattle.tag_sets.specs.declared.hand.Hand.{Hand}
-use Rattle.tag_sets.specs.Hands.{IsHandOf}
-use Rattle.tag_tests.specs.declared.caller.Caller.{Caller}
-use Rattle.tag_tests.specs.Mixed.{hand_in}
+use Rattle.tag_tests.proofs.Uses.{All, All-push, ap, arith, Caller, Hand, hand_in, IsHandOf, length, List, subst, suc, sym, ℕ}
 use Rattle.tag_tests.proofs.tests.cache.callers.Terms.callers.Goals as goal
 
 pub loop-hand-preserved : goal.loop-hand-preserved

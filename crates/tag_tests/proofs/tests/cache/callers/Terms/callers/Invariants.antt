@@ -1,8 +1,5 @@
 -- The hands that are still to come belong to the tags, and so does each caller so far.
-use Rattle.std.proofs.Common.{All}
-use Rattle.std.specs.Vec.Iter.{into_iter_items}
-use Rattle.tag_sets.specs.Hands.{IsHandOf}
-use Rattle.tag_tests.specs.Mixed.{hand_in}
+use Rattle.tag_tests.proofs.Uses.{All, hand_in, into_iter_items, IsHandOf}
 use Rattle.tag_tests.proofs.tests.cache.callers.Terms.callers.Given as goal
 
 abbrev pub invariant-loop-hand : goal.invariant-loop-hand

@@ -1,6 +1,5 @@
 -- The caller stays one of the tags' own, so all do.
-use Rattle.std.proofs.lemmas.List.Elements.{All-set}
-use Rattle.tag_tests.specs.Mixed.{IsOwn}
+use Rattle.tag_tests.proofs.Uses.{All-set, IsOwn}
 use Rattle.tag_tests.proofs.tests.cache.granted.Stage+Mixed.flush_granted.Goals as goal
 
 pub invariant_of-self-2-clause-own : goal.invariant_of-self-2-clause-own

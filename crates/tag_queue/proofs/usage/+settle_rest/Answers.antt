@@ -1,14 +1,8 @@
 -- The last agent's record goes in front of those gathered, so on the way back it is the first to be returned.
-use Rattle.std.proofs.Common.{rules, ◌≡◌, List, [], ◌++◌, refl, sym, ap, ◌∙◌, subst}
-use lib.ListN.{get_elem?}
-use Rattle.step_ledger.specs.Gather.{HasAll}
-use Rattle.tag_core.specs.declared.record.Record.{Record}
-use Rattle.tag_core.specs.Callers.{IsCallerOf, record_of}
-use Rattle.tag_core.specs.Gathering.{gathered, numbers}
-use Rattle.tag_queue.specs.declared.agent.Agent.{Agent}
-use Rattle.tag_queue.specs.Agents.{IsAgentOf, caller_of, records_of, agents_of}
+use Rattle.std.specs.Prelude.{◌++◌, ◌≡◌}
+use Rattle.tag_queue.proofs.Uses.{[], Agent, agents_of, ap, caller_of, gathered, get_elem?, HasAll, IsAgentOf, IsCallerOf, List, numbers, Record, record_of, records_of, refl, rules, subst, sym, ◌∙◌}
 use Rattle.tag_queue.proofs.Unchanged.{last_before, last_own, front_own, lent_back, all_pushed, unchanged-back}
-use Rattle.tag_queue.proofs.uses.+settle_rest.Goals as goal
+use Rattle.tag_queue.proofs.usage.+settle_rest.Goals as goal
 
 pub settle-requires-clause-all : goal.settle-requires-clause-all
 settle-requires-clause-all g t c =
