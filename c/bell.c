@@ -124,12 +124,12 @@ static void run(struct tags_place *place, const struct tags_notice *notice)
 
 void tags_library_outwait(const struct tags_place *place)
 {
-	int kept = errno;
+	int saved = errno;
 
 	while (tags_load(&place->running) > 0)
 		syscall(SYS_futex, &place->running, TAGS_FUTEX_WAIT, 1, NULL, NULL, TAGS_FUTEX_ANY);
 	TAGS_DETAIL_SEES(TAGS_MAX_TOTAL);
-	errno = kept;
+	errno = saved;
 }
 
 /*
@@ -239,13 +239,13 @@ bool tags_library_wake(struct tags_waits *waits, const struct tags_told *due)
 /* Wakes whom the hand told; and if one of those can't be notified, tells others in its place. */
 static void wake(struct tags_hand *hand, struct tags_told *due)
 {
-	int kept = errno;
+	int saved = errno;
 
 	while (!tags_library_wake(hand->waits, due)) {
 		*due = (struct tags_told){ 0, 0 };
 		tell(hand, 1, due);
 	}
-	errno = kept;
+	errno = saved;
 }
 
 void tags_library_ring(struct tags_hand *hand, uint64_t freed)
@@ -282,7 +282,7 @@ static void set_stopped(struct bell *bell, uint32_t is_stopped)
 void tags_library_stop(struct tags_waits *waits)
 {
 	struct bell *bell = tags_bell_of(waits);
-	int kept = errno;
+	int saved = errno;
 
 	set_stopped(bell, true);
 	for (uint32_t i = 0; i < bell->hands; i++) {
@@ -290,7 +290,7 @@ void tags_library_stop(struct tags_waits *waits)
 		notify_listener(bell, &bell->places[i]);
 	}
 	tags_library_open_gate(waits);
-	errno = kept;
+	errno = saved;
 }
 
 void tags_library_resume(struct tags_waits *waits)

@@ -97,7 +97,7 @@ static int32_t get_or_sleep(struct tags_hand *hand, const struct limit *limit, b
 static int32_t wait_for_tag(struct tags_hand *hand, const struct limit *limit)
 {
 	bool was_told = false;
-	int kept = errno;
+	int saved = errno;
 	int32_t tag;
 
 	if (tags_bell_of(hand->waits)->depth == 0)
@@ -115,7 +115,7 @@ static int32_t wait_for_tag(struct tags_hand *hand, const struct limit *limit)
 	if (was_told)
 		tags_library_settle(hand);
 	hand->place->has_turn = false;
-	errno = kept;
+	errno = saved;
 	return tag;
 }
 

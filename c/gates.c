@@ -34,13 +34,13 @@ static struct gate *gate_of(const struct tags_waits *waits)
 void tags_library_open_gate(const struct tags_waits *waits)
 {
 	struct gate *gate = gate_of(waits);
-	int kept = errno;
+	int saved = errno;
 
 	if (tags_load(&gate->sleepers) == 0)
 		return;
 	tags_add(&gate->number, 1);
 	syscall(SYS_futex, &gate->number, TAGS_FUTEX_WAKE, INT_MAX, NULL, NULL, 0);
-	errno = kept;
+	errno = saved;
 }
 
 static void leave_gate(void *gate)
@@ -85,7 +85,7 @@ static int32_t wait_at(struct gate *gate, const struct awaited *it, int32_t cloc
 		       const struct timespec *end)
 {
 	bool is_late = false;
-	int kept = errno;
+	int saved = errno;
 	int32_t status;
 
 	tags_add(&gate->sleepers, 1);
@@ -101,7 +101,7 @@ static int32_t wait_at(struct gate *gate, const struct awaited *it, int32_t cloc
 		is_late = sleep_at(gate, number, clock, end);
 	}
 	leave_gate(gate);
-	errno = kept;
+	errno = saved;
 	return status;
 }
 

@@ -114,7 +114,7 @@ static int32_t open_locked(struct tags_pool *pool, const struct tags_options *op
 
 int32_t tags_open(struct tags_pool *pool, const struct tags_options *options)
 {
-	int kept = errno;
+	int saved = errno;
 	int32_t status;
 
 	if (!pool || !options)
@@ -122,13 +122,13 @@ int32_t tags_open(struct tags_pool *pool, const struct tags_options *options)
 	tags_library_lock_handle(pool);
 	status = open_locked(pool, options);
 	tags_library_unlock_handle(pool);
-	errno = kept;
+	errno = saved;
 	return status;
 }
 
 int32_t tags_join(struct tags_pool *pool, struct tags_hand *hand, uint32_t flags)
 {
-	int kept = errno;
+	int saved = errno;
 	int32_t status;
 
 	if (!pool || !hand)
@@ -145,14 +145,14 @@ int32_t tags_join(struct tags_pool *pool, struct tags_hand *hand, uint32_t flags
 	}
 	tags_library_unlock_handle(pool);
 	TAGS_DETAIL_SEES(TAGS_MAX_TOTAL);
-	errno = kept;
+	errno = saved;
 	return status;
 }
 
 int32_t tags_library_return_hand(struct tags_hand *hand)
 {
 	const struct tags_waits *waits = hand->waits;
-	int kept = errno;
+	int saved = errno;
 	int32_t status;
 
 	if (!hand->place)
@@ -165,13 +165,13 @@ int32_t tags_library_return_hand(struct tags_hand *hand)
 	begin_hidden();
 	status = end_hidden(tags_library_leave(hand));
 	tags_library_open_gate(waits);
-	errno = kept;
+	errno = saved;
 	return status;
 }
 
 int32_t tags_resize(struct tags_pool *pool, uint32_t total)
 {
-	int kept = errno;
+	int saved = errno;
 	int32_t status;
 
 	if (!pool)
@@ -186,13 +186,13 @@ int32_t tags_resize(struct tags_pool *pool, uint32_t total)
 	}
 	tags_library_unlock_handle(pool);
 	TAGS_DETAIL_SEES(TAGS_MAX_TOTAL);
-	errno = kept;
+	errno = saved;
 	return status;
 }
 
 int32_t tags_close(struct tags_pool *pool, struct tags_sums *sums)
 {
-	int kept = errno;
+	int saved = errno;
 	int32_t status;
 
 	if (!pool || !sums)
@@ -206,7 +206,7 @@ int32_t tags_close(struct tags_pool *pool, struct tags_sums *sums)
 	}
 	tags_library_unlock_handle(pool);
 	TAGS_DETAIL_SEES(TAGS_MAX_TOTAL);
-	errno = kept;
+	errno = saved;
 	return status;
 }
 

@@ -140,8 +140,12 @@ fn whoever_waits_is_told_of_a_kept_tag() {
         let tag = waiter.get_timeout(Duration::from_secs(60)).unwrap();
         tag.map(|it| it.number())
     });
-    thread::sleep(Duration::from_millis(20));
-    let numbers = batch.post();
+    // A post before the other hand waits leaves the kept tag where it is.
+    let mut numbers = batch.post();
+    while !sleeper.is_finished() {
+        numbers = hand.take_batch(numbers).unwrap().post();
+        thread::sleep(Duration::from_millis(1));
+    }
     assert_eq!(sleeper.join().unwrap(), Some(3));
     assert!(hand.take_batch(numbers).is_ok());
 }

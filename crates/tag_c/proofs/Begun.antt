@@ -1,20 +1,9 @@
 -- A get by a hand without a cache, which is finished after its first try.
-use Rattle.std.proofs.Common.{◌≡◌, ℕ, ◌<◌, ℤ, Option, Result, Ok, sym, ap, ◌∙◌, subst}
-use lib.Signed.{mag}
-use Rattle.std.specs.Arc.{arc_value}
-use Rattle.tag_search.specs.declared.search.Unfinished.{Unfinished}
-use Rattle.tag_search.specs.declared.found.Found.{Found}
-use Rattle.tag_sets.specs.declared.fault.TagFault.{TagFault}
-use Rattle.tag_sets.specs.declared.hand.Hand.{Hand}
-use Rattle.tag_sets.specs.declared.tags.Tags.{Tags}
+use Rattle.std.specs.Prelude.{◌<◌, ◌≡◌}
+use Rattle.tag_c.proofs.Uses.{ap, arc_value, Bare, code_of_found, code_of_get, DoesGet, Found, Hand, HandCalls, Holder, mag, Member, Ok, Option, PoolState, Result, subst, sym, TagFault, Tags, Through, Unfinished, ℕ, ℤ, ◌∙◌}
 use Rattle.tag_sets.specs.Begun as sets
 use Rattle.tag_sets.specs.Calls as hands
-use Rattle.tag_c.specs.declared.member.Member.{Member}
-use Rattle.tag_c.specs.declared.pool_state.PoolState.{PoolState}
 use Rattle.tag_c.specs.Begun.{TriesFirst}
-use Rattle.tag_c.specs.Calls.{HandCalls, Through, DoesGet}
-use Rattle.tag_c.specs.Codes.{code_of_get, code_of_found}
-use Rattle.tag_c.specs.Holders.{Holder, Bare}
 use Rattle.tag_c.proofs.Calling.{as_stored, stored, through}
 
 -- a first try in the pool of the hand is one in the tags that its next call finds there

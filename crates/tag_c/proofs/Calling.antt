@@ -1,13 +1,7 @@
 -- The number of an answer is returned in 32 bits, and the caller changed as the answer says.
-use Rattle.std.proofs.Common.{◌≡◌, ℕ, ◌<◌, ℤ, subst, ◌∙◌}
-use lib.Signed.{mag}
-use mir.Syntax.{w32}
-use mir.Val.{to_z, of_z}
+use Rattle.std.specs.Prelude.{◌<◌, ◌≡◌}
+use Rattle.tag_c.proofs.Uses.{Holder, mag, of_z, PoolState, subst, Tags, Through, to_z, w32, ℕ, ℤ, ◌∙◌}
 use Rattle.std.proofs.lemmas.Int.{to_z-of_z}
-use Rattle.tag_sets.specs.declared.tags.Tags.{Tags}
-use Rattle.tag_c.specs.declared.pool_state.PoolState.{PoolState}
-use Rattle.tag_c.specs.Holders.{Holder}
-use Rattle.tag_c.specs.Calls.{Through}
 
 -- a number as it is stored in 32 bits
 abbrev pub as_stored : ℤ → ℤ

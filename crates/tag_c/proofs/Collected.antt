@@ -1,23 +1,14 @@
 -- The hands of a pool: the spare ones, and behind them those that had left.
-use Rattle.std.proofs.Common.{◌≡◌, ◌≤◌, ℕ, zero, suc, List, [], ◌∷◌, ◌++◌, length, take, All, sym, ap, subst, ◌∙◌, append_assoc}
+use Rattle.std.specs.Prelude.{◌++◌, ◌∷◌, ◌≡◌, ◌≤◌}
+use Rattle.tag_c.proofs.Uses.{[], All, All-cons, All-head, All-nil, All-tail, All-weaker, ap, append_assoc, AreSame, Gathers, Hand, hands_of, HasHands, IsAgentOf, IsGathered, IsHandOf, IsResized, length, List, MayResize, number_of, numbers_of, Queue, QueueTotals, reverse, subst, suc, sym, Tags}
+use Rattle.tag_c.proofs.Uses.{take, total_of, zero, ℕ, ◌∙◌}
 use mathlib.Core.List.{reverse_aux}
 use mathlib.Core.Option.{some}
 use lib.ListN.{get_elem?}
-use Rattle.std.specs.Prelude.{reverse}
 use Rattle.std.proofs.lemmas.List.{map-append, length-map, length-take-le}
-use Rattle.std.proofs.lemmas.List.Elements.{All-nil, All-cons, All-head, All-tail, All-weaker}
 use Rattle.step_ledger.specs.Gather.{HasAll, IsCauseOf}
 use Rattle.step_ledger.specs.declared.numbered.GatherCause.{GatherCause}
-use Rattle.tag_queue.specs.Agents.{IsAgentOf}
-use Rattle.tag_queue.specs.declared.gather.QueueTotals.{QueueTotals}
-use Rattle.tag_queue.specs.declared.queue.Queue.{Queue}
-use Rattle.tag_sets.specs.declared.hand.Hand.{Hand}
-use Rattle.tag_sets.specs.declared.tags.Tags.{Tags}
-use Rattle.tag_sets.specs.Hands.{IsHandOf, number_of, total_of}
-use Rattle.tag_sets.specs.Gathering.{hands_of, numbers_of, IsGathered}
-use Rattle.tag_sets.specs.Resizing.{AreSame, IsResized, MayResize}
 use Rattle.tag_sets.proofs.Settling.{enough}
-use Rattle.tag_c.specs.Pools.{Gathers, HasHands}
 
 -- what holds for all elements of two lists holds for those of the first, put in reverse order before the second
 all_turned : {X : Type 0} (P : X → Type 0) (xs ys : List X) → All P xs → All P ys → All P (reverse_aux xs ys)

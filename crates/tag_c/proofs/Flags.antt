@@ -1,11 +1,6 @@
 -- The flag of a handle says whether it has an object.
-use Rattle.std.proofs.Common.{◌≡◌, ◌≢◌, ◌⊎◌, inl, ℕ, Option, Some, None, IsSome, arith, refl, subst, sym}
-use base.Fml.{GName}
-use native.Mathlib.Nat.{ℕ_set}
-use Rattle.tag_c.specs.declared.erased.ErasedPointer.{ErasedPointer}
-use Rattle.tag_c.specs.declared.handle.Handle.{Handle}
-use Rattle.tag_c.specs.declared.object.Object.{Object}
-use Rattle.tag_c.specs.Held.{flag_of}
+use Rattle.std.specs.Prelude.{◌≡◌, ◌≢◌, ◌⊎◌}
+use Rattle.tag_c.proofs.Uses.{arith, ErasedPointer, flag_of, GName, Handle, inl, IsSome, None, Object, Option, refl, Some, subst, sym, ℕ, ℕ_set}
 
 -- the flag 1 means that there is an object
 pub some_of : (value : Option Object) → flag_of value ≡ 1 → (object : Object) × (value ≡ Some object)

@@ -1,20 +1,13 @@
 -- Where the gets of a hand that joins begin.
-use Rattle.std.proofs.Common.{◌≡◌, ℕ, ◌*◌, ◌/◌, Bool, true, false, refl, sym, ap, subst, ◌∙◌}
-use Rattle.std.specs.Arc.{arc_value}
+use Rattle.std.specs.Prelude.{◌*◌, ◌/◌, ◌≡◌}
+use Rattle.tag_c.proofs.Uses.{Agent, agent_of, ap, arc_value, BeginsInPart, Bool, false, Gives, Hand, hint_of, Pool, Queue, queue_of, refl, subst, sym, Tags, Takes, true, ℕ, ◌∙◌}
 use Rattle.tag_core.specs.declared.caller.Caller.{Caller}
 use Rattle.tag_core.specs.Callers.{record_of}
 use Rattle.tag_search.specs.declared.hint.Hint.{Hint}
-use Rattle.tag_queue.specs.declared.agent.Agent.{Agent}
-use Rattle.tag_queue.specs.declared.queue.Queue.{Queue}
 use Rattle.tag_queue.specs.Agents as queue
 use Rattle.tag_queue.specs.Placing.{hint_in_part}
-use Rattle.tag_sets.specs.declared.hand.Hand.{Hand}
 use Rattle.tag_sets.specs.declared.kind.Kind.{Kind}
-use Rattle.tag_sets.specs.declared.tags.Tags.{Tags}
-use Rattle.tag_sets.specs.Hands.{agent_of, hint_of, queue_of}
 use Rattle.tag_sets.specs.Placing.{SameButHint}
-use Rattle.tag_c.specs.declared.pool.Pool.{Pool}
-use Rattle.tag_c.specs.Joins.{BeginsInPart, Gives, Takes}
 
 -- `false` is not `true`
 false_true : false ≡ true → ⊥

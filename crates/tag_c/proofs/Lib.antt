@@ -1,7 +1,9 @@
+mod Uses
 pub mod Calling
 pub mod Collected
 pub mod Flags
 pub mod Joining
+pub mod Listing
 pub mod Owners
 pub mod Pairing
 pub mod Refusing

@@ -1,19 +1,9 @@
 -- A hand that shares its tags with a cell belongs to whatever tags the cell belongs to.
-use Rattle.std.proofs.Common.{◌≡◌, ℕ, sym, subst, ◌∙◌}
-use native.Mathlib.Nat.{ℕ_set}
-use Rattle.std.specs.Arc.{arc_value}
+use Rattle.std.specs.Prelude.{◌≡◌}
+use Rattle.tag_c.proofs.Uses.{Agent, arc_value, Hand, IsAgentOf, IsHandOf, Member, PoolState, Queue, SharesTags, subst, sym, Tags, ℕ, ℕ_set, ◌∙◌}
 use Rattle.std.specs.Coded.{Coded-set}
 use Rattle.atomic_table.specs.Seated.{table_id_coded}
 use Rattle.tag_core.specs.contracts.shape.Shape.{the_row as shape}
-use Rattle.tag_queue.specs.declared.agent.Agent.{Agent}
-use Rattle.tag_queue.specs.declared.queue.Queue.{Queue}
-use Rattle.tag_queue.specs.Agents.{IsAgentOf}
-use Rattle.tag_sets.specs.declared.hand.Hand.{Hand}
-use Rattle.tag_sets.specs.declared.tags.Tags.{Tags}
-use Rattle.tag_sets.specs.Hands.{IsHandOf}
-use Rattle.tag_c.specs.declared.member.Member.{Member}
-use Rattle.tag_c.specs.declared.pool_state.PoolState.{PoolState}
-use Rattle.tag_c.specs.Sharing.{SharesTags}
 
 -- of two agents of one queue, the second belongs to every queue that the first belongs to
 one_queue : (queue other : Queue ℕ) (cell agent : Agent ℕ) → IsAgentOf other cell → IsAgentOf other agent

@@ -1,18 +1,9 @@
 -- Of a read with a clear and a get with a write, the second call succeeds wherever the first did, over any holder.
-use Rattle.std.proofs.Common.{◌≡◌, ℕ, ◌<◌, [], ◌∷◌, inl, inr, ℤ, Option, Some, None, Result, Ok, Err, IfOk, ap, refl, sym, subst, ◌∙◌}
-use lib.Signed.{mag}
-use Rattle.refusals.specs.Refusals.{Checks, FailsFirst, PassesAll, RefusesBy}
-use Rattle.tag_search.specs.declared.found.Found.{Found}
-use Rattle.tag_sets.specs.declared.fault.TagFault.{TagFault}
-use Rattle.tag_sets.specs.declared.tags.Tags.{Tags}
+use Rattle.std.specs.Prelude.{◌<◌, ◌∷◌, ◌≡◌}
+use Rattle.tag_c.proofs.Uses.{[], answer_of, ap, Bare, Caching, Checks, code_of_done, code_of_found, code_of_get, DoesClear, DoesGet, DoesRead, Either, Err, FailsFirst, Found, Holder, Holds, IfOk, inl, inr, IsAnswer, IsRefusal, IsUnchanged, mag, None, Ok, Option, PassesAll, PoolState, refl}
+use Rattle.tag_c.proofs.Uses.{RefusesBy, Result, Some, subst, sym, TagFault, Tags, Through, ℕ, ℤ, ◌∙◌}
 use Rattle.tag_sets.specs.Calls as hands
-use Rattle.tag_sets.specs.Gets.{IsAnswer}
 use Rattle.tag_cache.specs.Calls as caches
-use Rattle.tag_c.specs.declared.pool_state.PoolState.{PoolState}
-use Rattle.tag_c.specs.Holders.{Holder, Bare, Caching, Holds, Either, IsUnchanged}
-use Rattle.tag_c.specs.Calls.{Through, DoesClear, DoesGet, DoesRead}
-use Rattle.tag_c.specs.Codes.{IsRefusal, code_of_get, code_of_found, code_of_done}
-use Rattle.tag_c.specs.Left.{answer_of}
 use Rattle.tag_c.specs.Pairs.{tag_checks, DoesGetWrite, DoesReadClear}
 use Rattle.tag_c.proofs.Calling.{as_stored, stored, through}
 

@@ -1,26 +1,11 @@
 -- The reasons why calls on pools are refused, and that each has a negative number.
-use Rattle.std.proofs.Common.{◌≡◌, ◌≢◌, ℕ, ◌<◌, ◌≤◌, Bool, ◌⊎◌, ⊎_elim, inl, inr, ℤ, pos, List, [], Option, Some, None, IfSome, ap, refl, sym, subst, ◌∙◌}
-use Rattle.std.specs.Prelude.{nat_eq}
-use lib.Signed.{mag}
-use mir.Syntax.{w32}
-use mir.Val.{to_z, of_z}
-use Rattle.std.specs.Arc.{arc_value}
+use Rattle.std.specs.Prelude.{◌<◌, ◌≡◌, ◌≢◌, ◌≤◌, ◌⊎◌}
+use Rattle.tag_c.proofs.Uses.{[], ap, arc_value, BadFlag, BadHandle, Bool, CallerCount, CapTooLarge, ClosesPool, code_of, code_of_set_fault, Ends, Gathers, GaveBack, Hand, HandLost, HandsOut, HasHand, HasPool, IfSome, inl, inr, IsHandIn, IsMemberIn, IsPoolIn, IsPoolOf, IsRefusal, JoinsAs, JoinsKind}
+use Rattle.tag_c.proofs.Uses.{Kind, LacksHand, LifeTooLong, List, mag, Memory, nat_eq, NoHand, None, NotOpened, Object, of_z, Option, Pool, pos, QueueTotals, refl, Refuses, RefusesClose, RefusesHand, RefusesHandOf, RefusesJoin, ReservedTooLarge, ShiftTooLarge, Some, spare_in, spare_of, Status}
+use Rattle.tag_c.proofs.Uses.{subst, sums_of, sym, Tags, to_z, TotalTooLarge, w32, ℕ, ℤ, ⊎_elim, ◌∙◌}
 use Rattle.tag_sets.specs.declared.fault.SetFault.{SetFault}
-use Rattle.tag_sets.specs.declared.fault.SetFault.TheVariants.{Memory, TotalTooLarge, ReservedTooLarge, ShiftTooLarge, CallerCount, LifeTooLong, CapTooLarge}
-use Rattle.tag_queue.specs.declared.gather.QueueTotals.{QueueTotals}
-use Rattle.tag_sets.specs.declared.hand.Hand.{Hand}
-use Rattle.tag_sets.specs.declared.tags.Tags.{Tags}
-use Rattle.tag_c.specs.declared.object.Kind.{Kind}
 use Rattle.tag_c.specs.declared.object.Kind.TheVariants.{Pool as IsPool, Member as IsMember, Cached as IsCached}
-use Rattle.tag_c.specs.declared.object.Object.{Object}
-use Rattle.tag_c.specs.declared.pool.Pool.{Pool}
-use Rattle.tag_c.specs.declared.status.Status.{Status}
-use Rattle.tag_c.specs.declared.status.Status.TheVariants.{BadHandle, NoHand, HandsOut, BadFlag, NotOpened, HandLost}
 use Rattle.tag_c.specs.declared.structs.Sums.{Sums}
-use Rattle.tag_c.specs.Codes.{code_of, code_of_set_fault, IsRefusal}
-use Rattle.tag_c.specs.Exports.{HasHand, HasPool, IsHandIn, IsPoolOf, IsMemberIn, IsPoolIn, Refuses, RefusesHand, RefusesHandOf, RefusesJoin, RefusesClose, ClosesPool, Ends, GaveBack, JoinsKind, spare_in, spare_of, sums_of}
-use Rattle.tag_c.specs.Joins.{JoinsAs}
-use Rattle.tag_c.specs.Pools.{LacksHand, Gathers}
 use Rattle.tag_c.proofs.Calling.{stored}
 
 -- a status is returned in 32 bits with its own number

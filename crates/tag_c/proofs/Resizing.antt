@@ -1,15 +1,9 @@
 -- Why a resize is refused, as C is told it.
-use Rattle.std.proofs.Common.{arith, ◌≡◌, ℕ, ◌<◌, List, ◌++◌, All, ⊎_elim, sym, subst}
-use Rattle.tag_layout.specs.declared.layout.TheConstants.{MAX_DEPTH}
-use Rattle.tag_queue.specs.declared.resizes.ResizeCause.{ResizeCause}
+use Rattle.std.specs.Prelude.{◌++◌, ◌<◌, ◌≡◌}
+use Rattle.tag_c.proofs.Uses.{All, AreSame, AreUnchanged, arith, Hand, IsHandOf, IsOutOfRange, IsRefusedFor, IsResized, List, MAX_DEPTH, MayResize, reserved_of, ResizeCause, Status, subst, sym, Tags, ℕ, ⊎_elim}
 use Rattle.tag_queue.specs.declared.resizes.ResizeCause.TheVariants.{Missing, DepthTooLarge, InUse, Waiting, Memory}
-use Rattle.tag_sets.specs.declared.hand.Hand.{Hand}
-use Rattle.tag_sets.specs.declared.tags.Tags.{Tags}
-use Rattle.tag_sets.specs.Hands.{IsHandOf, reserved_of}
 use Rattle.tag_sets.specs.Opening.{HasRange}
-use Rattle.tag_sets.specs.Resizing.{AreSame, AreUnchanged, IsOutOfRange, IsRefusedFor, IsResized, MayResize}
 use Rattle.tag_sets.proofs.Refusing.{AreTold, facts_of}
-use Rattle.tag_c.specs.declared.status.Status.{Status}
 use Rattle.tag_c.specs.Resizes.{status_of_cause, Prevents, Resizes, EndsResize}
 
 module _ (total : ℕ) (tags : Tags ℕ) (spare left : List (Hand ℕ)) where

@@ -1,18 +1,10 @@
 -- The first tag of a batch, and a single tag, is below the total, so its number fits.
-use Rattle.std.proofs.Common.{arith, ◌≡◌, ℕ, ◌+◌, ◌<◌, ◌≤◌, Bool, true, false, Option, Some, None, Result, Ok, Err, IfOk, OnOk, IsOkAnd, IfSome, IsTrue, ap, refl, subst, sym, unwrap_or}
-use Rattle.refusals.specs.Refusals.{PassesAll}
-use Rattle.tag_layout.specs.declared.layout.TheConstants.{MAX_DEPTH}
-use Rattle.tag_search.specs.declared.found.Found.{Found}
-use Rattle.tag_sets.specs.declared.fault.TagFault.{TagFault}
+use Rattle.std.specs.Prelude.{◌+◌, ◌<◌, ◌≡◌, ◌≤◌}
+use Rattle.tag_c.proofs.Uses.{answer_of, ap, arith, batch_checks, Bool, CountsBatch, Err, false, Found, GetsBatch, Hand, hint_of, IfOk, IfSome, IsAnswer, IsHandOf, IsOkAnd, IsOrdinaryTag, IsTrue, layout_of, MAX_DEPTH, None, Ok, OnOk, Option, PassesAll, PoolState, refl, reserved_of, Result, Some}
+use Rattle.tag_c.proofs.Uses.{subst, sym, TagFault, total_of, true, unwrap_or, whole_run, ℕ}
 use Rattle.tag_queue.specs.Gets as queue
-use Rattle.tag_sets.specs.declared.hand.Hand.{Hand}
 use Rattle.tag_sets.specs.declared.kind.Kind.TheVariants.{Ordinary}
-use Rattle.tag_sets.specs.Hands.{reserved_of, total_of, layout_of, hint_of, IsHandOf}
-use Rattle.tag_sets.specs.Gets.{whole_run, CountsBatch, GetsBatch, IsAnswer, IsOrdinaryTag}
-use Rattle.tag_sets.specs.Refusals.{batch_checks}
 use Rattle.tag_sets.proofs.Getting.{batch_low}
-use Rattle.tag_c.specs.declared.pool_state.PoolState.{PoolState}
-use Rattle.tag_c.specs.Left.{answer_of}
 
 few : (shared : PoolState) → total_of shared.tags ≤ MAX_DEPTH
 few shared = omega (arith, shared.total_is.0, shared.total_is.1)

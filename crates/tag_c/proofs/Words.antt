@@ -1,35 +1,14 @@
 -- The machine values of a `BoxParts` and of an `ErasedPointer`: a pointer and an allocator, in this order. Assumes `Logic`.
-use Rattle.std.proofs.Common.{◌≡◌, ℕ, List, [], ◌∷◌, ◌++◌, Option, Some, refl, sym, subst}
+use Rattle.std.specs.Prelude.{◌++◌, ◌∷◌, ◌≡◌}
+use Rattle.tag_c.proofs.Uses.{[], Al, and_tt, bare, block_ptr, box_owns, dnil, drop, ent, feq_i, feq_l, fjoin, fpack, fpick, fsplit, fst∗, ghosts, Goal, Good, handle_tells, has_ty, held, id⊢, impl, in_a_block, Item, Laws, layout, List, Logic, lone, move, never, nothing, null_ptr, Object, of_list}
+use Rattle.tag_c.proofs.Uses.{one, Option, Ptr, ptr_val, RattleType, RawPtr, refl, rewrite, sem, Seq, Some, SProp, Step, step, subst, sym, T, the_row_laws, tnil, Ura, Val, Valss, vcons, vnil, vptr, vstruct, WT, ‵, ℕ, ◌$◌}
 use mathlib.Core.Bool.{true, ◌&&◌}
-use lib.Dec.{T}
-use seplogic.Ra.Ura.{Ura}
-use mir.Syntax.{impl, tnil, dnil}
-use mir.Raw.{raw as bare}
-use mir.Val.{Val, vptr, vstruct, vcons, vnil, of_list, has_ty, WT}
-use base.Logic.{SProp, ent, id⊢, never, fst∗}
-use types.Logic.{Logic, sem}
-use types.Kit.{Item, Goal, Seq, Step, step, ‵, ◌$◌, move, drop, fsplit, fjoin, fpick, fpack, rewrite, feq_i, feq_l}
-use denote.RattleType.{RattleType, Valss}
-use denote.Builtin.{RawPtr}
-use denote.Memory.{lone}
-use denote.RawPtr.{Ptr, block_ptr, null_ptr, ptr_val, in_a_block}
-use denote.Steps.{nothing}
-use denote.Param.{layout}
-use denote.Param.Laws.{Laws}
 use denote.Struct.Struct.{within}
 use denote.Struct.Owning.{shape}
 use Rattle.core.specs.declared.alloc.Allocator.{Ghosts}
-use Rattle.core.proofs.alloc.Calls.{Al, handle_tells}
-use Rattle.core.proofs.cell.Inside.{Good, one}
-use Rattle.std_alloc.specs.Box.Ownership.{box_owns}
-use Rattle.std_alloc.proofs.ResultValues.{and_tt}
 use Rattle.std_heap.specs.contracts.Global as heap
-use Rattle.std_heap.specs.contracts.GlobalAllocator.TheImpl.{ghosts}
 use Rattle.std_heap.specs.declared.Global.{Global}
-use Rattle.std_heap.proofs.Global.TheLaws.{the_row_laws}
 use Rattle.tag_c.specs.contracts.object.Object as obj
-use Rattle.tag_c.specs.declared.object.Object.{Object}
-use Rattle.tag_c.specs.Held.{held}
 use Rattle.tag_c.specs.contracts.erased.ErasedPointer as erased
 use Rattle.tag_c.specs.contracts.box_parts.BoxParts as parts
 

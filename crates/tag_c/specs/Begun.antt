@@ -1,6 +1,6 @@
 -- A get by a hand without a cache, when its first try is over.
 use Rattle.std.specs.Prelude.{◌≡◌}
-use Rattle.std.specs.Arc.{arc_value}
+use Rattle.tag_c.specs.Uses.{arc_value}
 use Rattle.tag_search.specs.declared.search.Unfinished.{Unfinished}
 use Rattle.tag_sets.specs.Begun as sets
 use Rattle.tag_c.specs.declared.member.Member.{Member}

@@ -1,13 +1,10 @@
 -- What a call through the handle of a hand does: of a hand alone what `tag_sets` says, of one with a cache what `tag_cache`
 -- says.
-use Rattle.std.specs.Prelude.{◌≡◌, ℕ, ℤ, pos, List, Option, Some, None, Result, IfOk, IfSome, ⊤}
-use Rattle.std.specs.Arc.{arc_value}
+use Rattle.std.specs.Prelude.{◌≡◌}
+use Rattle.tag_c.specs.Uses.{arc_value, Found, IfOk, IfSome, List, None, Option, pos, Result, Some, TagFault, Tags, ℕ, ℤ, ⊤}
 use Rattle.wake_book.specs.declared.groups.Waiter.{Waiter}
 use Rattle.wake_book.specs.Grants.{WokenBy}
 use Rattle.wake_book.specs.Groups.{RingsNobody, steps_of}
-use Rattle.tag_search.specs.declared.found.Found.{Found}
-use Rattle.tag_sets.specs.declared.fault.TagFault.{TagFault}
-use Rattle.tag_sets.specs.declared.tags.Tags.{Tags}
 use Rattle.tag_sets.specs.Calls as hands
 use Rattle.tag_cache.specs.Calls as caches
 use Rattle.tag_c.specs.declared.cached.CachedMember.{CachedMember}

@@ -1,10 +1,6 @@
 -- The numbers that calls return, as tags.h names them; negsuc n is -(n + 1).
-use Rattle.std.specs.Prelude.{ℕ, ℤ, pos, negsuc, Option, Some, None, Result, Ok, Err, ⊤}
-use Rattle.tag_sets.specs.declared.fault.SetFault.{SetFault}
-use Rattle.tag_sets.specs.declared.fault.SetFault.TheVariants.{Memory, TotalTooLarge, ReservedTooLarge, ShiftTooLarge, CallerCount, LifeTooLong, CapTooLarge}
-use Rattle.tag_sets.specs.declared.fault.TagFault.{TagFault}
-use Rattle.tag_sets.specs.declared.fault.TagFault.TheVariants.{NoSuchTag, NoReserved, NotHeld, NotPosted, BadCount, TooShallow, Spent, Waiting, NotWaiting}
-use Rattle.tag_search.specs.declared.found.Found.{Found}
+use Rattle.tag_c.specs.Uses.{BadCount, CallerCount, CapTooLarge, Err, Found, LifeTooLong, Memory, negsuc, None, NoReserved, NoSuchTag, NotHeld, NotPosted, NotWaiting, Ok, Option, OtherWait, pos, ReservedTooLarge, Result, SetFault, ShiftTooLarge, Some, Spent, TagFault, TooShallow, TotalTooLarge}
+use Rattle.tag_c.specs.Uses.{Waiting, ℕ, ℤ, ⊤}
 use Rattle.tag_c.specs.Left.{answer_of}
 use Rattle.tag_c.specs.declared.status.Status.{Status}
 use Rattle.tag_c.specs.declared.status.Status.TheVariants.{Done, Refused, NoTag, BadHandle, NotEmpty, NoHand, HandsOut, BadKind, TooSmall, BadFlag, NotOpened, NoBerth, HandLost, InUse, HandsWait, CacheTooLarge}
@@ -25,6 +21,7 @@ code_of_fault TooShallow = negsuc 5
 code_of_fault Spent = negsuc 6
 code_of_fault Waiting = negsuc 7
 code_of_fault NotWaiting = negsuc 8
+code_of_fault OtherWait = negsuc 36
 
 -- the number of the reason why the tags could not be opened
 abbrev pub code_of_set_fault : SetFault → ℤ

@@ -1,16 +1,8 @@
 -- What the calls do that open, join, leave and close pools through their handles.
-use Rattle.std.specs.Prelude.{◌≡◌, ℕ, zero, suc, ℤ, pos, negsuc, nat_eq, if◌then◌else◌, ◌<◌, ◌≤◌, ◌⊎◌, List, [], Option, Some, None, IsSome}
-use Rattle.std.specs.Arc.{arc_value}
+use Rattle.std.specs.Prelude.{if◌then◌else◌, ◌<◌, ◌≡◌, ◌≤◌, ◌⊎◌}
+use Rattle.tag_c.specs.Uses.{[], arc_value, ByBell, FailsFirst, Hand, IsSome, List, Memory, nat_eq, negsuc, None, open_checks, Option, Options, PassesAll, pos, QueueTotals, SetFault, Some, suc, Tags, zero, ℕ, ℤ}
 use Rattle.tag_model.specs.declared.world.TheConstants.{MOST_WON}
 use Rattle.wake_book.specs.declared.book_opening.TheConstants.{MAX_CAP}
-use Rattle.tag_sets.specs.declared.fault.SetFault.{SetFault}
-use Rattle.tag_sets.specs.declared.fault.SetFault.TheVariants.{Memory}
-use Rattle.tag_queue.specs.declared.gather.QueueTotals.{QueueTotals}
-use Rattle.tag_queue.specs.declared.queue.Options.{Options}
-use Rattle.tag_sets.specs.declared.hand.Hand.{Hand}
-use Rattle.tag_sets.specs.declared.tags.Tags.{Tags}
-use Rattle.refusals.specs.Refusals.{FailsFirst, PassesAll}
-use Rattle.tag_sets.specs.Refusals.{open_checks}
 use Rattle.tag_cache.specs.declared.keeping.Keeping.TheVariants.{Always, WhileHolding}
 use Rattle.tag_c.specs.declared.cached.CacheTerms.{CacheTerms}
 use Rattle.tag_c.specs.declared.object.Kind.{Kind}
@@ -64,7 +56,8 @@ abbrev pub unless_zero : ℕ → Option ℕ
 unless_zero zero = None
 unless_zero (suc n) = Some (suc n)
 
--- the options that C asks for; each hand may win as many tags and count as many completions as a hand can
+-- the options that C asks for; each hand may win as many tags and count as many completions as a hand can, and waits by
+-- the bell
 abbrev pub options_of : RequestedOptions → Options
 options_of requested = record {
   shift = unless_negative requested.shift;
@@ -73,6 +66,7 @@ options_of requested = record {
   callers = requested.hands;
   life = MOST_WON;
   cap = MAX_CAP;
+  waits = ByBell;
 }
 
 -- the terms on which hands keep tags, as C asks for them: while they hold another one if the number is 1, and else always

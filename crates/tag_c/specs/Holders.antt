@@ -1,7 +1,7 @@
 -- Who holds tags through a handle: a hand alone, or a hand with a cache, whose user holds what is not kept.
-use Rattle.std.specs.Prelude.{◌≡◌, ℕ}
+use Rattle.std.specs.Prelude.{◌≡◌}
+use Rattle.tag_c.specs.Uses.{Hand, ℕ}
 use mathlib.Core.Option as maybe
-use Rattle.tag_sets.specs.declared.hand.Hand.{Hand}
 use Rattle.tag_sets.specs.Hands as hands
 use Rattle.tag_cache.specs.declared.cache.Cache.{Cache}
 use Rattle.tag_cache.specs.Caches as caches

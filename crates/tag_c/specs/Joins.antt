@@ -1,13 +1,9 @@
 -- Which object a hand becomes that joins.
-use Rattle.std.specs.Prelude.{◌≡◌, ◌≤◌, ℕ, ◌⊎◌, ◌∷◌, ◌++◌, [], Bool, false, IsTrue, min}
-use Rattle.std.specs.Arc.{arc_value}
+use Rattle.std.specs.Prelude.{◌++◌, ◌∷◌, ◌≡◌, ◌≤◌, ◌⊎◌}
+use Rattle.tag_c.specs.Uses.{[], agent_of, arc_value, Bool, false, Hand, hand_of, hint_of, IsTrue, keeping_of, KeepsNone, min, most_of, queue_of, Tags, ℕ}
 use Rattle.tag_queue.specs.Placing.{hint_in_part}
-use Rattle.tag_sets.specs.declared.hand.Hand.{Hand}
 use Rattle.tag_sets.specs.declared.kind.Kind as sets
-use Rattle.tag_sets.specs.declared.tags.Tags.{Tags}
-use Rattle.tag_sets.specs.Hands.{agent_of, hint_of, queue_of}
 use Rattle.tag_sets.specs.Placing.{SameButHint}
-use Rattle.tag_cache.specs.Caches.{KeepsNone, hand_of, most_of, keeping_of}
 use Rattle.tag_c.specs.declared.object.Kind.{Kind}
 use Rattle.tag_c.specs.declared.object.Kind.TheVariants.{Pool as IsPool, Member as IsMember, Cached as IsCached}
 use Rattle.tag_c.specs.declared.pool.Pool.{Pool}

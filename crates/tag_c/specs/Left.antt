@@ -1,7 +1,5 @@
 -- What a get answers, and how many tags it left free.
-use Rattle.std.specs.Prelude.{ℕ, Option, Result, Ok, Err}
-use Rattle.tag_search.specs.declared.found.Found.{Found}
-use Rattle.tag_sets.specs.declared.fault.TagFault.{TagFault}
+use Rattle.tag_c.specs.Uses.{Err, Found, Ok, Option, Result, TagFault, ℕ}
 
 -- the answer without the number of tags left free
 abbrev pub answer_of : {A : Type 0} → Result (Found A) TagFault → Result (Option A) TagFault

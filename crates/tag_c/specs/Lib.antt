@@ -1,3 +1,4 @@
+mod Uses
 pub mod Bell
 pub mod Sharing
 pub mod Codes

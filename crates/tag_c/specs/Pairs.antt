@@ -1,11 +1,6 @@
 -- What two calls in one do, in terms of the two.
-use Rattle.std.specs.Prelude.{ℕ, ◌≡◌, ◌<◌, [], ◌∷◌, Result, Ok, IfOk, IfSome, IfNone, OnOk, OnErr}
-use Rattle.refusals.specs.Refusals.{Checks, RefusesBy}
-use Rattle.tag_search.specs.declared.found.Found.{Found}
-use Rattle.tag_sets.specs.declared.fault.TagFault.{TagFault}
-use Rattle.tag_sets.specs.declared.fault.TagFault.TheVariants.{NoSuchTag, NotHeld}
-use Rattle.tag_sets.specs.declared.tags.Tags.{Tags}
-use Rattle.tag_sets.specs.Hands.{total_of}
+use Rattle.std.specs.Prelude.{◌<◌, ◌∷◌, ◌≡◌}
+use Rattle.tag_c.specs.Uses.{[], Checks, Found, IfNone, IfOk, IfSome, NoSuchTag, NotHeld, Ok, OnErr, OnOk, RefusesBy, Result, TagFault, Tags, total_of, ℕ}
 use Rattle.tag_c.specs.Holders.{Holder, Holds, IsUnchanged}
 use Rattle.tag_c.specs.Calls.{DoesGet, DoesClear, DoesRead, DoesWrite}
 

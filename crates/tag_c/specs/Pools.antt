@@ -1,17 +1,7 @@
 -- When a pool opens, gives a hand and closes.
-use Rattle.std.specs.Prelude.{◌≡◌, ℕ, ◌-◌, ◌⊎◌, List, [], ◌++◌, All, reverse}
+use Rattle.std.specs.Prelude.{◌++◌, ◌-◌, ◌≡◌, ◌⊎◌}
+use Rattle.tag_c.specs.Uses.{[], All, Hand, HasShift, IsHandOf, IsOpen, layout_of, List, Memory, open_checks, Options, Ordinary, PassesAll, QueueTotals, Reserved, reserved_of, reverse, Tags, total_of, ℕ}
 use Rattle.step_ledger.specs.Gather.{HasAll}
-use Rattle.tag_layout.specs.Layout.{HasShift}
-use Rattle.tag_sets.specs.declared.fault.SetFault.TheVariants.{Memory}
-use Rattle.tag_queue.specs.declared.gather.QueueTotals.{QueueTotals}
-use Rattle.tag_queue.specs.declared.queue.Options.{Options}
-use Rattle.tag_sets.specs.declared.hand.Hand.{Hand}
-use Rattle.tag_sets.specs.declared.tags.Tags.{Tags}
-use Rattle.tag_sets.specs.declared.kind.Kind.TheVariants.{Ordinary, Reserved}
-use Rattle.tag_sets.specs.Hands.{IsHandOf, total_of, reserved_of, layout_of}
-use Rattle.refusals.specs.Refusals.{PassesAll}
-use Rattle.tag_sets.specs.Opening.{IsOpen}
-use Rattle.tag_sets.specs.Refusals.{open_checks}
 use Rattle.tag_sets.specs.Gathering.{hands_of, numbers_of, IsGathered}
 use Rattle.tag_c.specs.declared.status.Status.{Status}
 use Rattle.tag_c.specs.declared.status.Status.TheVariants.{NoHand, NotOpened}

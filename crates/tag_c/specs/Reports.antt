@@ -1,12 +1,7 @@
 -- What calls report through the handle of a pool. Their loads are in no hand's list of steps, so nothing links what they
 -- tell to the tags as they were.
-use Rattle.std.specs.Prelude.{◌≡◌, ℕ, ◌*◌, ◌≤◌, ◌<◌, ℤ, pos, min, List, length, Option, Some, None}
-use Rattle.std.specs.Arc.{arc_value}
-use Rattle.tag_layout.specs.declared.layout.TheConstants.{MAX_DEPTH}
-use Rattle.tag_sets.specs.declared.kind.Kind.{Kind as Set}
-use Rattle.tag_sets.specs.declared.kind.Kind.TheVariants.{Ordinary, Reserved}
-use Rattle.tag_sets.specs.declared.tags.Tags.{Tags}
-use Rattle.tag_sets.specs.Hands.{layout_of, total_of}
+use Rattle.std.specs.Prelude.{◌*◌, ◌<◌, ◌≡◌, ◌≤◌}
+use Rattle.tag_c.specs.Uses.{arc_value, layout_of, length, List, MAX_DEPTH, min, None, Option, Ordinary, pos, Reserved, Set, Some, Tags, total_of, ℕ, ℤ}
 use Rattle.tag_sets.specs.Peeks.{PeeksBusy, PeeksShow}
 use Rattle.tag_c.specs.declared.looks.Sizes.{Sizes}
 use Rattle.tag_c.specs.declared.object.Kind.{Kind}

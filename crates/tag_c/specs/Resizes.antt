@@ -1,14 +1,8 @@
 -- How a pool is resized through its handle.
-use Rattle.std.specs.Prelude.{◌≡◌, ℕ, ◌<◌, ◌≤◌, ℤ, List, ◌++◌, All, Option, Some, None}
-use Rattle.std.specs.Arc.{arc_value}
-use Rattle.tag_layout.specs.declared.layout.TheConstants.{MAX_DEPTH}
-use Rattle.tag_sets.specs.declared.fault.SetFault.TheVariants.{Memory as WantOfMemory, TotalTooLarge, ReservedTooLarge}
+use Rattle.std.specs.Prelude.{◌++◌, ◌<◌, ◌≡◌, ◌≤◌}
+use Rattle.tag_c.specs.Uses.{All, arc_value, Hand, HasRange, IsHandOf, List, MAX_DEPTH, None, Option, reserved_of, ReservedTooLarge, Some, Tags, TotalTooLarge, WantOfMemory, ℕ, ℤ}
 use Rattle.tag_queue.specs.declared.resizes.ResizeCause.{ResizeCause}
 use Rattle.tag_queue.specs.declared.resizes.ResizeCause.TheVariants.{Missing, DepthTooLarge, InUse as Used, Waiting, Memory}
-use Rattle.tag_sets.specs.declared.hand.Hand.{Hand}
-use Rattle.tag_sets.specs.declared.tags.Tags.{Tags}
-use Rattle.tag_sets.specs.Hands.{IsHandOf, reserved_of}
-use Rattle.tag_sets.specs.Opening.{HasRange}
 use Rattle.tag_sets.specs.Resizing.{AreSame, AreUnchanged, IsRefusedFor, IsResized, MayResize}
 use Rattle.tag_c.specs.declared.object.Kind.{Kind}
 use Rattle.tag_c.specs.declared.object.Kind.TheVariants.{Pool as IsPool}

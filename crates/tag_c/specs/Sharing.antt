@@ -1,8 +1,5 @@
 -- Hands of the same tags.
-use Rattle.std.specs.Prelude.{ℕ}
-use Rattle.tag_sets.specs.declared.hand.Hand.{Hand}
-use Rattle.tag_sets.specs.declared.tags.Tags.{Tags}
-use Rattle.tag_sets.specs.Hands.{IsHandOf}
+use Rattle.tag_c.specs.Uses.{Hand, IsHandOf, Tags, ℕ}
 
 -- both hands belong to the same tags
 abbrev pub SharesTags : Hand ℕ → Hand ℕ → Type 0

@@ -1,15 +1,9 @@
 -- What calls report through the handle of a hand.
-use Rattle.std.specs.Prelude.{◌≡◌, ℕ, ◌*◌, ◌≤◌, ◌<◌, ◌⊎◌, ℤ, pos, min, List, length, ⊤}
-use Rattle.tag_layout.specs.declared.layout.TheConstants.{MAX_DEPTH}
-use Rattle.tag_sets.specs.declared.fault.TagFault.TheVariants.{NoSuchTag}
-use Rattle.tag_sets.specs.declared.kind.Kind.{Kind}
-use Rattle.tag_sets.specs.declared.kind.Kind.TheVariants.{Ordinary, Reserved}
-use Rattle.tag_sets.specs.declared.tags.Tags.{Tags}
-use Rattle.tag_sets.specs.Hands.{total_of}
+use Rattle.std.specs.Prelude.{◌*◌, ◌<◌, ◌≡◌, ◌≤◌, ◌⊎◌}
+use Rattle.tag_c.specs.Uses.{Kind, length, List, MAX_DEPTH, min, NoSuchTag, Ordinary, pos, Reserved, SameTags, Tags, total_of, ℕ, ℤ, ⊤}
 use Rattle.tag_sets.specs.Busy.{ListsBusy}
 use Rattle.tag_sets.specs.Bits.{bit_in}
 use Rattle.tag_sets.specs.Shows.{Shows}
-use Rattle.tag_cache.specs.Same.{SameTags}
 use Rattle.tag_c.specs.declared.looks.Sizes.{Sizes}
 use Rattle.tag_c.specs.declared.status.Status.TheVariants.{Refused, BadKind, TooSmall}
 use Rattle.tag_c.specs.Holders.{Holder, hand_of, Holds, IsKept, Either, IsUnchanged}

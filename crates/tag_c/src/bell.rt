@@ -8,6 +8,7 @@ ghost use Rattle.tag_c.specs.Codes.{IsRefusal};
 
 use crate::any_hand::{AnyHand, on_hand};
 use crate::cached::CachedMember;
+use crate::codes::done_code;
 use crate::handle::Handle;
 use crate::member::Member;
 use crate::status::fault_code;
@@ -53,7 +54,8 @@ fn answer_code(answer: bool) -> i32
 
 /// Calls of those who wait, and of those who see to them.
 trait BellCalls: AnyHand {
-    /// Lists the hand among those that wait, with the next turn, or refuses one that is in a wait group.
+    /// Lists the hand among those that wait, with the next turn. It refuses one that is in a wait group, and one whose tags
+    /// were opened for waits in groups.
     fn list_self(&mut self, list: u32) -> i32
         requires { list < LISTS }
         ensures { Self.changes (DoesListSelf list result) self.old self.new };
@@ -75,7 +77,7 @@ trait BellCalls: AnyHand {
 
     /// Sees to all that the hand has to see to, after it gave so many ordinary tags back, and fills in whom it told.
     fn see_to(&mut self, freed: u32, told: &mut ToldHands) -> i32
-        ensures { Self.changes (DoesSeeTo told.new result) self.old self.new };
+        ensures { Self.changes (DoesSeeTo freed told.new result) self.old self.new };
 
     /// Sees to all that the hand has to see to, after it was told and got up, and fills in whom it told.
     fn see_to_all(&mut self, told: &mut ToldHands) -> i32
@@ -92,8 +94,7 @@ impl BellCalls for Member {
         if self.hand.is_waiting() {
             return fault_code(TagFault::Waiting);
         }
-        self.shared.tags.list_self(&mut self.hand, list);
-        0
+        done_code(self.shared.tags.list_self(&mut self.hand, list))
     }
 
     #[inline(always)]
@@ -101,8 +102,7 @@ impl BellCalls for Member {
         if self.hand.is_waiting() {
             return fault_code(TagFault::Waiting);
         }
-        self.shared.tags.list_again(&mut self.hand, list);
-        0
+        done_code(self.shared.tags.list_again(&mut self.hand, list))
     }
 
     #[inline(always)]
@@ -139,8 +139,7 @@ impl BellCalls for CachedMember {
         if self.cache.is_waiting() {
             return fault_code(TagFault::Waiting);
         }
-        self.cache.list_self(&self.shared.tags, list);
-        0
+        done_code(self.cache.list_self(&self.shared.tags, list))
     }
 
     #[inline(always)]
@@ -148,8 +147,7 @@ impl BellCalls for CachedMember {
         if self.cache.is_waiting() {
             return fault_code(TagFault::Waiting);
         }
-        self.cache.list_again(&self.shared.tags, list);
-        0
+        done_code(self.cache.list_again(&self.shared.tags, list))
     }
 
     #[inline(always)]
@@ -215,7 +213,7 @@ pub extern "C" fn tags_get_up(hand: &mut Handle, listens: u32) -> i32
 
 #[unsafe(no_mangle)]
 pub extern "C" fn tags_see_to(hand: &mut Handle, freed: u32, told: &mut ToldHands) -> i32
-    ensures calls { CallsBy (DoesSeeTo told.new result) result hand.old.object.value hand.new.object.value }
+    ensures calls { CallsBy (DoesSeeTo freed told.new result) result hand.old.object.value hand.new.object.value }
     ensures kept { IsRefusal result → told.new ≡ told.old }
 {
     on_hand!(hand.see_to(freed, told))

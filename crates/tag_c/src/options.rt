@@ -5,10 +5,10 @@ ghost use Rattle.tag_c.specs.Exports.{options_of, sums_of, terms_of};
 use crate::cached::CacheTerms;
 use crate::structs::{ROUND_ROBIN, RequestedOptions, Sums, WHILE_HOLDING};
 use tag_cache::Keeping;
-use tag_sets::{MAX_CAP, MOST_WON, Options, QueueTotals};
+use tag_sets::{MAX_CAP, MOST_WON, Options, QueueTotals, Waits};
 
 /// Returns the options as `tag_sets` takes them. A negative shift and a `min_shallow` of 0 become `None`, and each hand
-/// may win and count as much as the limits allow.
+/// may win and count as much as the limits allow. Hands wait by the bell.
 pub(crate) fn read_options(requested: &RequestedOptions) -> Options
     ensures { result ≡ options_of requested.now }
 {
@@ -29,6 +29,7 @@ pub(crate) fn read_options(requested: &RequestedOptions) -> Options
         callers: requested.hands,
         life: MOST_WON,
         cap: MAX_CAP,
+        waits: Waits::ByBell,
     }
 }
 

@@ -82,6 +82,8 @@ pub(crate) fn fault_code(fault: TagFault) -> i32
         TagFault::Spent => -7,
         TagFault::Waiting => -8,
         TagFault::NotWaiting => -9,
+        // Never told to C: its pools are opened for the only kind of wait that it has.
+        TagFault::OtherWait => -37,
     }
 }
 

@@ -1,7 +1,5 @@
 -- The turn found the cell vacant, so this thread alone may put a hand there, and this hand fits.
-use Rattle.std.proofs.Common.{ℕ, arith, refl, sym, subst}
-use Rattle.tag_sets.specs.declared.hand.Hand.{Hand}
-use Rattle.tag_c.specs.Sharing.{SharesTags}
+use Rattle.tag_c.proofs.Uses.{arith, Hand, refl, SharesTags, subst, sym, ℕ}
 use Rattle.tag_c.proofs.hand_cells.put_into.Goals as goal
 
 pub put-requires : goal.put-requires

@@ -1,7 +1,5 @@
 -- The hand that was in the cell fits the claim, and the claim is one of this cell, so both have the same tags.
-use Rattle.std.proofs.Common.{ℕ, subst}
-use Rattle.tag_sets.specs.declared.hand.Hand.{Hand}
-use Rattle.tag_c.specs.Sharing.{SharesTags}
+use Rattle.tag_c.proofs.Uses.{Hand, SharesTags, subst, ℕ}
 use Rattle.tag_c.proofs.hand_cells.take_from.Goals as goal
 
 pub returns : goal.returns

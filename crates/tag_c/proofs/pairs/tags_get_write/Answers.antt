@@ -1,10 +1,6 @@
 -- A get of a hand is never refused as a bad handle.
-use Rattle.std.proofs.Common.{◌≡◌, ◌<◌, ℕ, ℤ, arith, Option, Result, sym, ◌∙◌}
-use lib.Signed.{mag}
-use Rattle.tag_sets.specs.declared.fault.TagFault.{TagFault}
-use Rattle.tag_c.specs.declared.status.Status.TheVariants.{BadHandle}
-use Rattle.tag_c.specs.Codes.{code_of, code_of_get}
-use Rattle.tag_c.specs.Left.{answer_of}
+use Rattle.std.specs.Prelude.{◌<◌, ◌≡◌}
+use Rattle.tag_c.proofs.Uses.{answer_of, arith, BadHandle, code_of, code_of_get, mag, Option, Result, sym, TagFault, ℕ, ℤ, ◌∙◌}
 use Rattle.tag_c.proofs.Calling.{as_stored, stored}
 use Rattle.tag_c.proofs.pairs.tags_get_write.Goals as goal
 

@@ -1,15 +1,7 @@
 -- The pool that fills the handle was opened with the converted options; each early return has a reason of its own.
-use Rattle.std.proofs.Common.{arith, ◌≡◌, ◌⊎◌, Option, Some, None, inl, inr, refl, sym, subst, ◌∙◌}
-use Rattle.std.specs.Arc.{arc_value}
-use Rattle.tag_sets.specs.declared.fault.SetFault.TheVariants.{Memory}
+use Rattle.std.specs.Prelude.{◌≡◌, ◌⊎◌}
+use Rattle.tag_c.proofs.Uses.{arc_value, arith, BadFlag, CacheTooLarge, FailsFirst, Handle, inl, inr, Memory, None, NotEmpty, NotOpened, Object, open_checks, Opens, OpensPool, Option, options_of, PassesAll, refl, RefusesOpen, Some, subst, sym, ◌∙◌}
 use Rattle.tag_queue.specs.declared.queue.Options.{Options}
-use Rattle.refusals.specs.Refusals.{FailsFirst, PassesAll}
-use Rattle.tag_sets.specs.Refusals.{open_checks}
-use Rattle.tag_c.specs.declared.handle.Handle.{Handle}
-use Rattle.tag_c.specs.declared.object.Object.{Object}
-use Rattle.tag_c.specs.declared.status.Status.TheVariants.{NotEmpty, BadFlag, NotOpened, CacheTooLarge}
-use Rattle.tag_c.specs.Exports.{RefusesOpen, OpensPool, options_of}
-use Rattle.tag_c.specs.Pools.{Opens}
 use Rattle.tag_c.proofs.Refusing.{refuses, refused, fault_below}
 use Rattle.tag_c.proofs.Flags.{is_some_of, not_some_of, empty_of}
 use Rattle.tag_c.proofs.pools.open_into.Goals as goal

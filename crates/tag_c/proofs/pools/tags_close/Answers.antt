@@ -1,8 +1,6 @@
 -- Only an object that is a pool without hands out is taken apart; in all other cases the handle gets its object back.
-use Rattle.std.proofs.Common.{rules, ◌≡◌, Some, None, inl, inr, refl, sym, subst, ◌∙◌}
-use Rattle.tag_c.specs.declared.object.Object.{Object}
-use Rattle.tag_c.specs.declared.status.Status.TheVariants.{BadHandle, HandLost}
-use Rattle.tag_c.specs.Exports.{RefusesClose, Ends}
+use Rattle.std.specs.Prelude.{◌≡◌}
+use Rattle.tag_c.proofs.Uses.{BadHandle, Ends, HandLost, inl, inr, None, Object, refl, RefusesClose, rules, Some, subst, sym, ◌∙◌}
 use Rattle.tag_c.proofs.Refusing.{refuses, refused, no_pool, has_pool, pool_there, closes_of, close_below}
 use Rattle.tag_c.proofs.pools.tags_close.Goals as goal
 use Rattle.tag_c.proofs.pools.tags_close.Goals.{in-Ok-false, in-Err}

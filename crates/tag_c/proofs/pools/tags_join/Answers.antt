@@ -1,11 +1,6 @@
 -- The pool's handle keeps its pool in every case; the other was empty, and is filled only with a hand of it.
-use Rattle.std.proofs.Common.{rules, ◌≡◌, ℕ, Option, Some, None, inl, inr, refl, sym, subst, ◌∙◌}
-use Rattle.tag_sets.specs.declared.fault.SetFault.TheVariants.{Memory}
-use Rattle.tag_sets.specs.declared.tags.Tags.{Tags}
-use Rattle.tag_c.specs.declared.handle.Handle.{Handle}
-use Rattle.tag_c.specs.declared.object.Object.{Object}
-use Rattle.tag_c.specs.declared.status.Status.TheVariants.{BadHandle, NotEmpty, NotOpened}
-use Rattle.tag_c.specs.Exports.{RefusesJoin, JoinsKind, JoinsPool, GaveBackBy, IsPoolOf, IsMemberIn}
+use Rattle.std.specs.Prelude.{◌≡◌}
+use Rattle.tag_c.proofs.Uses.{BadHandle, GaveBackBy, Handle, inl, inr, IsMemberIn, IsPoolOf, JoinsKind, JoinsPool, Memory, None, NotEmpty, NotOpened, Object, Option, refl, RefusesJoin, rules, Some, subst, sym, Tags, ℕ, ◌∙◌}
 use Rattle.tag_c.proofs.Calling.{stored}
 use Rattle.tag_c.proofs.Refusing.{refuses, refused, no_pool, join_below, refuses_join, joiner, joined}
 use Rattle.tag_c.proofs.Flags.{is_some_of, not_some_of, empty_of}

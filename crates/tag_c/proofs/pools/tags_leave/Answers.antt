@@ -1,9 +1,6 @@
 -- Only an object that is a hand is taken apart; a pool is put back, and an empty handle stays empty.
-use Rattle.std.proofs.Common.{rules, ◌≡◌, ℕ, Option, None, inl, refl, sym, subst}
-use Rattle.tag_sets.specs.declared.tags.Tags.{Tags}
-use Rattle.tag_c.specs.declared.object.Object.{Object}
-use Rattle.tag_c.specs.declared.status.Status.TheVariants.{BadHandle}
-use Rattle.tag_c.specs.Exports.{RefusesLeave, IsMemberIn, IsHandIn}
+use Rattle.std.specs.Prelude.{◌≡◌}
+use Rattle.tag_c.proofs.Uses.{BadHandle, inl, IsHandIn, IsMemberIn, None, Object, Option, refl, RefusesLeave, rules, subst, sym, Tags, ℕ}
 use Rattle.tag_c.proofs.Refusing.{refuses, no_hand, hand_there}
 use Rattle.tag_c.proofs.pools.tags_leave.Goals as goal
 

@@ -1,28 +1,7 @@
 -- A `ErasedPointer` without an object owns nothing, so a null pointer will do.
-use Rattle.std.proofs.Common.{◌≡◌, List, [], ◌∷◌, ◌++◌, Option, None, refl, sym, subst}
-use mir.Val.{Val}
-use base.Logic.{SProp, ent, emp, id⊢}
-use base.Fml.{ftrue}
-use prog.Wp.{WpFn}
-use types.Kit.{‵, raw, ◌⊛◌, ◌$◌, ◌∵◌, !, qed, by, move, keep, split, fsplit, fjoin, suffices, use0}
-use types.Run.{lit, no_more, and_then, returns, enter}
-use types.ByLocal.{alloc_all, pass_all, free_all, look_at, get, sets}
-use types.Part.{agg}
-use contract.Monad.{fact, fact_i}
-use contract.Running.{tables}
-use denote.Exit.{yes}
-use denote.RattleType.{owns}
-use denote.Signature.{types_at, plain}
-use denote.RawPtr.{null_ptr, ptr_val}
-use denote.Param.{layout}
-use mir.Val.{has_ty}
-use lib.Dec.{lit<}
-use Rattle.core.proofs.alloc.Calls.{handle_tells}
-use Rattle.std_alloc.proofs.ResultValues.{and_tt}
-use Rattle.tag_c.specs.declared.object.Object.{Object}
-use denote.Steps.{nothing}
-use denote.Triple.Walked.{Stays, stay_dropped, walk_of, Goes-dropped}
-use Rattle.std.proofs.raw_atomic.Walks.{proved_at, leaves}
+use Rattle.std.specs.Prelude.{◌++◌, ◌∷◌, ◌≡◌}
+use Rattle.tag_c.proofs.Uses.{ !, [], agg, alloc_all, and_then, and_tt, by, emp, ent, enter, fact, fact_i, fjoin, free_all, fsplit, ftrue, get, Goes-dropped, handle_tells, has_ty, id⊢, keep, layout, leaves, List, lit, lit<, look_at, move, no_more, None, nothing, null_ptr, Object, Option, owns}
+use Rattle.tag_c.proofs.Uses.{pass_all, plain, proved_at, ptr_val, qed, raw, refl, returns, sets, split, SProp, stay_dropped, Stays, subst, suffices, sym, tables, types_at, use0, Val, walk_of, WpFn, yes, ‵, ◌$◌, ◌∵◌, ◌⊛◌}
 use Rattle.std_heap.specs.contracts.Global as heap
 use Rattle.tag_c.proofs.Words.{both, heap_al, erased_in}
 use Rattle.tag_c.specs.contracts.erased.ErasedPointer.empty.{ended, clauses}

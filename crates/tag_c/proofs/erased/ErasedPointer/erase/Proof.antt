@@ -1,25 +1,8 @@
 -- A `BoxParts` and an `ErasedPointer` have the same words and own the same memory, so only the type of the pointer changes.
-use Rattle.std.proofs.Common.{◌≡◌, List, [], ◌∷◌, Some, refl}
-use mir.Val.{Val, vptr}
-use base.Logic.{SProp, emp}
-use base.Fml.{ftrue}
-use prog.Wp.{WpFn}
-use types.Kit.{‵, raw, ◌⊛◌, ◌$◌, ◌∵◌, !, qed, by, move, keep, split, fsplit, fjoin, suffices, use0}
-use types.Run.{stop, fld, of_opd, no_more, and_then, returns, enter}
-use types.ByLocal.{alloc_all, pass_all, free_all, look_at, get, get_in, sets}
-use types.Part.{agg, sub, whole}
-use contract.Monad.{fact, fact_i}
-use contract.Running.{tables}
-use denote.Exit.{yes}
-use denote.RattleType.{RattleType, owns}
-use denote.Signature.{types_at, plain}
-use denote.RawPtr.{block_ptr}
-use denote.Steps.{nothing}
-use denote.Triple.Walked.{Stays, stay_dropped, walk_of, Goes-dropped}
-use Rattle.std.proofs.raw_atomic.Walks.{proved_at, leaves}
+use Rattle.std.specs.Prelude.{◌∷◌, ◌≡◌}
+use Rattle.tag_c.proofs.Uses.{ !, [], agg, alloc_all, and_then, block_ptr, by, emp, enter, fact, fact_i, fjoin, fld, free_all, fsplit, ftrue, get, get_in, ghosts, Goes-dropped, keep, leaves, List, look_at, move, no_more, nothing, of_opd, owns, pass_all, plain, proved_at, qed, RattleType, raw, refl}
+use Rattle.tag_c.proofs.Uses.{returns, sets, Some, split, SProp, stay_dropped, Stays, stop, sub, suffices, tables, the_row_laws, types_at, use0, Val, vptr, walk_of, whole, WpFn, yes, ‵, ◌$◌, ◌∵◌, ◌⊛◌}
 use Rattle.std_heap.specs.contracts.Global as heap
-use Rattle.std_heap.specs.contracts.GlobalAllocator.TheImpl.{ghosts}
-use Rattle.std_heap.proofs.Global.TheLaws.{the_row_laws}
 use Rattle.tag_c.specs.contracts.object.Object as obj
 use Rattle.tag_c.proofs.Words.{both, run_on, BoxParts, parts_good, parts_out, erased_in}
 use Rattle.tag_c.specs.contracts.erased.ErasedPointer.erase.{ended, clauses}

@@ -1,36 +1,14 @@
 -- The object is lent where it is, and whatever is left behind the reference is the object that the `ErasedPointer` then owns.
-use Rattle.std.proofs.Common.{◌≡◌, ℕ, MutBor, List, [], ◌∷◌, Some, refl, sym}
-use seplogic.Ra.Ura.{Ura}
-use mir.Syntax.{named}
-use mir.Raw.{raw as bare}
-use mir.Val.{Val, vptr}
+use Rattle.std.specs.Prelude.{◌∷◌, ◌≡◌}
+use Rattle.tag_c.proofs.Uses.{ !, [], addr, alloc_all, at_ret, await, bare, block_ptr, blocks, box_owns, cell_at, done, drop, ends_at, ent, enter, Env, env, ErasedPointer, exec, fact, first, fjoin, fjoin3, fld, flft, Fml, fpack, frame, free_all, fsep, fsplit, fsplit3, ftrue, get, ghosts, GName}
+use Rattle.tag_c.proofs.Uses.{Goes-spent_ref, group, heard, id⊢, join, keep, later, List, load, Logic, lone, look_at, look_in, mem, move, mut_ref_to, MutBor, named, no, nothing, Object, of_opd, opens, part_at, pass_all, pick, plain, proved, Ptr, ptr_val, qed, raw, refl, returns, rewrite, says, sem}
+use Rattle.tag_c.proofs.Uses.{sep, sets, sets_last, Some, some, split, split3, SProp, stay_dropped, Stays, stop, sub, suffices, sym, tables, through, Ura, use1, Val, vptr, walk_of, whole, with_object, ‵, ℕ, ◌$◌, ◌∵◌, ◌⊛◌}
 use base.Fraction.{full_share}
-use base.Logic.{SProp, ent, sep, id⊢}
-use base.Fml.{Fml, GName, ftrue, fsep, flft}
-use prog.Wp.{Env}
-use types.Logic.{Logic, sem}
-use types.Kit.{‵, raw, ◌⊛◌, some, later, at_ret, ◌$◌, ◌∵◌, !, qed, move, keep, drop, use1, split, split3, join, group, pick, await, rewrite, suffices, frame, fsplit, fsplit3, fjoin, fjoin3, fpack, done}
-use types.Run.{stop, fld, load, addr, of_opd, first, blocks, exec, returns, enter}
-use types.ByLocal.{alloc_all, pass_all, free_all, look_at, get, through, sets, sets_last, env}
-use types.Part.{whole, sub, look_in}
-use contract.Monad.{fact}
-use contract.Running.{tables}
-use denote.Exit.{no}
 use denote.Follow.{follows, Part, lends_Part}
-use denote.Memory.{cell_at, lone, mem, part_at, part_of}
-use denote.RawPtr.{Ptr, block_ptr, ptr_val}
+use denote.Memory.{part_of}
 use denote.Ref.{MutRef, mut_vals, mut_Tells}
-use denote.Signature.{plain, mut_ref_to}
-use denote.Steps.{nothing, opens, heard}
-use denote.Triple.Walked.{Stays, says, stay_dropped, walk_of, ends_at, Goes-spent_ref}
-use Rattle.std.proofs.raw_atomic.Walks.{proved}
 use Rattle.std_alloc.proofs.VecSteps.Shapes.{after}
-use Rattle.std_alloc.specs.Box.Ownership.{box_owns}
 use Rattle.std_heap.specs.contracts.Global as heap
-use Rattle.std_heap.specs.contracts.GlobalAllocator.TheImpl.{ghosts}
-use Rattle.tag_c.specs.declared.erased.ErasedPointer.{ErasedPointer}
-use Rattle.tag_c.specs.declared.object.Object.{Object}
-use Rattle.tag_c.specs.Lending.{with_object}
 use Rattle.tag_c.specs.contracts.object.Object.{the_row as O}
 use Rattle.tag_c.specs.contracts.erased.ErasedPointer.{the_row as R}
 use Rattle.tag_c.specs.contracts.erased.ErasedPointer.lend as f

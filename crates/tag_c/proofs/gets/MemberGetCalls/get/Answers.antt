@@ -1,6 +1,5 @@
 -- A first try that wins is the get, and otherwise the call after it is made last.
-use Rattle.std.proofs.Common.{Ok, Some, refl, subst}
-use Rattle.tag_search.specs.declared.search.Unfinished.{Unfinished}
+use Rattle.tag_c.proofs.Uses.{Ok, refl, Some, subst, Unfinished}
 use Rattle.tag_search.specs.declared.search.Unfinished.TheVariants.{Full, Lost}
 use Rattle.tag_sets.specs.Begun.{BeginsGet}
 use Rattle.tag_c.proofs.Begun.{called, seen_in}

@@ -1,6 +1,5 @@
 -- The handle keeps its flag at 1 exactly while there is an object, so behind a flag of 1 there is one to lend.
-use Rattle.std.proofs.Common.{◌∙◌, refl, sym}
-use Rattle.tag_c.specs.Lending.{with_object}
+use Rattle.tag_c.proofs.Uses.{refl, sym, with_object, ◌∙◌}
 use Rattle.tag_c.proofs.Flags.{some_of, ends_full}
 use Rattle.tag_c.proofs.handle.Handle.lend.Goals as goal
 

@@ -1,8 +1,5 @@
 -- What finishes the get is with its first try what the call of `tag_sets` does, and its number fits into 32 bits.
-use Rattle.std.proofs.Common.{Ok, sym, ap, ◌∙◌}
-use Rattle.std.specs.Arc.{arc_value}
-use Rattle.tag_c.specs.Calls.{DoesGet}
-use Rattle.tag_c.specs.Codes.{code_of_found}
+use Rattle.tag_c.proofs.Uses.{ap, arc_value, code_of_found, DoesGet, Ok, sym, ◌∙◌}
 use Rattle.tag_c.proofs.Begun.{tried_in, finished}
 use Rattle.tag_c.proofs.Runs.{ordinary_fits}
 use Rattle.tag_c.proofs.member.Member.finish_get.Goals as goal

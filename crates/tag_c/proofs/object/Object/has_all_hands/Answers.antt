@@ -1,8 +1,5 @@
 -- An object that is a pool is a pool of the tags that it shares.
-use Rattle.std.proofs.Common.{refl, sym, subst}
-use Rattle.std.specs.Arc.{arc_value}
-use Rattle.tag_c.specs.declared.object.Kind.{Kind}
-use Rattle.tag_c.specs.Exports.{IsPoolIn}
+use Rattle.tag_c.proofs.Uses.{arc_value, IsPoolIn, Kind, refl, subst, sym}
 use Rattle.tag_c.proofs.object.Object.has_all_hands.Goals as goal
 
 pub returns-in-Pool-clause-ok : goal.returns-in-Pool-clause-ok

@@ -1,8 +1,5 @@
 -- An object that is a hand is a hand of the tags that it shares.
-use Rattle.std.proofs.Common.{refl, sym, subst}
-use Rattle.std.specs.Arc.{arc_value}
-use Rattle.tag_c.specs.declared.object.Kind.{Kind}
-use Rattle.tag_c.specs.Exports.{IsMemberIn}
+use Rattle.tag_c.proofs.Uses.{arc_value, IsMemberIn, Kind, refl, subst, sym}
 use Rattle.tag_c.proofs.object.Object.is_hand.Goals as goal
 
 pub returns-in-Member : goal.returns-in-Member

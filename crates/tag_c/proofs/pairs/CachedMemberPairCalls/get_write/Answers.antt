@@ -1,6 +1,5 @@
 -- The user holds the tag that it has just won, so the write succeeds.
-use Rattle.std.proofs.Common.{Ok, ap, refl, sym, ◌∙◌}
-use Rattle.tag_c.specs.Holders.{Caching}
+use Rattle.tag_c.proofs.Uses.{ap, Caching, Ok, refl, sym, ◌∙◌}
 use Rattle.tag_c.proofs.Pairing.{get_written, get_alone}
 use Rattle.tag_c.proofs.Runs.{each, ordinary_fits}
 use Rattle.tag_c.proofs.pairs.CachedMemberPairCalls.get_write.Goals as goal

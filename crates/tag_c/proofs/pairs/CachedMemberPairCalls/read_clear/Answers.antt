@@ -1,6 +1,5 @@
 -- Once the read has found a value the user still holds the tag, so the clear succeeds.
-use Rattle.std.proofs.Common.{refl}
-use Rattle.tag_c.specs.Holders.{Caching}
+use Rattle.tag_c.proofs.Uses.{Caching, refl}
 use Rattle.tag_c.proofs.Pairing.{cleared_read}
 use Rattle.tag_c.proofs.pairs.CachedMemberPairCalls.read_clear.Goals as goal
 

@@ -1,6 +1,5 @@
 -- Once the read has found a value the hand still holds the tag, so the clear succeeds.
-use Rattle.std.proofs.Common.{rules, refl}
-use Rattle.tag_c.specs.Holders.{Bare}
+use Rattle.tag_c.proofs.Uses.{Bare, refl, rules}
 use Rattle.tag_c.proofs.Calling.{through}
 use Rattle.tag_c.proofs.Pairing.{cleared_read}
 use Rattle.tag_c.proofs.pairs.MemberPairCalls.read_clear.Goals as goal

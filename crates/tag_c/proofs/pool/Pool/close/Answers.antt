@@ -1,9 +1,6 @@
 -- The spare hands belong to the tags that were shared.
-use Rattle.std.proofs.Common.{◌≡◌, All, IfNone, subst}
-use Rattle.std.specs.Arc.{arc_value}
-use Rattle.tag_sets.specs.Hands.{IsHandOf}
-use Rattle.tag_c.specs.declared.pool_state.PoolState.{PoolState}
-use Rattle.tag_c.specs.Pools.{HasHands}
+use Rattle.std.specs.Prelude.{◌≡◌}
+use Rattle.tag_c.proofs.Uses.{All, arc_value, HasHands, IfNone, IsHandOf, PoolState, subst}
 use Rattle.tag_c.proofs.pool.Pool.close.Goals as goal
 
 pub gather-requires : goal.gather-requires

@@ -1,7 +1,6 @@
 -- The hand comes from the pool, and the only call before it is returned moves its hints, if they are to be moved.
-use Rattle.std.proofs.Common.{arith, ◌≡◌, ◌≤◌, min, sym, ap, subst, ◌∙◌}
-use Rattle.std.specs.Arc.{arc_value}
-use Rattle.tag_c.specs.declared.pool_state.PoolState.{PoolState}
+use Rattle.std.specs.Prelude.{◌≡◌, ◌≤◌}
+use Rattle.tag_c.proofs.Uses.{ap, arc_value, arith, min, PoolState, subst, sym, ◌∙◌}
 use Rattle.tag_c.proofs.Joining.{gives_as_it_was, gives_placed}
 use Rattle.tag_c.proofs.Owners.{same_pool}
 use Rattle.tag_c.proofs.pool.Pool.join.Goals as goal

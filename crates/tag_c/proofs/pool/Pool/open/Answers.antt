@@ -1,8 +1,6 @@
 -- The spare hands are those with which the tags were opened.
-use Rattle.std.proofs.Common.{◌≡◌, ℕ, All, sym, subst}
-use Rattle.std.specs.Arc.{arc_value}
-use Rattle.tag_sets.specs.declared.tags.Tags.{Tags}
-use Rattle.tag_sets.specs.Hands.{IsHandOf}
+use Rattle.std.specs.Prelude.{◌≡◌}
+use Rattle.tag_c.proofs.Uses.{All, arc_value, IsHandOf, subst, sym, Tags, ℕ}
 use Rattle.tag_c.proofs.Collected.{All-reverse}
 use Rattle.tag_c.proofs.pool.Pool.open.Goals as goal
 

@@ -1,7 +1,6 @@
 -- A hand shares its tags with the cell that it is taken from, and the cell belongs to these tags, so the hand does.
-use Rattle.std.proofs.Common.{◌≡◌, [], ◌∷◌, ◌++◌, All, sym, subst, ◌∙◌}
-use Rattle.std.proofs.lemmas.List.Elements.{All-get_or, All-push}
-use Rattle.tag_sets.specs.Hands.{IsHandOf}
+use Rattle.std.specs.Prelude.{◌++◌, ◌∷◌, ◌≡◌}
+use Rattle.tag_c.proofs.Uses.{[], All, All-get_or, All-push, IsHandOf, subst, sym, ◌∙◌}
 use Rattle.tag_c.proofs.Collected.{one_more}
 use Rattle.tag_c.proofs.Owners.{one_owner}
 use Rattle.tag_c.proofs.pool_state.PoolState.collect.Goals as goal

@@ -1,8 +1,6 @@
 -- The hands collected so far belong to the tags, and follow the spare ones.
-use Rattle.std.proofs.Common.{◌≡◌, ℕ, ◌++◌, List}
-use Rattle.std.specs.Prelude.{All}
-use Rattle.tag_sets.specs.declared.hand.Hand.{Hand}
-use Rattle.tag_sets.specs.Hands.{IsHandOf}
+use Rattle.tag_c.proofs.Uses.{Hand, IsHandOf, List, ℕ}
+use Rattle.std.specs.Prelude.{All, ◌++◌, ◌≡◌}
 use Rattle.tag_c.proofs.pool_state.PoolState.collect.Given as goal
 
 abbrev pub invariant-loop-cell : goal.invariant-loop-cell

@@ -1,7 +1,5 @@
 -- The spare hands and those that were in the cells belong to the tags, and they are those that are gathered.
-use Rattle.std.proofs.Common.{ℕ, All, refl, sym, subst}
-use Rattle.tag_sets.specs.declared.tags.Tags.{Tags}
-use Rattle.tag_sets.specs.Hands.{IsHandOf}
+use Rattle.tag_c.proofs.Uses.{All, IsHandOf, refl, subst, sym, Tags, ℕ}
 use Rattle.tag_c.proofs.Collected.{gathers, misses_one}
 use Rattle.tag_c.proofs.pool_state.PoolState.gather.Goals as goal
 

@@ -1,10 +1,6 @@
 -- All hands are there after a resize; a refusal leaves the tags and the cells as they were, for the cause that is told.
-use Rattle.std.proofs.Common.{◌≡◌, ℕ, All, ap, refl, sym, subst, ◌∙◌}
-use Rattle.std.proofs.lemmas.List.Elements.{All-take}
-use Rattle.tag_queue.specs.declared.resizes.ResizeCause.{ResizeCause}
-use Rattle.tag_sets.specs.declared.tags.Tags.{Tags}
-use Rattle.tag_sets.specs.Hands.{IsHandOf, reserved_of, total_of}
-use Rattle.tag_sets.specs.Gathering.{hands_of}
+use Rattle.std.specs.Prelude.{◌≡◌}
+use Rattle.tag_c.proofs.Uses.{All, All-take, ap, hands_of, IsHandOf, refl, reserved_of, ResizeCause, subst, sym, Tags, total_of, ℕ, ◌∙◌}
 use Rattle.tag_c.proofs.Collected.{as_many, as_many_there, same_count, same_total, all_still_own}
 use Rattle.tag_c.proofs.Resizing.{resizes, refused_ends}
 use Rattle.tag_c.proofs.pool_state.PoolState.resize.Goals as goal

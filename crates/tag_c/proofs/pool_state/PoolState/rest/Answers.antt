@@ -1,8 +1,5 @@
 -- Each cell belongs to the same tags as the hand, so the hand fits into any of them.
-use Rattle.std.proofs.Common.{ℕ, arith, sym, subst}
-use Rattle.std.proofs.lemmas.List.Elements.{All-get_or}
-use Rattle.tag_sets.specs.declared.hand.Hand.{Hand}
-use Rattle.tag_sets.specs.Hands.{IsHandOf}
+use Rattle.tag_c.proofs.Uses.{All-get_or, arith, Hand, IsHandOf, subst, sym, ℕ}
 use Rattle.tag_c.proofs.Owners.{sharing}
 use Rattle.tag_c.proofs.pool_state.PoolState.rest.Goals as goal
 

@@ -1,8 +1,6 @@
 -- A hand shares its tags with the cell that it is taken from, and the cell belongs to these tags, so the hand does.
-use Rattle.std.proofs.Common.{ℕ, ◌-◌, arith, sym, subst}
-use Rattle.std.proofs.lemmas.List.Elements.{All-get_or}
-use Rattle.tag_sets.specs.declared.hand.Hand.{Hand}
-use Rattle.tag_sets.specs.Hands.{IsHandOf}
+use Rattle.std.specs.Prelude.{◌-◌}
+use Rattle.tag_c.proofs.Uses.{All-get_or, arith, Hand, IsHandOf, subst, sym, ℕ}
 use Rattle.tag_c.proofs.Owners.{one_owner}
 use Rattle.tag_c.proofs.pool_state.PoolState.take_hand.Goals as goal
 

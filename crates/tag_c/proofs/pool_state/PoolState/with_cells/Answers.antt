@@ -1,7 +1,5 @@
 -- Each cell is made beside a hand of the tags.
-use Rattle.std.proofs.Common.{arith, All, sym, subst}
-use Rattle.std.proofs.lemmas.List.Elements.{All-get_or, All-push}
-use Rattle.tag_sets.specs.Hands.{IsHandOf}
+use Rattle.tag_c.proofs.Uses.{All, All-get_or, All-push, arith, IsHandOf, subst, sym}
 use Rattle.tag_c.proofs.pool_state.PoolState.with_cells.Goals as goal
 
 pub loop-hand-preserved : goal.loop-hand-preserved

@@ -1,7 +1,6 @@
 -- There is a cell for each hand so far, and room for one for each other hand.
-use Rattle.std.proofs.Common.{◌≡◌, ◌≤◌, length, vec_len, vec_capacity}
-use Rattle.std.specs.Prelude.{All}
-use Rattle.tag_sets.specs.Hands.{IsHandOf}
+use Rattle.tag_c.proofs.Uses.{IsHandOf, length, vec_capacity, vec_len}
+use Rattle.std.specs.Prelude.{All, ◌≡◌, ◌≤◌}
 use Rattle.tag_c.proofs.pool_state.PoolState.with_cells.Given as goal
 
 abbrev pub invariant-loop-hand : goal.invariant-loop-hand

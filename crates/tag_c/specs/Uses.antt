@@ -1,0 +1,23 @@
+-- The names that several definitions use, of the library and the crates below.
+pub use Rattle.std.specs.Arc.{arc_value}
+pub use Rattle.std.specs.Prelude.{[], All, Bool, Err, false, IfNone, IfOk, IfSome, IsSome, IsTrue, length, List, max, min, nat_eq, negsuc, None, Ok, OnErr, OnOk, Option, pos, Result, reverse, Some, suc, true, zero, ℕ, ℤ, ⊤}
+pub use Rattle.refusals.specs.Refusals.{Checks, FailsFirst, PassesAll, RefusesBy}
+pub use Rattle.tag_layout.specs.Layout.{HasShift, words}
+pub use Rattle.tag_layout.specs.declared.layout.TheConstants.{MAX_DEPTH}
+pub use Rattle.tag_search.specs.declared.found.Found.{Found}
+pub use Rattle.tag_queue.specs.declared.gather.QueueTotals.{QueueTotals}
+pub use Rattle.tag_queue.specs.declared.queue.Options.{Options}
+pub use Rattle.tag_queue.specs.declared.queue.Waits.TheVariants.{ByBell}
+pub use Rattle.tag_sets.specs.Hands.{agent_of, Changes, hint_of, IsHandOf, layout_of, queue_of, reserved_of, standing_of, total_of, waits_of}
+pub use Rattle.tag_sets.specs.Opening.{HasRange, IsOpen}
+pub use Rattle.tag_sets.specs.Refusals.{open_checks}
+pub use Rattle.tag_sets.specs.declared.fault.SetFault.{SetFault}
+pub use Rattle.tag_sets.specs.declared.fault.SetFault.TheVariants.{CallerCount, CapTooLarge, LifeTooLong, Memory, ReservedTooLarge, ShiftTooLarge, TotalTooLarge, Memory as WantOfMemory}
+pub use Rattle.tag_sets.specs.declared.fault.TagFault.{TagFault}
+pub use Rattle.tag_sets.specs.declared.fault.TagFault.TheVariants.{BadCount, NoReserved, NoSuchTag, NotHeld, NotPosted, NotWaiting, OtherWait, Spent, TooShallow, Waiting}
+pub use Rattle.tag_sets.specs.declared.hand.Hand.{Hand}
+pub use Rattle.tag_sets.specs.declared.kind.Kind.{Kind, Kind as Set}
+pub use Rattle.tag_sets.specs.declared.kind.Kind.TheVariants.{Ordinary, Reserved}
+pub use Rattle.tag_sets.specs.declared.tags.Tags.{Tags}
+pub use Rattle.tag_cache.specs.Caches.{hand_of, keeping_of, KeepsNone, most_of}
+pub use Rattle.tag_cache.specs.Same.{SameTags}
