@@ -1,81 +1,23 @@
--- With one caller, what a call adds to the caller's steps decides what becomes of both sets.
-use Rattle.std.proofs.Common.{◌≡◌, ℕ, ◌+◌, ◌-◌, ◌≤◌, Bool, true, false, ◌&&◌, cond, if◌then◌else◌, nat_lt, List, Option, Result, Ok, Err, refl, sym, ap, ◌∙◌, arith}
-use Rattle.tag_board.proofs.Uses.{lt-ltb, le-ltb, ltb-true, ltb-false, Options, Hint, TagFault, NotPosted, Kind, Ordinary, Reserved, Shown, AloneSet, AloneSets, AloneGets, AloneBatch, AloneClears, AloneClearsList, AlonePosts, AloneTakes, AloneListsBusy, AloneShows, AloneDumps, AloneResizes, AreUntouched, is_busy_in, is_aside_in, is_busy_tag, set_left, sets_left, untouched, Searchers, FindsTag, FindsRun, PutsTag, GivesTags, PostsTag, TriesTag, CountsFound, PacksFound, ListsFound, ResizesSets}
-use Rattle.tag_search.specs.Search.{Visit}
+-- If a hand is the only one, what its call does to its agents decides what becomes of both sets.
+use Rattle.std.proofs.Common.{◌≡◌, ℕ, ◌+◌, ◌-◌, ◌<◌, ◌≤◌, Bool, true, false, ◌&&◌, cond, if◌then◌else◌, nat_lt, List, map, Option, None, Ok, Err, refl, sym, ap, ◌∙◌, subst, arith}
+use Rattle.tag_board.proofs.Uses.{Agent, IsAlone, lt-ltb, le-ltb, ltb-true, ltb-false, own_found, pow_pos, Visit, NotPosted, Hand, Kind, Layout, Ordinary, Reserved, Shown, Tags, IsHandOf, agent_of, hint_of, layout_of, place_of, record_in, reserved_of, split_of, kind_of, number_in_set, other_kind, word_bits, word_bits-le, word_of, AloneSet, AloneSets, AloneGets, AloneBatch, AloneClearsList, AloneTakes, AloneListsBusy, AloneShows, AloneDumps, ChangesOne, count_below-same, first_of, is_busy_in, is_busy_tag, Record, Shape, Step, put_back, post_in, give_back, set_left, sets_of, take_in, ChangesTag}
+use Rattle.tag_search.proofs.AloneCallers.{own_put}
+use Rattle.tag_search.proofs.AloneFacts.{EachFound}
+use Rattle.tag_queue.specs.Agents.{caller_of}
+use Rattle.tag_queue.specs.Gets as queue_gets
+use Rattle.tag_sets.specs.Batches as batches
+use Rattle.tag_sets.specs.Busy as busy
+use Rattle.tag_sets.specs.Clears as clears
+use Rattle.tag_sets.specs.Dumps as dumps
+use Rattle.tag_sets.specs.Gets as gets
 use Rattle.tag_sets.specs.Looks as looks
-use Rattle.tag_board.specs.Searches.{Searcher, Begins, reserved_known, is_found_busy}
-use Rattle.tag_board.proofs.Only.{AreOnly}
-use Rattle.tag_board.proofs.AloneSteps.{choose, choose_run, put, post, take, miss, fresh}
+use Rattle.tag_sets.specs.Shows as shows
+use Rattle.tag_sets.specs.Slots as slots
+use Rattle.tag_board.proofs.Only.{Alters, AreAlone, both_same, narrow, set_of}
+use Rattle.tag_board.proofs.AloneSteps as steps
 use Rattle.tag_board.proofs.AloneRuns.{give}
-use Rattle.tag_board.proofs.Seats.{both_same}
-use Rattle.tag_board.proofs.AloneLooks.{looked, seen_busy, seen_aside, counted}
-
--- steps that are added so, and all that happened to both sets, change the sets so
-pub record Decides (works : Searchers → Searchers → Type 0) (alters : AloneSets → AloneSets → Type 0) : Type 0 where
-  pub sets : (s t : Searchers) → AreOnly t → works s t → alters (sets_left s) (sets_left t)
-
--- a call that adds no steps leaves both sets unchanged
-pub rests : Decides (λ s t. t ≡ s) (λ v w. w ≡ v)
-rests = record { sets = λ s t only same. ap sets_left same }
-
-pub finds : (kind : Kind) (visits : AloneSet → List Visit) (answer : Option ℕ)
-    → Decides (FindsTag kind (λ (s : Searcher). visits (set_left s)) answer) (AloneGets kind visits answer)
-finds kind visits answer = record {
-  sets = λ s t only f. (f.0, f.1, (choose (s kind) (t kind) (only kind) visits f.0 f.2.0, ap set_left f.2.1));
-}
-
-pub finds_run : (n : ℕ) (answer : Option (ℕ × ℕ)) → Decides (FindsRun n answer) (AloneBatch n answer)
-finds_run n answer = record {
-  sets = λ s t only f. record {
-    around = λ r. let none = f.around r in (none.0, ap sets_left none.1);
-    choice = λ r. let one = f.found r in (
-      one.0,
-      one.1,
-      (choose_run (s Ordinary) (t Ordinary) (only Ordinary) n one.0 one.2.0, ap set_left one.2.1),
-    );
-  };
-}
-
-pub puts : (tag : ℕ) → Decides (PutsTag tag) (AloneClears tag)
-puts tag = record { sets = λ s t only c. (put _ _ (only _) _ c.0, ap set_left c.1) }
-
-pub gives : (tags : List ℕ) → Decides (GivesTags tags) (AloneClearsList tags)
-gives tags = record { sets = λ s t only c. (give _ _ (only Ordinary) _ c.0, ap set_left c.1) }
-
-pub posts : (tag : ℕ) → Decides (PostsTag tag) (AlonePosts tag)
-posts tag = record { sets = λ s t only c. (post _ _ _ c.0.0 c.0.1, ap set_left c.1) }
-
-pub tries : (tag : ℕ) (r : Result (Unit {0}) TagFault) → Decides (TriesTag tag r) (λ v. AloneTakes tag v r)
-tries tag (Ok done) = record {
-  sets = λ s t only c. let took = take _ _ (only _) _ c.0.0 c.0.1 in (took.0, (took.1, ap set_left c.1));
-}
-tries tag (Err NotPosted) = record {
-  sets = λ s t only c. let missed = miss _ _ (only _) _ c.0 in (missed.0, both_same _ (missed.1, ap set_left c.1));
-}
-tries tag (Err _) = record { sets = λ s t only c. ap sets_left c }
-
--- what the looks of a set found is what there is
-pub counts : (kind : Kind) (shown : Shown) → Decides (CountsFound kind shown) (λ v. AloneShows kind v shown)
-counts kind shown = record {
-  sets = λ s t only c.
-      let a = s kind in let b = t kind in let found : List (ℕ × ℕ) = c.0 in let l = c.2.0 in record {
-        busy = ap (λ (x : Shown). x.busy) c.1
-            ∙ counted a b (only kind) found l (looks.is_busy_in a.layout found) (is_busy_in (set_left a))
-            (seen_busy a b (only kind) found l);
-        cleared = ap (λ (x : Shown). x.cleared) c.1
-            ∙ counted a b (only kind) found l (looks.is_aside_in a.layout found) (is_aside_in (set_left a))
-            (seen_aside a b (only kind) found l);
-        same = both_same kind (looked a b (only kind) found l, ap set_left c.2.1);
-      };
-}
-
-pub packs : (kind : Kind) (bytes : List ℕ) → Decides (PacksFound kind bytes) (λ v. AloneDumps kind v bytes)
-packs kind bytes = record {
-  sets = λ s t only c. record {
-    bits_are = λ tag. c.1 tag ∙ ap (λ (b : Bool). cond b 1 0) (seen_busy (s kind) (t kind) (only kind) c.0 c.2.0 tag);
-    same = both_same kind (looked (s kind) (t kind) (only kind) c.0 c.2.0, ap set_left c.2.1);
-  };
-}
+use Rattle.tag_board.proofs.AloneLooks.{looked, seen}
+use Rattle.tag_board.proofs.Ranges.{shape_there}
 
 -- a tag is below the total exactly if its number is below the depth of the ordinary set
 above_split : (split depth tag : ℕ) → split ≤ tag → nat_lt tag (split + depth) ≡ nat_lt (tag - split) depth
@@ -85,49 +27,171 @@ above_split split depth tag high = elim (nat_lt (tag - split) depth) as
       | false ↦ (λ f. let past = ltb-false (tag - split) depth f in le-ltb tag (split + depth) (omega arith))
     ] refl
 
-module _ (s t : Searchers) (only : AreOnly t) (bits : List ℕ) (l : ListsFound bits s t) where
-  abbrev split : ℕ
-  split = reserved_known s
+module _ (tags : Tags ℕ) (old new : Hand ℕ) where
+  -- the search of a get, whose visits follow from the set, is the choice
+  pub finds : (kind : Kind) (visits : AloneSet → List Visit) (number answer : Option ℕ)
+      → answer ≡ gets.whole (first_of (layout_of tags Reserved).depth kind) number
+      → queue_gets.Searches (layout_of tags kind) (visits (sets_of tags old kind)) number
+      (caller_of (agent_of old kind)) (caller_of (agent_of new kind)) (hint_of old kind) (hint_of new kind)
+      → agent_of new (other_kind kind) ≡ agent_of old (other_kind kind)
+      → Alters tags (AloneGets kind visits answer) old new
+  finds kind visits number answer whole s other before after = let c = s.alone (before kind) in (
+    number,
+    whole,
+    (
+      record { layout = refl; choice = c.choice; posted = λ j. λ tag. c.posted tag j; hint = s.hint },
+      ap (set_of _) other,
+    ),
+  )
 
-  abbrev found_in : Kind → ℕ → Bool
-  found_in kind number = looks.is_busy_in (s kind).layout (l.found kind) number
-
-  busy : (kind : Kind) (number : ℕ) → (nat_lt number (s kind).layout.depth && found_in kind number)
-      ≡ is_busy_in (set_left (s kind)) number
-  busy kind = seen_busy (s kind) (t kind) (only kind) (l.found kind) (l.looks kind)
-
-  -- a tag is found busy exactly if it is busy
-  seen_tag : (tag : ℕ) → is_found_busy s l.found tag ≡ is_busy_tag (sets_left s) tag
-  seen_tag tag = elim (nat_lt tag split) as (λ (b : Bool). nat_lt tag split ≡ b
-      → (if b then found_in Reserved tag
-      else (nat_lt tag (split + (s Ordinary).layout.depth) && found_in Ordinary (tag - split)))
-      ≡ is_busy_in (sets_left s (if b then Reserved else Ordinary)) (if b then tag else (tag - split))) [
-        | true ↦ (λ low. ap (λ (b : Bool). b && found_in Reserved tag) (sym low) ∙ busy Reserved tag)
-        | false ↦ (λ high. ap (λ (b : Bool). b && found_in Ordinary (tag - split))
-            (above_split split (s Ordinary).layout.depth tag (ltb-false tag split high)) ∙ busy Ordinary (tag - split))
-      ] refl
-
-  bits_busy : AloneListsBusy (sets_left s) bits (sets_left t)
-  bits_busy = record {
-    bits_are = λ tag low. l.bits_are tag low ∙ ap (λ (b : Bool). cond b 1 0) (seen_tag tag);
-    same = λ j. λ kind. looked (s kind) (t kind) (only kind) (l.found kind) (l.looks kind) j;
+  pub finds_run : (n : ℕ) (answer : Option (ℕ × ℕ))
+      → ((hint_of old Ordinary).round_robin ≡ true → (answer ≡ None) × (new ≡ old))
+      → ((hint_of old Ordinary).round_robin ≡ false → gets.GetsBatch tags n answer old new)
+      → Alters tags (AloneBatch n answer) old new
+  finds_run n answer around straight before after = record {
+    around = λ t. let none = around t in (none.0, ap (sets_of tags) none.1);
+    choice = λ f. let g = straight f in let s = g.set.changed in let c = s.alone (before Ordinary) in (
+      g.number,
+      g.answer_is ∙ ap (λ (r : ℕ). gets.whole_run r g.number) (sym tags.reserved_is),
+      (
+        record { layout = refl; choice = c.choice; posted = λ j. λ tag. c.posted tag j; hint = s.hint },
+        ap (set_of _) g.set.other,
+      ),
+    );
   }
 
-pub lists : (bits : List ℕ) → Decides (ListsFound bits) (λ v. AloneListsBusy v bits)
-lists bits = record { sets = λ s t only l. bits_busy s t only bits l }
+  -- what the looks of a set found is what there is
+  pub counts : (kind : Kind) (shown : Shown) → shows.Shows tags kind shown old new
+      → Alters tags (λ v. AloneShows kind v shown) old new
+  counts kind shown s before after =
+      let depth : ℕ = (layout_of tags kind).depth in let at = seen tags kind s.found old new s.around (after kind) in
+      let inside : (f : ℕ → Bool) (k : ℕ) → k < depth → f k ≡ (nat_lt k depth && f k) =
+      λ f k low. ap (λ (b : Bool). b && f k) (sym (lt-ltb k depth low)) in record {
+        busy = ap (λ (x : Shown). x.busy) s.shown_is
+            ∙ count_below-same _ _ depth (λ k low. inside (looks.is_busy_in (layout_of tags kind) s.found) k low ∙ at.busy k);
+        cleared = ap (λ (x : Shown). x.cleared) s.shown_is
+            ∙ count_below-same _ _ depth (λ k low. inside (looks.is_aside_in (layout_of tags kind) s.found) k low ∙ at.aside k);
+        same = looked tags kind s.found old new s.around (after kind);
+      }
 
--- new sets, on which no step was made
-pub begins : (total reserved : ℕ) (options : Options) (s : Searchers) → Begins total reserved options s
-    → AreUntouched total reserved options (sets_left s)
-begins total reserved options s b = record {
-  ordinary_layout = b.ordinary_layout;
-  reserved_layout = b.reserved_layout;
-  untouched = λ kind. fresh (s kind) (b.no_steps kind)
-      ∙ ap (λ (h : Hint). record (untouched (s kind).layout false) { hint = h }) (b.hint kind);
-}
+  pub packs : (kind : Kind) (bytes : List ℕ) → dumps.Packs (layout_of tags kind) kind bytes old new
+      → Alters tags (λ v. AloneDumps kind v bytes) old new
+  packs kind bytes p before after = record {
+    bits_are = λ tag. p.bits_are tag
+        ∙ ap (λ (b : Bool). cond b 1 0) ((seen tags kind p.found old new p.around (after kind)).busy tag);
+    same = looked tags kind p.found old new p.around (after kind);
+  }
 
--- a resized set, on which no step was made yet
-pub resizes : (callers total : ℕ) (old new : ℕ → Searchers) → 1 ≤ callers → ResizesSets callers total old new
-    → AloneResizes total (sets_left (old 0)) (sets_left (new 0))
-resizes callers total old new some c =
-    let mine = c 0 (omega arith) in (ap set_left mine.0 ∙ fresh _ refl, ap set_left mine.1)
+pub gives : (tags : Tags ℕ) (old new : Hand ℕ) → IsHandOf tags old → (list : List ℕ)
+    → batches.GivesBack tags list old new → Alters tags (AloneClearsList list) old new
+gives tags old new own list g before after = let numbers : ℕ → List ℕ = λ r. map (λ (tag : ℕ). tag - r) list in
+    subst (λ (r : ℕ). ChangesOne Ordinary (λ v w. w ≡ give_back (numbers r) v) (sets_of tags old) (sets_of tags new))
+    (sym tags.reserved_is) (
+      give old.ordinary new.ordinary (numbers (reserved_of tags)) (after Ordinary) (layout_of tags Ordinary)
+          (ap (λ (k : Shape). k.layout) (shape_there tags old own Ordinary)) (narrow tags Ordinary) g.set.changed,
+      ap (set_of _) g.set.other,
+    )
+
+module _ (tags : Tags ℕ) (old new : Hand ℕ) (own : IsHandOf tags old) (tag : ℕ) where
+  abbrev kind : Kind
+  kind = kind_of (split_of old) tag
+
+  abbrev number : ℕ
+  number = number_in_set (split_of old) tag
+
+  abbrev l : Layout
+  l = layout_of tags kind
+
+  abbrev older : List (Step ℕ)
+  older = (record_in old kind).steps
+
+  -- the number of reserved tags, as the hand knows it and as both sets have it
+  split : split_of old ≡ (layout_of tags Reserved).depth
+  split = own.2 ∙ sym tags.reserved_is
+
+  -- the tag's set changed so, and the other is unchanged
+  there : (change : ℕ → AloneSet → AloneSet) → sets_of tags new kind ≡ change number (sets_of tags old kind)
+      → agent_of new (other_kind kind) ≡ agent_of old (other_kind kind)
+      → ChangesTag change tag (sets_of tags old) (sets_of tags new)
+  there change here other = subst (λ (r : ℕ). ChangesOne (kind_of r tag) (λ v w. w ≡ change (number_in_set r tag) v)
+      (sets_of tags old) (sets_of tags new)) split (here, ap (set_of _) other)
+
+  pub puts : clears.Clears tags tag old new → Alters tags (ChangesTag put_back tag) old new
+  puts c before after = let p = c.set.changed in let few = word_bits-le l (narrow tags kind) in
+      let some : 0 < word_bits l = pow_pos l.shift in let low : place_of l number < 64 = omega arith in
+      let left = own_put (caller_of (agent_of old kind)) (caller_of (agent_of new kind)) (word_of l number)
+      (place_of l number) p.found low p.put in
+      there put_back (λ j. record {
+        layout = l;
+        pool = left.pool_is j;
+        posted = λ other. left.posted other j;
+        hint = record { at = p.hint.at j; round_robin = p.hint.round_robin j };
+      }) c.set.other
+
+  pub posts : slots.Posts tag old new → Alters tags (ChangesTag post_in tag) old new
+  posts p before after = let posted = p.set.changed in there post_in
+      ((λ j. set_left l (posted.step.known j).steps (posted.same_else.0 j))
+      ∙ steps.post l (hint_of old kind) older number posted.value) p.set.other
+
+  -- each step found what the older ones left
+  found_there : AreAlone new → (newer : List (Step ℕ)) → (record_in new kind).steps ≡ newer → EachFound newer
+  found_there after newer is =
+      subst (λ (s : List (Step ℕ)). EachFound s) is (own_found (caller_of (agent_of new kind)) (after kind))
+
+  pub takes : slots.Takes tag old new → Alters tags (λ v. AloneTakes tag v (Ok tt)) old new
+  takes t before after = let taken = t.set.changed in let known = taken.step.known in
+      let took = steps.take l (hint_of old kind) older number taken.value
+      (found_there after _ (ap (λ (r : Record ℕ). r.steps) known)) in (
+        subst (λ (r : ℕ). (sets_of tags old (kind_of r tag)).posted (number_in_set r tag) ≡ true) split took.0,
+        there take_in ((λ j. set_left l (known j).steps (taken.same_else.0 j)) ∙ took.1) t.set.other,
+      )
+
+  pub misses : slots.Misses tag old new → Alters tags (λ v. AloneTakes tag v (Err NotPosted)) old new
+  misses m before after = let missed = m.set.changed in let known = missed.step.known in (
+    subst (λ (r : ℕ). (sets_of tags old (kind_of r tag)).posted (number_in_set r tag) ≡ false) split
+        (steps.miss l (hint_of old kind) older number (found_there after _ (ap (λ (r : Record ℕ). r.steps) known))),
+    both_same kind ((λ j. set_left l (known j).steps (missed.same_else.0 j)), ap (set_of _) m.set.other),
+  )
+
+module _ (tags : Tags ℕ) (bits : List ℕ) (count : ℕ) (old new : Hand ℕ) (l : busy.ListsBusy tags bits count old new)
+    (after : AreAlone new) where
+  abbrev sets : AloneSets
+  sets = sets_of tags old
+
+  abbrev depth : Kind → ℕ
+  depth kind = (layout_of tags kind).depth
+
+  alone_between : IsAlone (caller_of l.between.reserved)
+  alone_between = subst (λ (a : Agent ℕ). IsAlone (caller_of a)) l.second.looks.other (after Reserved)
+
+  first : sets_of tags l.between ≡ sets
+  first = looked tags Reserved l.reserved old l.between l.first alone_between
+
+  busy_ordinary : (number : ℕ) → (nat_lt number (depth Ordinary)
+      && looks.is_busy_in (layout_of tags Ordinary) l.ordinary number) ≡ is_busy_in (sets Ordinary) number
+  busy_ordinary number = (seen tags Ordinary l.ordinary l.between new l.second (after Ordinary)).busy number
+      ∙ (λ j. is_busy_in (first j Ordinary) number)
+
+  -- a tag is found busy exactly if it is busy
+  seen_tag : (tag : ℕ) → busy.is_busy_tag tags l.reserved l.ordinary tag ≡ is_busy_tag sets tag
+  seen_tag tag = subst (λ (r : ℕ). (if nat_lt tag r then looks.is_busy_in (layout_of tags Reserved) l.reserved tag
+      else (nat_lt tag (r + depth Ordinary) && looks.is_busy_in (layout_of tags Ordinary) l.ordinary (tag - r)))
+      ≡ is_busy_tag sets tag) tags.reserved_is
+      (elim (nat_lt tag (depth Reserved)) as (λ (b : Bool). nat_lt tag (depth Reserved) ≡ b
+      → (if b then looks.is_busy_in (layout_of tags Reserved) l.reserved tag
+      else (nat_lt tag (depth Reserved + depth Ordinary)
+      && looks.is_busy_in (layout_of tags Ordinary) l.ordinary (tag - depth Reserved)))
+      ≡ is_busy_in (sets (if b then Reserved else Ordinary)) (if b then tag else (tag - depth Reserved))) [
+        | true ↦ (λ low. ap (λ (b : Bool). b && looks.is_busy_in (layout_of tags Reserved) l.reserved tag) (sym low)
+            ∙ (seen tags Reserved l.reserved old l.between l.first alone_between).busy tag)
+        | false ↦ (λ high. ap (λ (b : Bool). b && looks.is_busy_in (layout_of tags Ordinary) l.ordinary (tag - depth Reserved))
+            (above_split (depth Reserved) (depth Ordinary) tag (ltb-false tag (depth Reserved) high))
+            ∙ busy_ordinary (tag - depth Reserved))
+      ] refl)
+
+  -- so are the tags of both sets, of which the reserved ones are looked at first
+  pub lists : AloneListsBusy sets bits (sets_of tags new)
+  lists = record {
+    bits_are = λ tag low. l.bits_are tag low ∙ ap (λ (b : Bool). cond b 1 0) (seen_tag tag);
+    same = looked tags Ordinary l.ordinary l.between new l.second (after Ordinary) ∙ first;
+  }

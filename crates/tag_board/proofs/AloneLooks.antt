@@ -1,11 +1,13 @@
--- What the looks of a set's only caller find in it.
-use Rattle.std.proofs.Common.{◌≡◌, ℕ, zero, suc, ◌+◌, ◌<◌, Bool, true, false, not, ◌&&◌, ◌||◌, nat_eq, nat_lt, List, [], ◌∷◌, length, get_or, refl, sym, ap, ◌∙◌, arith}
-use Rattle.tag_board.proofs.Uses.{ltb-true, lt-ltb, bit_at-lt, bit_at, Layout, word_of, place_of, word_of-below, words_left, is_busy, place_small, pool_of, count_below, count_below-same, is_busy_in, is_aside_in, set_left, Searcher}
+-- What the looks of a set's only agent find in it.
+use Rattle.std.proofs.Common.{◌≡◌, ℕ, zero, suc, ◌+◌, ◌<◌, ◌≤◌, Bool, true, false, not, ◌&&◌, ◌||◌, nat_eq, nat_lt, List, [], ◌∷◌, length, get_or, refl, sym, ap, ◌∙◌, subst, arith}
+use Rattle.tag_board.proofs.Uses.{agent_of, ltb-true, lt-ltb, bit_at-lt, bit_at, Hand, IsAlone, Kind, Layout, layout_of, own_after, own_found, word_of, words, place_of, word_of-below, Record, record_in, sets_of, Step, Tags, cells_left, words_left, state_after, is_busy, place_small, Pool, pool_of}
+use Rattle.tag_core.specs.declared.word_step.WordStep.{WordStep}
 use Rattle.tag_core.specs.Steps.{Words, Quiet, words_after_all}
+use Rattle.tag_queue.specs.Agents.{caller_of}
 use Rattle.tag_sets.specs.Looks as looks
-use Rattle.tag_board.specs.Searches.{LooksAt}
-use Rattle.tag_board.proofs.Only.{IsOnly}
-use Rattle.tag_board.proofs.AloneSteps.{narrow_before, quiet, words_then, posted_then}
+use Rattle.tag_sets.specs.Shows.{LooksAround}
+use Rattle.tag_search.proofs.AloneFacts.{EachFound, found_changes, own_of_record}
+use Rattle.tag_board.proofs.Only.{both_same, narrow, set_of}
 
 -- looks leave the words unchanged
 looks_leave : (found : List (ℕ × ℕ)) (word : ℕ) (w : Words) → words_after_all (looks.looks_from word found) w ≡ w
@@ -39,49 +41,72 @@ and_under : (b x y : Bool) → (b ≡ true → x ≡ y) → (b && x) ≡ (b && y
 and_under true x y e = e refl
 and_under false x y e = refl
 
-module _ (a b : Searcher) (only : IsOnly b) (found : List (ℕ × ℕ)) (l : LooksAt found a b) where
-  abbrev layout : Layout
-  layout = a.layout
+-- the pool is unchanged; what was found busy in it is busy, and what was found aside is set aside
+pub record Sees (l : Layout) (found : List (ℕ × ℕ)) (old new : Pool) : Type 0 where
+  pub same : new ≡ old
+  pub busy : (number : ℕ) → (nat_lt number l.depth && looks.is_busy_in l found number)
+      ≡ (nat_lt number l.depth && is_busy old (word_of l number) (place_of l number))
+  pub aside : (number : ℕ) → (nat_lt number l.depth && looks.is_aside_in l found number)
+      ≡ (nat_lt number l.depth && old.aside (word_of l number) (place_of l number))
 
-  -- the set is unchanged
-  pub looked : set_left b ≡ set_left a
-  looked = let left = words_then a b only (looks.looks_from 0 found) l.steps ∙ looks_leave found 0 (words_left a.steps) in
-      let posted = posted_then a b only (looks.looks_from 0 found) l.steps in
-      λ j. record { layout = l.layout j; pool = pool_of (left j); posted = posted j; hint = l.hint j }
-
-  -- the look at a tag's word found what the older steps left
-  word_found : (number : ℕ) → number < layout.depth
-      → ((looks.word_in found (word_of layout number)).0 ≡ (words_left a.steps).word (word_of layout number))
-      × ((looks.word_in found (word_of layout number)).1 ≡ (words_left a.steps).aside (word_of layout number))
-  word_found number low =
-      let inside = word_of-below layout number low in let each = l.each in let w : Words = words_left a.steps in
-      let is : 0 + word_of layout number ≡ word_of layout number = omega arith in
-      let at = looks_found found 0 w (quiet a b only (looks.looks_from 0 found) l.steps) (word_of layout number)
-      (omega arith) in (at.0 ∙ ap w.word is, at.1 ∙ ap w.aside is)
-
-  -- what was found busy is busy, and what was found aside is set aside
-  pub seen_busy : (number : ℕ) → (nat_lt number layout.depth && looks.is_busy_in layout found number)
-      ≡ is_busy_in (set_left a) number
-  seen_busy number = let i : ℕ = word_of layout number in let p : ℕ = place_of layout number in
-      let w : Words = words_left a.steps in
-      and_under (nat_lt number layout.depth) (looks.is_busy_in layout found number) (is_busy (set_left a).pool i p)
-      (λ t. let low = ltb-true number layout.depth t in let at = word_found number low in
+-- quiet looks at each word do so
+sees : (l : Layout) (found : List (ℕ × ℕ)) → l.shift ≤ 6 → length found ≡ words l → (w : Words)
+    → Quiet (looks.looks_from 0 found) w
+    → Sees l found (pool_of w) (pool_of (words_after_all (looks.looks_from 0 found) w))
+sees l found few each w quiet = record {
+  same = ap pool_of (looks_leave found 0 w);
+  busy = λ number. let i : ℕ = word_of l number in let p : ℕ = place_of l number in
+      and_under (nat_lt number l.depth) (looks.is_busy_in l found number) (is_busy (pool_of w) i p)
+      (λ t. let low = ltb-true number l.depth t in let at = word_found number low in
       (λ j. nat_eq (bit_at (at.0 j) p) 1 && nat_eq (bit_at (at.1 j) p) 0)
-      ∙ busy_bits (nat_lt p 64) (bit_at (w.word i) p) (bit_at (w.aside i) p)
-      (lt-ltb p 64 (place_small layout number low (narrow_before a b only l.layout)))
-      (bit_at-lt (w.word i) p) (bit_at-lt (w.aside i) p))
+      ∙ busy_bits (nat_lt p 64) (bit_at (w.word i) p) (bit_at (w.aside i) p) (near number low)
+      (bit_at-lt (w.word i) p) (bit_at-lt (w.aside i) p));
+  aside = λ number. let i : ℕ = word_of l number in let p : ℕ = place_of l number in
+      and_under (nat_lt number l.depth) (looks.is_aside_in l found number) ((pool_of w).aside i p)
+      (λ t. let low = ltb-true number l.depth t in
+      ap (λ (x : ℕ). nat_eq (bit_at x p) 1) (word_found number low).1
+      ∙ ap (λ (b : Bool). b && nat_eq (bit_at (w.aside i) p) 1) (sym (near number low)));
+}
+  where
+    near : (number : ℕ) → number < l.depth → nat_lt (place_of l number) 64 ≡ true
+    near number low = lt-ltb (place_of l number) 64 (place_small l number low few)
 
-  pub seen_aside : (number : ℕ) → (nat_lt number layout.depth && looks.is_aside_in layout found number)
-      ≡ is_aside_in (set_left a) number
-  seen_aside number = let i : ℕ = word_of layout number in let p : ℕ = place_of layout number in
-      and_under (nat_lt number layout.depth) (looks.is_aside_in layout found number) ((set_left a).pool.aside i p)
-      (λ t. let low = ltb-true number layout.depth t in let at = word_found number low in
-      ap (λ (x : ℕ). nat_eq (bit_at x p) 1) at.1
-      ∙ ap (λ (near : Bool). near && nat_eq (bit_at ((words_left a.steps).aside i) p) 1)
-      (sym (lt-ltb p 64 (place_small layout number low (narrow_before a b only l.layout)))))
+    -- the look at a tag's word found that word
+    word_found : (number : ℕ) → number < l.depth
+        → ((looks.word_in found (word_of l number)).0 ≡ w.word (word_of l number))
+        × ((looks.word_in found (word_of l number)).1 ≡ w.aside (word_of l number))
+    word_found number low = let inside = word_of-below l number low in
+        let is : 0 + word_of l number ≡ word_of l number = omega arith in
+        let at = looks_found found 0 w quiet (word_of l number) (omega arith) in
+        (at.0 ∙ ap w.word is, at.1 ∙ ap w.aside is)
 
-  -- two tests that agree on the numbers of the set count the same
-  pub counted : (f g : ℕ → Bool) → ((number : ℕ) → (nat_lt number layout.depth && f number) ≡ g number)
-      → count_below f layout.depth ≡ count_below g layout.depth
-  counted f g same = count_below-same f g layout.depth
-      (λ k low. ap (λ (near : Bool). near && f k) (sym (lt-ltb k layout.depth low)) ∙ same k)
+module _ (tags : Tags ℕ) (kind : Kind) (found : List (ℕ × ℕ)) (old new : Hand ℕ)
+    (a : LooksAround (layout_of tags kind) kind found old new) (one : IsAlone (caller_of (agent_of new kind))) where
+  abbrev made : List WordStep
+  made = looks.looks_from 0 found
+
+  abbrev older : List (Step ℕ)
+  older = (record_in old kind).steps
+
+  steps_are : (record_in new kind).steps ≡ own_after made older
+  steps_are = ap (λ (r : Record ℕ). r.steps) a.looks.changed.known ∙ own_of_record made (record_in old kind)
+
+  -- the looks of an agent that is alone see its set
+  pub seen : Sees (layout_of tags kind) found (sets_of tags old kind).pool (sets_of tags new kind).pool
+  seen = subst (λ (s : List (Step ℕ)). Sees (layout_of tags kind) found (pool_of (words_left older)) (pool_of (words_left s)))
+      (sym steps_are) (found_changes (Sees (layout_of tags kind) found) made older
+      (subst (λ (s : List (Step ℕ)). EachFound s) steps_are (own_found (caller_of (agent_of new kind)) one))
+      (sees (layout_of tags kind) found (narrow tags kind) a.each))
+
+  -- and leave both sets unchanged
+  pub looked : sets_of tags new ≡ sets_of tags old
+  looked = let state = ap (λ (s : List (Step ℕ)). (cells_left s).state) steps_are ∙ state_after made older in
+      both_same kind (
+        (λ j. record {
+          layout = layout_of tags kind;
+          pool = seen.same j;
+          posted = λ tag. nat_eq (state j tag) 1;
+          hint = a.looks.changed.same_else.0 j;
+        }),
+        ap (set_of _) a.looks.other,
+      )

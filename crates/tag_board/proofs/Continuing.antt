@@ -1,11 +1,9 @@
 -- The state after a resize, and why a resize is refused.
-use Rattle.std.proofs.Common.{◌≡◌, ◌≢◌, ℕ, zero, suc, ◌+◌, ◌<◌, ◌≤◌, true, false, List, [], ◌∷◌, length, map, get_or, replicate, All, is_some, refl, sym, ap, ◌∙◌, arith, ⊎_elim}
-use Rattle.tag_board.proofs.Uses.{cases_lt, length-map, get_or-map, get_or_past, some, some-injective, get_elem?, at_map, HasAll, word_bits, words, Record, sum_of, size_of, entry, entry_or, all_at, Hint, Queue, Hand, Kind, Ordinary, Reserved, Tags, IsHandOf, layout_of, queue_of, total_of, number_of, hands_of, numbers_of, reserved_part, ordinary_part, BalanceInBoth, HasMap, record_in, holds, part_of, state_of_all, waiter_of, newcomer, AreOrdered, NobodyHolds, Part, idle, reserved_of}
-use Rattle.tag_sets.specs.Hands.{least_of}
+use Rattle.std.proofs.Common.{◌≡◌, ◌≢◌, ℕ, zero, suc, ◌+◌, ◌<◌, ◌≤◌, true, false, List, [], ◌∷◌, length, map, get_or, replicate, All, is_some, refl, sym, Ok, ap, ◌∙◌, ◌-◌, arith, ⊎_elim}
+use Rattle.tag_board.proofs.Uses.{cases_lt, length-map, get_or-map, get_or_past, some, some-injective, get_elem?, at_map, HasAll, word_bits, words, Record, sum_of, size_of, entry, entry_or, all_at, Hint, Queue, Hand, Kind, Ordinary, Reserved, Tags, IsHandOf, layout_of, queue_of, total_of, number_of, hands_of, numbers_of, reserved_part, ordinary_part, BalanceInBoth, HasMap, record_in, holds, part_of, state_of_all, waiter_of, newcomer, AreOrdered, NobodyHolds, Part, idle, AloneResizes, AloneSets, no_sets, set_left, sets_of, terms_of}
 use Rattle.tag_core.specs.Reopening.{reopened_record}
 use Rattle.step_ledger.proofs.Seats.{within}
 use Rattle.tag_search.proofs.SharedFacts.{count_ones-zero}
-use Rattle.wake_book.specs.declared.book.Limits.{Limits}
 use Rattle.wake_book.specs.declared.groups.Waiter.{Waiter}
 use Rattle.tag_queue.specs.declared.resizes.ResizeCause.{ResizeCause}
 use Rattle.tag_queue.specs.declared.resizes.ResizeCause.TheVariants.{Missing, DepthTooLarge, InUse, Waiting, Memory}
@@ -16,7 +14,8 @@ use Rattle.tag_sets.specs.Resizing as sets
 use Rattle.tag_sets.proofs.Gathering.{ordinary_numbers}
 use Rattle.tag_sets.proofs.Refusing.{facts_of, AreTold}
 use Rattle.tag_sets.proofs.Reuniting.{ordinary_unchanged}
-use Rattle.tag_board.specs.Resizes.{AreUnused, RefusesResize, MayResize}
+use Rattle.tag_board.specs.Resizes.{AreUnused, RefusesResize, MayResize, Resizes}
+use Rattle.tag_board.proofs.AloneSteps.{fresh}
 use Rattle.tag_board.proofs.Adding.{both_sets, add_up, posted_up}
 use Rattle.tag_board.proofs.Handfuls.{part_ext}
 use Rattle.tag_board.proofs.Holdings.{holds_same}
@@ -35,50 +34,37 @@ module _ {A : Type 0} where
   all_none f (x ∷ xs) none zero d low = omega arith
   all_none f (x ∷ xs) none (suc k) d low = all_none f xs (omega arith) k d (omega arith)
 
--- hands of which the same is seen one by one look the same to each caller
-pub same_seen : {B : Type 0} (seen : Hand ℕ → B) (none : B) (old new : List (Hand ℕ)) → length new ≡ length old
-    → ((n : ℕ) (a b : Hand ℕ) → get_elem? old n ≡ some a → get_elem? new n ≡ some b → seen b ≡ seen a)
-    → (caller : ℕ) → get_or (map seen new) caller none ≡ get_or (map seen old) caller none
-same_seen seen none old new long each caller = ⊎_elim
+-- hands of which the same is seen one by one, before and after, look the same to each caller
+same_seen : {B : Type 0} (before after : Hand ℕ → B) (none : B) (old new : List (Hand ℕ)) → length new ≡ length old
+    → ((n : ℕ) (a b : Hand ℕ) → get_elem? old n ≡ some a → get_elem? new n ≡ some b → after b ≡ before a)
+    → (caller : ℕ) → get_or (map after new) caller none ≡ get_or (map before old) caller none
+same_seen before after none old new long each caller = ⊎_elim
     (λ (low : caller < length old).
     let a = entry old caller low in let b = entry new caller (omega arith) in
-    get_or-map seen new caller b.0 none (omega arith)
+    get_or-map after new caller b.0 none (omega arith)
     ∙ each caller (get_or old caller a.0) (get_or new caller b.0)
     (entry_or old caller a.0 low) (entry_or new caller b.0 (omega arith))
-    ∙ sym (get_or-map seen old caller a.0 none low))
+    ∙ sym (get_or-map before old caller a.0 none low))
     (λ (high : length old ≤ caller).
-    get_or_past (map seen new) caller none (let z = length-map new seen in omega arith)
-    ∙ sym (get_or_past (map seen old) caller none (let z = length-map old seen in omega arith)))
+    get_or_past (map after new) caller none (let z = length-map new after in omega arith)
+    ∙ sym (get_or_past (map before old) caller none (let z = length-map old before in omega arith)))
     (cases_lt caller (length old))
 
--- the most tags of a set that a caller may win
-abbrev life_of : Tags ℕ → Kind → ℕ
-life_of tags kind = (queue.shape_of (queue_of tags kind)).life
-
--- tags on the same terms, with such hands, make up the state with this total, but for the steps on both sets
-same_terms : (old new : Tags ℕ) (olds news : List (Hand ℕ)) (total : ℕ) → reserved_of new ≡ reserved_of old
-    → length news ≡ length olds → ((kind : Kind) → life_of new kind ≡ life_of old kind)
-    → queue.cap_of new.ordinary ≡ queue.cap_of old.ordinary → least_of new ≡ least_of old
-    → ((kind : Kind) → word_bits (layout_of new kind) ≡ word_bits (layout_of old kind)) → total_of new ≡ total
+-- tags on the same terms, with such hands, make up the state with this total and these sets
+same_terms : (old new : Tags ℕ) (olds news : List (Hand ℕ)) (total : ℕ) (alone : AloneSets)
+    → terms_of new (length news) ≡ terms_of old (length olds) → total_of new ≡ total
+    → (state_of_all new news).alone ≡ alone → length news ≡ length olds
     → ((n : ℕ) (a b : Hand ℕ) → get_elem? olds n ≡ some a → get_elem? news n ≡ some b → part_of b ≡ part_of a)
     → ((n : ℕ) (a b : Hand ℕ) → get_elem? olds n ≡ some a → get_elem? news n ≡ some b
     → queue.SameCounts a.ordinary b.ordinary)
-    → state_of_all new news
-    ≡ record (state_of_all old olds) { total = total; searcher = (state_of_all new news).searcher }
-same_terms old new olds news total split long life cap least bits all each counts = λ j. record {
-  terms = record {
-    reserved = split j;
-    callers = long j;
-    life = λ kind. life kind j;
-    cap = cap j;
-    least = least j;
-    bits = λ kind. bits kind j;
-  };
+    → state_of_all new news ≡ record (state_of_all old olds) { total = total; alone = alone }
+same_terms old new olds news total alone terms all sets long each counts = λ j. record {
+  terms = terms j;
   total = all j;
-  part = λ caller. same_seen part_of (idle false) olds news long each caller j;
-  waiter = λ caller. same_seen waiter_of newcomer olds news long (λ n a b p q. as_it_was a b (counts n a b p q))
-      caller j;
-  searcher = (state_of_all new news).searcher;
+  part = λ caller. same_seen part_of part_of (idle false) olds news long each caller j;
+  waiter = λ caller. same_seen waiter_of waiter_of newcomer olds news long
+      (λ n a b p q. as_it_was a b (counts n a b p q)) caller j;
+  alone = sets j;
 }
 
 -- hands with the same numbers as before are as many, and in the same order
@@ -111,15 +97,23 @@ module _ (old new : Tags ℕ) (olds news : List (Hand ℕ)) (same : sets.AreSame
   pub total_kept : total_of new ≡ total_of old
   total_kept = λ j. same.split j + (queue.layout_of (same.ordinary j)).depth
 
-  -- unchanged hands make up the same state, but for the steps on both sets
-  pub world_kept : state_of_all new news ≡ record (state_of_all old olds) { searcher = (state_of_all new news).searcher }
-  world_kept = same_terms old new olds news (total_of old) same.split kept.count (elim [
-    | Ordinary ↦ ap (λ (q : Queue ℕ). (queue.shape_of q).life) same.ordinary
-    | Reserved ↦ ap (λ (q : Queue ℕ). (queue.shape_of q).life) same.reserved
-  ]) (ap queue.cap_of same.ordinary) (ap queue.least_of same.ordinary) (elim [
-    | Ordinary ↦ ap (λ (q : Queue ℕ). word_bits (queue.layout_of q)) same.ordinary
-    | Reserved ↦ ap (λ (q : Queue ℕ). word_bits (queue.layout_of q)) same.reserved
-  ]) total_kept (λ n a b p q. same_part a b (kept.each n a b p q))
+  queue_kept : (kind : Kind) → queue_of new kind ≡ queue_of old kind
+  queue_kept Ordinary = same.ordinary
+  queue_kept Reserved = same.reserved
+
+  -- unchanged hands make up the same state
+  pub state_kept : state_of_all new news ≡ state_of_all old olds
+  state_kept = same_terms old new olds news (total_of old) (state_of_all old olds).alone (λ j. record {
+    reserved = same.split j;
+    callers = kept.count j;
+    life = λ kind. (queue.shape_of (queue_kept kind j)).life;
+    cap = queue.cap_of (same.ordinary j);
+    least = queue.least_of (same.ordinary j);
+    bits = λ kind. word_bits (queue.layout_of (queue_kept kind j));
+  }) total_kept (same_seen (sets_of old) (sets_of new) no_sets olds news kept.count (λ n a b p q.
+      let u = kept.each n a b p q in λ j. λ kind. set_left (queue.layout_of (queue_kept kind j))
+      ((u.sets kind).caller.known j).steps ((u.sets kind).same_else.0 j)) 0) kept.count
+      (λ n a b p q. same_part a b (kept.each n a b p q))
       (λ n a b p q. ((kept.each n a b p q).sets Ordinary).same_else.1)
 
   -- the hands keep their numbers
@@ -200,19 +194,28 @@ module _ (old new : Tags ℕ) (olds news : List (Hand ℕ)) (total : ℕ)
           | Reserved ↦ (ap (λ (r : Record ℕ). r.won) other, ap (λ (r : Record ℕ). r.back) other)
         ]) g.counts.1 g.hint
 
-    -- only the total of the state changes, and the steps on both sets
-    pub world_resized : state_of_all new news
-        ≡ record (state_of_all old olds) { total = total; searcher = (state_of_all new news).searcher }
-    world_resized = same_terms old new olds news total is.split long (elim [
-      | Ordinary ↦ is.ordinary.callers.next.life_is
-      | Reserved ↦ ap (λ (q : Queue ℕ). (queue.shape_of q).life) is.reserved
-    ]) (ap (λ (l : Limits). l.cap) is.ordinary.rest.book.limits) is.ordinary.rest.least (elim [
-      | Ordinary ↦ ap word_bits is.ordinary.callers.next.layout_is
-      | Reserved ↦ ap (λ (q : Queue ℕ). word_bits (queue.layout_of q)) is.reserved
-    ]) is.total_is part_there (λ n a b p q. (goes_on n a b p q).counts)
+    life_kept : (kind : Kind) → (queue.shape_of (queue_of new kind)).life ≡ (queue.shape_of (queue_of old kind)).life
+    life_kept Ordinary = is.ordinary.callers.next.life_is
+    life_kept Reserved = ap (λ (q : Queue ℕ). (queue.shape_of q).life) is.reserved
+
+    bits_kept : (kind : Kind) → word_bits (layout_of new kind) ≡ word_bits (layout_of old kind)
+    bits_kept Ordinary = ap word_bits is.ordinary.callers.next.layout_is
+    bits_kept Reserved = ap (λ (q : Queue ℕ). word_bits (queue.layout_of q)) is.reserved
+
+    -- only the total of the state changes, and both sets
+    world_resized : state_of_all new news
+        ≡ record (state_of_all old olds) { total = total; alone = (state_of_all new news).alone }
+    world_resized = same_terms old new olds news total (state_of_all new news).alone (λ j. record {
+      reserved = is.split j;
+      callers = long j;
+      life = λ kind. life_kept kind j;
+      cap = (is.ordinary.rest.book.limits j).cap;
+      least = is.ordinary.rest.least j;
+      bits = λ kind. bits_kept kind j;
+    }) is.total_is refl long part_there (λ n a b p q. (goes_on n a b p q).counts)
 
     -- no caller holds a tag
-    pub world_free : NobodyHolds (state_of_all new news) (λ tag. true)
+    world_free : NobodyHolds (state_of_all new news) (λ tag. true)
     world_free = nobody_holds new news (λ n b q tag.
         let a = entry olds n (let low = within news n b q in let same = long in omega arith) in
         (free_there n a.0 b a.1 q tag).1)
@@ -220,6 +223,30 @@ module _ (old new : Tags ℕ) (olds news : List (Hand ℕ)) (total : ℕ)
   -- all hands are present
   pub every_there : length olds ≡ hands_of old → length news ≡ hands_of new
   every_there all = long ∙ all ∙ sym is.ordinary.callers.next.callers_is
+
+-- the only hand goes on with a new ordinary set
+sets_resized : (old new : Tags ℕ) (olds news : List (Hand ℕ)) (total : ℕ) → sets.IsResized old olds total new news
+    → length olds ≡ 1 → AloneResizes total (state_of_all old olds).alone (state_of_all new news).alone
+sets_resized old new [] news total is one = absurd (omega arith)
+sets_resized old new (a ∷ olds) [] total is one = let same = long old new (a ∷ olds) [] total is in absurd (omega arith)
+sets_resized old new (a ∷ olds) (b ∷ news) total is one =
+    let g = goes_on old new (a ∷ olds) (b ∷ news) total is 0 a b refl refl in
+    let layout = is.ordinary.callers.next.layout_is
+    ∙ (λ j. record { depth = total - sym old.reserved_is j; shift = (layout_of old Ordinary).shift }) in (
+      (λ j. set_left (layout j) (g.known j).steps (g.hint j)) ∙ fresh _ _,
+      (λ j. set_left (queue.layout_of (is.reserved j)) (g.other.caller.known j).steps (g.other.same_else.0 j)),
+    )
+
+-- the state after a resize
+pub state_resized : (old new : Tags ℕ) (olds news : List (Hand ℕ)) (total : ℕ)
+    → sets.IsResized old olds total new news → MayResize (state_of_all old olds) total → sets.held_in_both olds ≡ 0
+    → Resizes total (state_of_all old olds) (Ok tt) (state_of_all new news)
+state_resized old new olds news total is may unused = (
+  may,
+  world_resized old new olds news total is unused,
+  world_free old new olds news total is unused,
+  sets_resized old new olds news total is,
+)
 
 module _ (tags : Tags ℕ) (hands : List (Hand ℕ)) (own : All (IsHandOf tags) hands) where
   -- no tag is in use if the hands have none in use

@@ -1,6 +1,6 @@
 -- How a call changes the part of a caller, from how it changed the hand's agent in one set.
 use Rattle.std.proofs.Common.{◌≡◌, ℕ, ◌+◌, Bool, not, ◌&&◌, ◌||◌, is_some, refl, sym, ap, ◌∙◌, arith}
-use Rattle.tag_board.proofs.Uses.{Caller, Record, record_of, Agent, Hand, Kind, Ordinary, Reserved, agent_of, standing_of, hint_of, number_of, other_kind, holds, record_in, part_of, Part, won_more, joined, won, left, cleared, standing}
+use Rattle.tag_board.proofs.Uses.{Caller, Record, record_of, Agent, Hand, Kind, Ordinary, Reserved, agent_of, standing_of, hint_of, number_of, other_kind, holds, record_in, part_of, Part, won_more, won, cleared, standing}
 use Rattle.tag_queue.specs.Agents as queue
 use Rattle.tag_board.proofs.Tallies.{Tallies}
 
@@ -70,27 +70,17 @@ module _ {R : Type 0} (old new : Hand R) where
     part_won n t held = part_ext (part_of new) (won kind test n (part_of old)) held t.won_is (none_back kind n t)
         t.stands t.round
 
-    pub part_joined : PartTallies kind 0 0 old new → ((tag : ℕ) → holds new tag ≡ (holds old tag || test tag))
-        → part_of new ≡ joined test (part_of old)
-    part_joined t held = part_ext (part_of new) (joined test (part_of old)) held (as_won kind 0 t) (none_back kind 0 t)
-        t.stands t.round
-
-    pub part_left : PartTallies kind 0 0 old new → ((tag : ℕ) → holds new tag ≡ (holds old tag && not (test tag)))
-        → part_of new ≡ left test (part_of old)
-    part_left t held = part_ext (part_of new) (left test (part_of old)) held (as_won kind 0 t) (none_back kind 0 t)
-        t.stands t.round
-
     pub part_cleared : (n : ℕ) → PartTallies kind 0 n old new
         → ((tag : ℕ) → holds new tag ≡ (holds old tag && not (test tag)))
         → part_of new ≡ cleared test n (part_of old)
     part_cleared n t held = part_ext (part_of new) (cleared test n (part_of old)) held (as_won kind n t) t.back_is
         t.stands t.round
 
-  -- a caller that counts no more tags, and holds what it held, is unchanged
-  pub part_same : (kind : Kind) → PartTallies kind 0 0 old new → ((tag : ℕ) → holds new tag ≡ holds old tag)
-      → part_of new ≡ part_of old
-  part_same kind t held = part_ext (part_of new) (part_of old) held (as_won kind 0 t) (none_back kind 0 t)
-      t.stands t.round
+  -- a caller that counts no more tags changes at most in what it holds
+  pub part_holding : (kind : Kind) → PartTallies kind 0 0 old new → {held : ℕ → Bool}
+      → ((tag : ℕ) → holds new tag ≡ held tag) → part_of new ≡ record (part_of old) { held = held }
+  part_holding kind t {held} is = part_ext (part_of new) (record (part_of old) { held = held }) is (as_won kind 0 t)
+      (none_back kind 0 t) t.stands t.round
 
   -- a caller whose ordinary agent keeps its tags, its hint and its counts changes at most its wait group
   pub part_standing : (stands : Bool) → queue.caller_of new.ordinary ≡ queue.caller_of old.ordinary

@@ -1,4 +1,3 @@
-mod Workings
 mod Uses
 mod Holdings
 mod Tallies
@@ -7,8 +6,6 @@ mod Seats
 mod Verdicts
 mod Outcomes
 mod Naming
-mod Searching
-mod Reopened
 mod Effects
 mod Gains
 mod Calls

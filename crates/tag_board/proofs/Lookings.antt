@@ -1,5 +1,5 @@
 -- What looks report of the state.
-use Rattle.std.proofs.Common.{◌≡◌, ◌≢◌, ne_eqb, ℕ, zero, suc, ◌+◌, ◌-◌, ◌*◌, ◌/◌, ◌<◌, ◌≤◌, ◌&&◌, Bool, false, cond, if◌then◌else◌, nat_lt, nat_eq, List, [], ◌++◌, length, take, drop, sym, ap, ◌∙◌, arith}
+use Rattle.std.proofs.Common.{◌≡◌, ◌≢◌, ne_eqb, ℕ, zero, suc, ◌+◌, ◌-◌, ◌*◌, ◌<◌, ◌≤◌, ◌&&◌, Bool, false, cond, if◌then◌else◌, nat_lt, nat_eq, List, [], ◌++◌, length, take, drop, sym, ap, ◌∙◌, arith}
 use Rattle.tag_board.proofs.Uses.{dite, ℕ_discrete, le-ltb, and_false, append-nil, drop_all, take_at, bit_at, Layout, word_of, place_of, count_below, Hand, Kind, Ordinary, Reserved, Shown, Tags, layout_of, reserved_of, total_of, word_in, depth_of, state_of_all, one_if, one_if-le}
 use Rattle.tag_sets.specs.Bits.{bit_in}
 use Rattle.tag_sets.specs.Busy as busy
@@ -32,10 +32,10 @@ module _ (tags : Tags ℕ) (hands : List (Hand ℕ)) where
 
   module _ (old new : Hand ℕ) where
     -- each bit past the last tag is 0
-    pub busy_there : (bits : List ℕ) (count tag : ℕ) → busy.ListsBusy tags bits count old new → total_of tags ≤ tag
+    pub past_busy : (bits : List ℕ) (count tag : ℕ) → busy.ListsBusy tags bits count old new → total_of tags ≤ tag
         → tag < 64 * length bits
         → bit_in 64 bits tag ≡ 0
-    busy_there bits count tag b high low =
+    past_busy bits count tag b high low =
         let few : nat_lt tag (reserved_of tags) ≡ false = le-ltb tag (reserved_of tags) (omega arith) in
         let none : nat_lt tag (total_of tags) ≡ false = le-ltb tag (total_of tags) high in
         let l = is_busy_in (layout_of tags Ordinary) b.ordinary (tag - reserved_of tags) in
@@ -44,26 +44,15 @@ module _ (tags : Tags ℕ) (hands : List (Hand ℕ)) where
         (nat_lt tag (total_of tags) && l)) 1 0) few
         ∙ ap (λ (t : Bool). cond (t && l) 1 0) none
 
-    pub show_depth : (kind : Kind) (shown : Shown) → shows.Shows tags kind shown old new
-        → shown.depth ≡ depth_of (state_of_all tags hands) kind
-    show_depth kind shown s = ap (λ (x : Shown). x.depth) s.shown_is ∙ depth_is kind
-
-    pub show_words : (kind : Kind) (shown : Shown) → shows.Shows tags kind shown old new
-        → shown.map_nr ≡ (depth_of (state_of_all tags hands) kind + (state_of_all tags hands).terms.bits kind - 1)
-        / (state_of_all tags hands).terms.bits kind
-    show_words kind shown s = ap (λ (x : Shown). x.map_nr) s.shown_is
-        ∙ ap (λ (d : ℕ). (d + (state_of_all tags hands).terms.bits kind - 1)
-        / (state_of_all tags hands).terms.bits kind) (depth_is kind)
-
     pub show_few : (kind : Kind) (shown : Shown) → shows.Shows tags kind shown old new
         → shown.busy + shown.cleared ≤ depth_of (state_of_all tags hands) kind
     show_few kind shown s =
         let few = few_shown (layout_of tags kind) s.found (layout_of tags kind).depth in let d = depth_is kind in
         let b = ap (λ (x : Shown). x.busy) s.shown_is in let a = ap (λ (x : Shown). x.cleared) s.shown_is in omega arith
 
-    pub dump_there : (kind : Kind) (bytes : List ℕ) (tag : ℕ) → dumps.Packs (layout_of tags kind) kind bytes old new
+    pub past_dump : (kind : Kind) (bytes : List ℕ) (tag : ℕ) → dumps.Packs (layout_of tags kind) kind bytes old new
         → depth_of (state_of_all tags hands) kind ≤ tag → bit_in 8 bytes tag ≡ 0
-    dump_there kind bytes tag p high =
+    past_dump kind bytes tag p high =
         let d = depth_is kind in let none : nat_lt tag (layout_of tags kind).depth ≡ false =
         le-ltb tag (layout_of tags kind).depth (omega arith) in
         p.bits_are tag ∙ ap (λ (t : Bool). cond (t && is_busy_in (layout_of tags kind) p.found tag) 1 0) none

@@ -1,14 +1,17 @@
--- The callers of new tags, on which nothing has been done.
-use Rattle.std.proofs.Common.{◌≡◌, ℕ, ◌+◌, ◌<◌, List, [], ◌∷◌, length, map, get_or, is_some, None, sym, ap, ◌∙◌, subst, arith}
-use Rattle.tag_board.proofs.Uses.{get_or-map, some, get_elem?, at_map, Record, record_of, entry, entry_or, Hint, Agent, Options, Queue, Hand, Kind, Ordinary, Reserved, Tags, standing_of, hint_of, number_of, reserved_part, ordinary_part, AreOpen, all_part, record_in, part_of, AreOrdered, waiter_of, Starts, newcomer, idle}
+-- The state of new tags, on which nothing has been done.
+use Rattle.std.proofs.Common.{◌≡◌, ℕ, ◌+◌, ◌-◌, ◌<◌, List, [], ◌∷◌, length, map, get_or, is_some, None, false, refl, sym, ap, ◌∙◌, subst, arith}
+use Rattle.tag_board.proofs.Uses.{get_or-map, some, get_elem?, at_map, Record, record_of, entry, entry_or, Hint, Agent, Options, Queue, Hand, Kind, Ordinary, Reserved, Tags, standing_of, hint_of, number_of, reserved_part, ordinary_part, AreOpen, all_part, record_in, part_of, AreOrdered, waiter_of, Starts, newcomer, idle, AreUntouched, HasShift, layout_of, reserved_of, set_left, state_of_all, total_of}
 use Rattle.tag_queue.specs.Agents as queue
 use Rattle.tag_queue.specs.Opening as queue_opening
+use Rattle.tag_queue.specs.Opening.{IsLaidOut}
 use Rattle.wake_book.specs.Groups.{IsNew}
+use Rattle.tag_board.specs.Opening.{IsOpen}
+use Rattle.tag_board.proofs.AloneSteps.{fresh}
 use Rattle.tag_board.proofs.Handfuls.{part_ext}
 use Rattle.tag_board.proofs.Holdings.{not_holds}
 
 -- a new agent has counted nothing, and made no step
-pub new_record : (options : Options) (q : Queue ℕ) (agents : List (Agent ℕ)) (n : ℕ) (a : Agent ℕ)
+new_record : (options : Options) (q : Queue ℕ) (agents : List (Agent ℕ)) (n : ℕ) (a : Agent ℕ)
     → queue_opening.IsOpen options q agents → get_elem? agents n ≡ some a
     → ((record_of (queue.caller_of a)).won ≡ 0) × ((record_of (queue.caller_of a)).back ≡ 0)
     × ((record_of (queue.caller_of a)).steps ≡ [])
@@ -21,7 +24,7 @@ new_record options q agents n a opened at =
 
 module _ (options : Options) (tags : Tags ℕ) (hands : List (Hand ℕ)) (opened : AreOpen options tags hands) where
   -- a new hand is a caller that has done nothing
-  pub part_idle : (k : ℕ) (d : Hand ℕ) → k < length hands → part_of (get_or hands k d) ≡ idle options.round_robin
+  part_idle : (k : ℕ) (d : Hand ℕ) → k < length hands → part_of (get_or hands k d) ≡ idle options.round_robin
   part_idle k d low =
       let hand = get_or hands k d in let at = entry_or hands k d low in
       let one = new_record options tags.ordinary (map ordinary_part hands) k hand.ordinary opened.ordinary
@@ -49,7 +52,7 @@ module _ (options : Options) (tags : Tags ℕ) (hands : List (Hand ℕ)) (opened
       ∙ opened.ordered n (get_or hands n hand.0) (entry_or hands n hand.0 low)
 
 -- a new hand is a caller that is in no group, and enters group 0 first
-pub starts : (options : Options) (tags : Tags ℕ) (hands : List (Hand ℕ)) → AreOpen options tags hands
+starts : (options : Options) (tags : Tags ℕ) (hands : List (Hand ℕ)) → AreOpen options tags hands
     → (k : ℕ) → k < length hands → Starts (get_or (map waiter_of hands) k newcomer)
 starts options tags [] opened k low = absurd (omega arith)
 starts options tags (hand ∷ hands) opened k low =
@@ -59,3 +62,45 @@ starts options tags (hand ∷ hands) opened k low =
       outside = new.0;
       first = new.1;
     }
+
+-- the sets of the only hand of new tags are untouched
+sets_new : (options : Options) (tags : Tags ℕ) (hands : List (Hand ℕ)) → AreOpen options tags hands → length hands ≡ 1
+    → (total reserved : ℕ) → IsLaidOut (total - reserved) options (layout_of tags Ordinary)
+    → IsLaidOut reserved options (layout_of tags Reserved)
+    → AreUntouched total reserved options (state_of_all tags hands).alone
+sets_new options tags [] opened one total reserved first second = absurd (omega arith)
+sets_new options tags (hand ∷ hands) opened one total reserved first second = let o = opened.ordinary in
+    let r = opened.reserved in record {
+      ordinary_layout = first;
+      reserved_layout = second;
+      untouched = elim [
+        | Ordinary ↦ (λ j. set_left (layout_of tags Ordinary) ((new_record options tags.ordinary
+            (map ordinary_part (hand ∷ hands)) 0 hand.ordinary o refl).2 j) (o.hints 0 hand.ordinary (omega arith) j))
+            ∙ fresh _ _
+        | Reserved ↦ (λ j. set_left (layout_of tags Reserved) ((new_record _ tags.reserved
+            (map reserved_part (hand ∷ hands)) 0 hand.reserved r refl).2 j) (r.hints 0 hand.reserved (omega arith) j))
+            ∙ fresh _ _
+      ];
+    }
+
+-- the state of a board that was just opened
+pub opens : (options : Options) (tags : Tags ℕ) (hands : List (Hand ℕ)) → AreOpen options tags hands
+    → (total reserved : ℕ) → total_of tags ≡ total → reserved_of tags ≡ reserved
+    → HasShift (total - reserved) options.shift (layout_of tags Ordinary).shift
+    → HasShift reserved options.shift (layout_of tags Reserved).shift
+    → IsOpen total reserved options (state_of_all tags hands)
+opens options tags hands opened total reserved whole split first second = record {
+  total_is = whole;
+  reserved_is = split;
+  callers_are = opened.count;
+  life_is = elim [ Ordinary ↦ opened.ordinary.tags.life_is | Reserved ↦ opened.reserved.tags.life_is ];
+  cap_is = opened.ordinary.book.cap_is;
+  least_is = opened.ordinary.least;
+  ordinary_bits = ((layout_of tags Ordinary).shift, first, refl);
+  reserved_bits = ((layout_of tags Reserved).shift, second, refl);
+  idle_all = λ caller low. let hand = entry hands caller low in
+      get_or-map part_of hands caller hand.0 (idle false) low ∙ part_idle options tags hands opened caller hand.0 low;
+  outside = λ caller low. starts options tags hands opened caller low;
+  untouched = λ one. sets_new options tags hands opened one total reserved (omega arith, first)
+      (tags.reserved_is ∙ split, second);
+}

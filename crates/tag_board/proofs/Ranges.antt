@@ -1,14 +1,14 @@
 -- All hands of a board have the same range of tags.
 use Rattle.std.proofs.Common.{◌≡◌, ℕ, ◌<◌, ⊎_elim, ap, ◌∙◌, arith}
-use Rattle.tag_board.proofs.Uses.{Shape, Hand, Kind, Ordinary, Reserved, Tags, IsHandOf, IsTagOf, Holds, agent_of, layout_of, reserved_of, split_of, total_of, kind_of, number_in_set, IsReserved, IsOrdinary, stands}
+use Rattle.tag_board.proofs.Uses.{Shape, Hand, Kind, Ordinary, Reserved, Tags, IsHandOf, IsTagOf, Holds, agent_of, layout_of, queue_of, record_in, reserved_of, split_of, total_of, kind_of, number_in_set, IsReserved, IsOrdinary, stands}
 use Rattle.tag_queue.specs.Agents as queue
 
 module _ {R : Type 0} (tags : Tags R) where
-  -- the depth of a hand's set is that of the tags' set
-  depth_there : (hand : Hand R) → IsHandOf tags hand → (kind : Kind)
-      → queue.depth_of (agent_of hand kind) ≡ (layout_of tags kind).depth
-  depth_there hand own Ordinary = ap (λ (k : Shape). k.layout.depth) own.1.0.1
-  depth_there hand own Reserved = ap (λ (k : Shape). k.layout.depth) own.0.0.1
+  -- a hand's agents have the shapes of both sets
+  pub shape_there : (hand : Hand R) → IsHandOf tags hand → (kind : Kind)
+      → (record_in hand kind).shape ≡ queue.shape_of (queue_of tags kind)
+  shape_there hand own Ordinary = own.1.0.1
+  shape_there hand own Reserved = own.0.0.1
 
   -- the number and the kind of a tag are the same for every hand
   range_there : (hand : Hand R) → IsHandOf tags hand → (tag : ℕ)
@@ -17,7 +17,8 @@ module _ {R : Type 0} (tags : Tags R) where
       ≡ (layout_of tags (kind_of (reserved_of tags) tag)).depth)
   range_there hand own tag = (
     ap (λ (r : ℕ). number_in_set r tag) own.2,
-    depth_there hand own (kind_of (split_of hand) tag) ∙ ap (λ (r : ℕ). (layout_of tags (kind_of r tag)).depth) own.2,
+    ap (λ (k : Shape). k.layout.depth) (shape_there hand own (kind_of (split_of hand) tag))
+        ∙ ap (λ (r : ℕ). (layout_of tags (kind_of r tag)).depth) own.2,
   )
 
   -- a tag that one hand holds is in the range of every hand

@@ -1,10 +1,9 @@
 -- The state of a board after a call on one hand.
 use Rattle.std.proofs.Common.{◌≡◌, ◌≢◌, ◌↔◌, ℕ, ◌<◌, None, IsSome, List, length, map, get_or, set, sym, ap, ◌∙◌, subst, arith, true, false, is_some, All, get_or-set_other, get_or-set_same, length-set}
-use Rattle.tag_board.proofs.Uses.{map-set, set-get_or, get_or-map, Hand, Kind, Ordinary, Reserved, Tags, Shape, number_of, Holds, standing_of, hint_of, HasRoom, IsHandOf, part_of, record_in, state_of_all, AreOrdered, Part, idle}
-use Rattle.tag_board.specs.Searches.{ChangesOne}
+use Rattle.tag_board.proofs.Uses.{map-set, set-get_or, get_or-map, Hand, Kind, Ordinary, Tags, Shape, number_of, Holds, standing_of, hint_of, HasRoom, IsHandOf, part_of, state_of_all, AreOrdered, MayWin, Part, idle}
 use Rattle.tag_board.proofs.Holdings.{holds_true, true_holds}
 use Rattle.tag_board.proofs.Outcomes.{none_since}
-use Rattle.tag_board.proofs.Verdicts.{Fits}
+use Rattle.tag_board.proofs.Ranges.{shape_there}
 
 -- the caller's hand, among all hands
 pub record Sits (hands : List (Hand ℕ)) (i : ℕ) (old : Hand ℕ) : Type 0 where
@@ -48,13 +47,6 @@ moved {A} view d {hands} {i} {old} at new change c = record {
       (subst (λ (a : A). change (view old) a) (sym (seen_here view d (seat at new))) c);
   others = seen_there view d at new;
 }
-
--- what there is for both sets is unchanged, if that for one is as it was and that for the other too
-pub both_same : {A : Type 0} (kind : Kind) {old new : Kind → A} → ChangesOne kind (λ a b. b ≡ a) old new → new ≡ old
-both_same Ordinary {old} {new} c = let each : (k : Kind) → new k ≡ old k = elim [ Ordinary ↦ c.0 | Reserved ↦ c.1 ] in
-    λ j. λ k. each k j
-both_same Reserved {old} {new} c = let each : (k : Kind) → new k ≡ old k = elim [ Ordinary ↦ c.1 | Reserved ↦ c.0 ] in
-    λ j. λ k. each k j
 
 module _ (tags : Tags ℕ) {hands : List (Hand ℕ)} {i : ℕ} {old : Hand ℕ} (at : Sits hands i old) where
   -- a caller's part is that of the hand at its index
@@ -102,17 +94,10 @@ own_here tags {hands} {i} {old} at own = subst (IsHandOf tags) (sym at.here) (ow
 
 module _ (tags : Tags ℕ) {hands : List (Hand ℕ)} {i : ℕ} {old : Hand ℕ} (at : Sits hands i old)
     (own : IsHandOf tags old) where
-  -- the most tags of a set that the hand may win
-  life_here : (kind : Kind) → (record_in old kind).shape.life ≡ (state_of_all tags hands).terms.life kind
-  life_here Ordinary = ap (λ (k : Shape). k.life) own.1.0.1
-  life_here Reserved = ap (λ (k : Shape). k.life) own.0.0.1
-
-  won_here : (kind : Kind) → ((state_of_all tags hands).part i).won kind ≡ (record_in old kind).won
-  won_here kind = ap (λ (p : Part). p.won kind) (part_here tags at)
-
-  -- whether the hand has room for n more tags
-  pub room_here : (kind : Kind) (n : ℕ) → HasRoom old kind n ↔ Fits (state_of_all tags hands) i kind n
-  room_here kind n = let life = life_here kind in let won = won_here kind in (λ room. omega arith, λ fits. omega arith)
+  -- a hand that has room for n more tags may win them
+  pub room_here : (kind : Kind) (n : ℕ) → HasRoom old kind n → MayWin (state_of_all tags hands) i kind n
+  room_here kind n room = let life = ap (λ (k : Shape). k.life) (shape_there tags old own kind) in
+      let won = ap (λ (p : Part). p.won kind) (part_here tags at) in omega arith
 
   pub round_here : ((state_of_all tags hands).part i).round_robin ≡ (hint_of old Ordinary).round_robin
   round_here = ap (λ (p : Part). p.round_robin) (part_here tags at)

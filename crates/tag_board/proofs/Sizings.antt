@@ -4,6 +4,7 @@ use Rattle.tag_board.proofs.Uses.{∥∥₁_elim, lt-ltb, le-ltb, cases_lt, bit_
 use native.Mathlib.Nat.{ℕ_set}
 use Rattle.tag_core.proofs.Ends.{by_tags}
 use Rattle.tag_queue.specs.Agents as queue
+use Rattle.tag_board.proofs.Ranges.{shape_there}
 
 module _ {R : Type 0} where
   -- the tag's bit in the masks of a record, and the number of tags
@@ -60,12 +61,6 @@ module _ {R : Type 0} where
         ap (λ (s : ℕ). has (record_in hand (kind_of s tag)) (number_in_set s tag)) own.2
         ∙ (λ j. has (record_in hand (is.kind j)) (number j))
 
-    reserved_deep : (record_in hand Reserved).shape.layout.depth ≡ reserved_of tags
-    reserved_deep = ap (λ (k : Shape). k.layout.depth) own.0.0.1 ∙ tags.reserved_is
-
-    ordinary_deep : (record_in hand Ordinary).shape.layout.depth ≡ (layout_of tags Ordinary).depth
-    ordinary_deep = ap (λ (k : Shape). k.layout.depth) own.1.0.1
-
     -- as many tags of the range pass the test as the masks of both sets have ones
     pub size_holds : count_below (holds hand) (total_of tags)
         ≡ size_of (record_in hand Ordinary).held + size_of (record_in hand Reserved).held
@@ -78,8 +73,9 @@ module _ {R : Type 0} where
         let second = sum_below-same (λ k. cond (holds hand (r + k)) 1 0)
         (λ k. cond (has (record_in hand Ordinary) k) 1 0) n
         (λ k low. ap (λ (b : Bool). cond b 1 0) (holds_ordinary k)) in
-        let one = ap (count_below (has (record_in hand Reserved))) (sym reserved_deep)
+        let deep = λ (kind : Kind). ap (λ (k : Shape). k.layout.depth) (shape_there tags hand own kind) in
+        let one = ap (count_below (has (record_in hand Reserved))) (sym (deep Reserved ∙ tags.reserved_is))
         ∙ size_has (queue.caller_of hand.reserved) in
-        let other = ap (count_below (has (record_in hand Ordinary))) (sym ordinary_deep)
+        let other = ap (count_below (has (record_in hand Ordinary))) (sym (deep Ordinary))
         ∙ size_has (queue.caller_of hand.ordinary) in
         omega arith

@@ -1,5 +1,5 @@
 -- What a call adds to the counts of its agent: tags won and tags given back.
-use Rattle.std.proofs.Common.{◌≡◌, ℕ, ◌+◌, suc, List, [], ◌∷◌, length, Option, refl, sym, ap, ◌∙◌, subst, arith}
+use Rattle.std.proofs.Common.{◌≡◌, ℕ, ◌+◌, suc, List, [], ◌∷◌, Option, refl, sym, ap, ◌∙◌, subst, arith}
 use Rattle.tag_board.proofs.Uses.{Layout, Record, Word, Look, LookAside, record_of, record_after, count_of, count_of_run, Visit, Agent, caller_of, SameCounts, SameElse, Run, GivesBack, record_after_runs, same_number, MakesLooks, looks_from}
 use Rattle.tag_search.specs.Shared.{record_after_all}
 use Rattle.tag_queue.specs.Agents.{standing_of, hint_of}
@@ -70,10 +70,10 @@ module _ {R : Type 0} where
       round = p.hint.round_robin;
     }
 
-    pub gives : (tags : List ℕ) → standing_of new ≡ standing_of old
-        → (record_of (caller_of new)).back ≡ (record_of (caller_of old)).back + length tags → GivesBack l tags old new
-        → Tallies 0 (length tags) old new
-    gives tags stands back g = let r = record_of (caller_of old) in
+    pub gives : (tags : List ℕ) (n : ℕ) → standing_of new ≡ standing_of old
+        → (record_of (caller_of new)).back ≡ (record_of (caller_of old)).back + n → GivesBack l tags old new
+        → Tallies 0 n old new
+    gives tags n stands back g = let r = record_of (caller_of old) in
         let won = ap (λ (r : Record R). r.won) g.gives.known ∙ runs_won g.gives.runs r in record {
           counts = record {
             won_is = omega arith;

@@ -54,23 +54,21 @@ pub use Rattle.tag_sets.specs.Hands.{agent_of, book_steps, group_steps, HasRoom,
 pub use Rattle.tag_sets.specs.Holding.{HoldsLess, HoldsMore, HoldsSame}
 pub use Rattle.tag_sets.specs.Looks.{looks_from, MakesLooks, word_in}
 pub use Rattle.tag_sets.specs.Opening.{IsOpen as AreOpen, ordinary_part, reserved_part}
-pub use Rattle.tag_sets.specs.Resizing.{AreUnchanged, BalanceInBoth, HasMap, held_in_both, IsResized, posted_in_both, standing_count}
+pub use Rattle.tag_sets.specs.Resizing.{BalanceInBoth, HasMap, held_in_both, posted_in_both, standing_count}
 pub use Rattle.tag_sets.specs.Sets.{kind_of, number_in_set, other_kind}
 pub use Rattle.tag_sets.specs.declared.fault.TagFault.{TagFault}
-pub use Rattle.tag_sets.specs.declared.fault.TagFault.TheVariants.{BadCount, NoReserved, NoSuchTag, NotHeld, NotPosted, NotWaiting, Spent, TooShallow}
+pub use Rattle.tag_sets.specs.declared.fault.TagFault.TheVariants.{BadCount, NoSuchTag, NotHeld, NotPosted, NotWaiting}
 pub use Rattle.tag_sets.specs.declared.hand.Hand.{Hand}
 pub use Rattle.tag_sets.specs.declared.kind.Kind.{Kind}
 pub use Rattle.tag_sets.specs.declared.kind.Kind.TheVariants.{Ordinary, Reserved}
 pub use Rattle.tag_sets.specs.declared.shown.Shown.{Shown}
 pub use Rattle.tag_sets.specs.declared.tags.Tags.{Tags}
-pub use Rattle.tag_board.specs.AloneSets.{AloneBatch, AloneClears, AloneClearsList, AloneDumps, AloneGets, AloneListsBusy, AlonePosts, AloneResizes, AloneSet, AloneSets, AloneShows, AloneTakes, AreUntouched, Chooses, ChoosesRun, give_back, is_aside_in, is_busy_in, is_busy_tag, is_named, plain, post_in, put_back, set_left, sets_in, sets_left, shallow, take_in, untouched}
+pub use Rattle.tag_board.specs.AloneSets.{AloneBatch, AloneClearsList, AloneDumps, AloneGets, AloneListsBusy, AloneResizes, AloneSet, AloneSets, AloneShows, AloneTakes, AreUntouched, ChangesOne, ChangesTag, first_of, freed, give_back, is_busy_in, is_busy_tag, is_named, plain, post_in, put_back, set_left, shallow, take_in, untouched}
 pub use Rattle.tag_board.specs.Boards.{state_of}
-pub use Rattle.tag_board.specs.Looks.{depth_of, Dumps, ListsBusy, Looks}
-pub use Rattle.tag_board.specs.Parts.{AreOrdered, has, holds, part_of, record_in, searcher_of, searchers_in, state_of_all, terms_of, waiter_of}
-pub use Rattle.tag_board.specs.Refusals.{AreHeldOnce, AreOrdinary, RefusesBatch, RefusesGet, RefusesLeave, RefusesList, RefusesShallow, RefusesTag, RefusesWait}
-pub use Rattle.tag_board.specs.Replays.{Answers, as_before, AsBefore, Changes, cleared, HoldsAll, is_answer, is_in_list, is_in_run, IsOf, joined, left, left as parted, NobodyElseHolds, NobodyHolds, standing, Takes, Wins, won, won_more}
-pub use Rattle.tag_board.specs.Searches.{CountsFound, ListsFound, nobody, PacksFound, ResizesSets, Searcher, Searchers, TriesTag}
+pub use Rattle.tag_board.specs.Looks.{depth_of, Dumps, ListsBusy}
+pub use Rattle.tag_board.specs.Parts.{AreOrdered, has, holds, no_sets, part_of, record_in, sets_of, state_of_all, terms_of, waiter_of}
+pub use Rattle.tag_board.specs.Refusals.{AreHeldOnce, AreOrdinary, leave_checks, list_checks, MayWin, tag_checks, wait_checks}
+pub use Rattle.tag_board.specs.Replays.{Answers, as_before, AsBefore, Changes, cleared, Gets, GetsBatch, GetsShallow, HoldsAll, is_answer, is_in_list, is_in_run, IsOf, joined, left, left as parted, NobodyElseHolds, NobodyHolds, standing, Takes, Wins, won, won_more}
 pub use Rattle.tag_board.specs.States.{back_in, got_in, idle, newcomer, Part, posted_in, standing_in, State, Waiter}
 pub use Rattle.tag_board.specs.Wakeups.{Enters, Finds, GrantsFor, GrantsForTag, Leaves, Starts}
 pub use Rattle.tag_board.specs.declared.board.Board.{Board}
-pub use Rattle.tag_board.proofs.Workings.{FindsRun, FindsTag, Gives, give_of, GivesTags, plainly, PostsTag, Puts, PutsTag, Searches, SearchesRun, shallowly}

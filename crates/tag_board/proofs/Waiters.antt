@@ -4,9 +4,12 @@ use Rattle.tag_board.proofs.Uses.{total, GroupStep, Charge, Full, Below, Won, Bu
 use Rattle.wake_book.specs.Book as book
 use Rattle.wake_book.specs.Charges.{added}
 use Rattle.wake_book.specs.Groups as groups
+use Rattle.tag_queue.specs.declared.queue.Waits.{Waits}
+use Rattle.tag_queue.specs.declared.queue.Waits.TheVariants.{InGroups}
 use Rattle.tag_queue.specs.Agents as queue
 use Rattle.tag_queue.specs.Clears as queue_clears
 use Rattle.tag_sets.specs.Clears as clears
+use Rattle.tag_sets.specs.Hands.{waits_of}
 use Rattle.tag_board.proofs.Charging.{charge_adds, walk_grants}
 
 module _ {R : Type 0} (old new : Hand R) where
@@ -36,9 +39,9 @@ module _ {R : Type 0} (old new : Hand R) where
   follows_grant batch Busy steps steps' woken f =
       let all = ap (total moved_by) f.0 in let none = f.1 in omega arith
 
-  counts_grant : (q : Queue R) (n woken : ℕ) → queue_clears.Counts q n old.ordinary new.ordinary woken
-      → GrantsFor (queue.cap_of q) n woken (waiter_of old) (waiter_of new)
-  counts_grant q n woken c = ⊎_elim
+  counts_grant : (q : Queue R) → queue.waits_of q ≡ InGroups → (n woken : ℕ)
+      → queue_clears.Counts q n old.ordinary new.ordinary woken → GrantsFor (queue.cap_of q) n woken (waiter_of old) (waiter_of new)
+  counts_grant q so n woken c = ⊎_elim
       (λ (none : queue_clears.FindsNoneActive old.ordinary new.ordinary woken).
       let looks = ap (total moved_by) none.looks in let zero_woken = none.none in record {
         granted = omega arith;
@@ -54,23 +57,26 @@ module _ {R : Type 0} (old new : Hand R) where
             inr (full.0, inr full.1))
             (charge_adds (queue.cap_of q) (queue.batch_of q) n (book_steps old) (book_steps new) some.charge some.lawful);
         stays = (c.stands.1, c.stands.2);
-      }) c.counts
+      }) (subst (λ (w : Waits). queue_clears.CountsFor w q n old.ordinary new.ordinary woken) so c.counts)
 
   -- a clear of a tag tells how many wakeups it granted, and a reserved one grants and counts nothing
-  pub clear_grants : (tags : Tags R) (callers tag woken : ℕ)
+  pub clear_grants : (tags : Tags R) → waits_of tags ≡ InGroups → (callers tag woken : ℕ)
       → clears.Counts tags (kind_of (reserved_of tags) tag) 1 old new woken
       → agent_of new (other_kind (kind_of (reserved_of tags) tag))
       ≡ agent_of old (other_kind (kind_of (reserved_of tags) tag))
       → GrantsForTag (terms_of tags callers) tag woken (waiter_of old) (waiter_of new)
-  clear_grants tags callers tag woken c other = (
+  clear_grants tags so callers tag woken c other = (
     (λ low. let is = (reserved_below (reserved_of tags) tag low).kind in
-        let none = subst (λ (k : Kind). clears.Counts tags k 1 old new woken) is c in
-        rests Reserved none.1 (subst (λ (k : Kind). agent_of new (other_kind k) ≡ agent_of old (other_kind k)) is other)),
-    (λ high. counts_grant tags.ordinary 1 woken
+        let none = subst (λ (k : Kind). clears.Counts tags k 1 old new woken) is c in (
+          none.0,
+          rests Reserved none.1
+              (subst (λ (k : Kind). agent_of new (other_kind k) ≡ agent_of old (other_kind k)) is other),
+        )),
+    (λ high. counts_grant tags.ordinary so 1 woken
         (subst (λ (k : Kind). clears.Counts tags k 1 old new woken) (ordinary_above (reserved_of tags) tag high).kind c)),
   )
 
   -- and so does a clear of a list of ordinary tags
-  pub list_grants : (tags : Tags R) (callers n woken : ℕ) → clears.Counts tags Ordinary n old new woken
+  pub list_grants : (tags : Tags R) → waits_of tags ≡ InGroups → (callers n woken : ℕ) → clears.Counts tags Ordinary n old new woken
       → GrantsFor (terms_of tags callers).cap n woken (waiter_of old) (waiter_of new)
-  list_grants tags callers n woken c = counts_grant tags.ordinary n woken c
+  list_grants tags so callers n woken c = counts_grant tags.ordinary so n woken c

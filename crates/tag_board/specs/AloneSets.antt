@@ -1,10 +1,7 @@
 -- Both sets of a board with one caller, as its steps determine them, and the answers of its commands.
-use Rattle.std.specs.Prelude.{◌≡◌, ℕ, ◌-◌, ◌<◌, ◌*◌, Bool, true, false, not, ◌&&◌, ◌||◌, nat_eq, nat_lt, cond, if◌then◌else◌, List, length, slice_index, map, Option, None, Result, Ok, Err}
-use Rattle.std.specs.List.{list_any}
-use Rattle.sums.specs.Below.{count_below}
-use Rattle.tag_layout.specs.Layout.{Layout, word_of, place_of}
-use Rattle.tag_search.specs.declared.hint.Hint.{Hint}
-use Rattle.tag_search.specs.AloneLaws.{cells_left, words_left}
+use Rattle.tag_board.specs.Uses.{bit_in, Bool, cells_left, cond, count_below, Err, false, Hint, IsLaidOut, Kind, kind_of, Layout, length, List, list_any, map, nat_eq, nat_lt, None, not, NotPosted, number_in_set, Ok, Option, Options, Ordinary, other_kind, place_of, Reserved, Result, Shown, slice_index, TagFault, true, word_of, words_left, ℕ}
+use Rattle.std.specs.Prelude.{◌≡◌, ◌-◌, ◌<◌, ◌*◌, ◌&&◌, ◌||◌, if◌then◌else◌}
+use Rattle.tag_core.specs.declared.step.Step.{Step}
 use Rattle.tag_search.specs.Batch.{batch_words}
 use Rattle.tag_search.specs.Choice.{IsChoice, IsBatchChoice}
 use Rattle.tag_search.specs.Follows.{HintFollows, BatchFollows}
@@ -12,18 +9,7 @@ use Rattle.tag_search.specs.Hints.{reduced}
 use Rattle.tag_search.specs.Pool.{Pool, pool_of, is_busy, set_aside}
 use Rattle.tag_search.specs.Search.{Visit}
 use Rattle.tag_search.specs.Visits.{plain_visits, shallow_visits}
-use Rattle.tag_sets.specs.declared.fault.TagFault.{TagFault}
-use Rattle.tag_queue.specs.declared.queue.Options.{Options}
-use Rattle.tag_queue.specs.Opening.{IsLaidOut}
-use Rattle.tag_sets.specs.declared.fault.TagFault.TheVariants.{NotPosted}
-use Rattle.tag_sets.specs.declared.kind.Kind.{Kind}
-use Rattle.tag_sets.specs.declared.kind.Kind.TheVariants.{Ordinary, Reserved}
-use Rattle.tag_sets.specs.declared.shown.Shown.{Shown}
-use Rattle.tag_sets.specs.Bits.{bit_in}
 use Rattle.tag_sets.specs.Gets.{whole, whole_run}
-use Rattle.tag_sets.specs.Sets.{kind_of, number_in_set}
-use Rattle.tag_board.specs.Searches.{Searcher, Searchers, first_of, ChangesOne, ChangesOneOf}
-use Rattle.tag_board.specs.States.{State}
 
 -- a set with one caller: its layout, which places are free and which set aside, which tags are posted, and where the
 -- next get begins
@@ -33,11 +19,15 @@ pub record AloneSet : Type 0 where
   pub posted : ℕ → Bool
   pub hint : Hint
 
--- a set without any step: each of the 64 places of each word is free
+-- each of the 64 places of each word is free
+abbrev pub all_free : Pool
+all_free = record { free = λ word place. nat_lt place 64; aside = λ word place. false }
+
+-- a set without any step
 abbrev pub untouched : Layout → Bool → AloneSet
 untouched layout round_robin = record {
   layout = layout;
-  pool = record { free = λ word place. nat_lt place 64; aside = λ word place. false };
+  pool = all_free;
   posted = λ tag. false;
   hint = record { at = 0; round_robin = round_robin };
 }
@@ -46,26 +36,32 @@ untouched layout round_robin = record {
 abbrev pub AloneSets : Type 0
 AloneSets = Kind → AloneSet
 
--- a set, as the steps of its only caller determine it
-abbrev pub set_left : Searcher → AloneSet
-set_left s = record {
-  layout = s.layout;
-  pool = pool_of (words_left s.steps);
-  posted = λ tag. nat_eq ((cells_left s.steps).state tag) 1;
-  hint = s.hint;
+-- a set of this layout, as these steps of its only caller, newest first, leave it, with the hint of that caller
+abbrev pub set_left : Layout → List (Step ℕ) → Hint → AloneSet
+set_left layout steps hint = record {
+  layout = layout;
+  pool = pool_of (words_left steps);
+  posted = λ tag. nat_eq ((cells_left steps).state tag) 1;
+  hint = hint;
 }
-
--- both sets, as the steps of their only caller determine them
-abbrev pub sets_left : Searchers → AloneSets
-sets_left s = λ kind. set_left (s kind)
-
--- both sets of a board with one caller
-abbrev pub sets_in : State → AloneSets
-sets_in s = sets_left (s.searcher 0)
 
 -- the number of reserved tags, which are the lowest of the range
 abbrev pub split_in : AloneSets → ℕ
 split_in sets = (sets Reserved).layout.depth
+
+-- the first tag of a set, if the first `split` tags are reserved
+abbrev pub first_of : ℕ → Kind → ℕ
+first_of split Ordinary = split
+first_of split Reserved = 0
+
+-- one set changed so, and the other is unchanged
+abbrev pub ChangesOne : Kind → (AloneSet → AloneSet → Type 0) → AloneSets → AloneSets → Type 0
+ChangesOne kind change old new = change (old kind) (new kind) × (new (other_kind kind) ≡ old (other_kind kind))
+
+-- the set of this tag is what the change makes of it for the tag's number there, and the other is unchanged
+abbrev pub ChangesTag : (ℕ → AloneSet → AloneSet) → ℕ → AloneSets → AloneSets → Type 0
+ChangesTag change tag old = let number : ℕ = number_in_set (split_in old) tag in
+    ChangesOne (kind_of (split_in old) tag) (λ before after. after ≡ change number before) old
 
 -- the visits of a plain get, from the hint on
 abbrev pub plain : AloneSet → List Visit
@@ -119,10 +115,14 @@ abbrev pub is_named : Layout → List ℕ → ℕ → ℕ → Bool
 is_named l numbers word place = list_any (λ number. nat_eq word (word_of l number) && nat_eq place (place_of l number))
     numbers
 
+-- the tags of the list are free, and what is set aside is unchanged
+abbrev pub freed : Layout → List ℕ → Pool → Pool
+freed l numbers p = record p { free = λ word place. p.free word place || is_named l numbers word place }
+
 -- the tags of the list are free, and the hint moves to the last of them, except under round robin
 abbrev pub give_back : List ℕ → AloneSet → AloneSet
 give_back numbers w = record w {
-  pool = record w.pool { free = λ word place. w.pool.free word place || is_named w.layout numbers word place };
+  pool = freed w.layout numbers w.pool;
   hint = hint_at (slice_index numbers (length numbers - 1)) w.hint;
 }
 
@@ -138,23 +138,14 @@ take_in number w = record w { posted = λ other. w.posted other && not (nat_eq o
 abbrev pub is_posted : AloneSets → ℕ → Bool
 is_posted sets tag = (sets (kind_of (split_in sets) tag)).posted (number_in_set (split_in sets) tag)
 
--- a clear
-abbrev pub AloneClears : ℕ → AloneSets → AloneSets → Type 0
-AloneClears tag old = ChangesOneOf (split_in old) tag (λ number before after. after ≡ put_back number before) old
-
 -- a clear of a list of ordinary tags
 abbrev pub AloneClearsList : List ℕ → AloneSets → AloneSets → Type 0
 AloneClearsList tags old = ChangesOne Ordinary
     (λ before after. after ≡ give_back (map (λ tag. tag - split_in old) tags) before) old
 
--- a post
-abbrev pub AlonePosts : ℕ → AloneSets → AloneSets → Type 0
-AlonePosts tag old = ChangesOneOf (split_in old) tag (λ number before after. after ≡ post_in number before) old
-
 -- a take, which finds the tag exactly if it is posted
 abbrev pub AloneTakes : ℕ → AloneSets → Result (Unit {0}) TagFault → AloneSets → Type 0
-AloneTakes tag old (Ok done) new = (is_posted old tag ≡ true)
-    × ChangesOneOf (split_in old) tag (λ number before after. after ≡ take_in number before) old new
+AloneTakes tag old (Ok done) new = (is_posted old tag ≡ true) × ChangesTag take_in tag old new
 AloneTakes tag old (Err NotPosted) new = (is_posted old tag ≡ false) × (new ≡ old)
 AloneTakes tag old (Err fault) new = new ≡ old
 

@@ -1,7 +1,7 @@
-pub mod Searches
+mod Uses
+pub mod AloneSets
 pub mod States
 pub mod Wakeups
-pub mod AloneSets
 pub mod Parts
 pub mod Boards
 pub mod Refusals

@@ -1,11 +1,7 @@
 -- A board as it is opened.
-use Rattle.std.specs.Prelude.{◌≡◌, ℕ, ◌-◌, ◌^◌, ◌<◌, max, unwrap_or}
-use Rattle.tag_layout.specs.Layout.{HasShift}
-use Rattle.tag_queue.specs.declared.queue.Options.{Options}
-use Rattle.tag_sets.specs.declared.kind.Kind.{Kind}
-use Rattle.tag_sets.specs.declared.kind.Kind.TheVariants.{Ordinary, Reserved}
-use Rattle.tag_board.specs.AloneSets.{AreUntouched, sets_in}
-use Rattle.tag_board.specs.Searches.{Begins}
+use Rattle.tag_board.specs.Uses.{HasShift, Kind, max, Options, Ordinary, Reserved, unwrap_or, ℕ}
+use Rattle.std.specs.Prelude.{◌≡◌, ◌-◌, ◌^◌, ◌<◌}
+use Rattle.tag_board.specs.AloneSets.{AreUntouched}
 use Rattle.tag_board.specs.States.{State, idle}
 use Rattle.tag_board.specs.Wakeups.{Starts}
 
@@ -25,5 +21,4 @@ pub record IsOpen (total reserved : ℕ) (options : Options) (s : State) : Type 
   pub reserved_bits : HasBits options reserved (s.terms.bits Reserved)
   pub idle_all : (caller : ℕ) → caller < s.terms.callers → s.part caller ≡ idle options.round_robin
   pub outside : (caller : ℕ) → caller < s.terms.callers → Starts (s.waiter caller)
-  pub begins : (caller : ℕ) → caller < s.terms.callers → Begins total reserved options (s.searcher caller)
-  pub untouched : s.terms.callers ≡ 1 → AreUntouched total reserved options (sets_in s)
+  pub untouched : s.terms.callers ≡ 1 → AreUntouched total reserved options s.alone

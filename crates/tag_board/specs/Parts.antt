@@ -1,19 +1,14 @@
 -- The hands of shared tags, as the callers of a board.
-use Rattle.std.specs.Prelude.{◌≡◌, ℕ, ◌+◌, ◌<◌, Bool, false, ◌&&◌, nat_eq, nat_lt, List, length, map, slice_index, slice_index_or, is_some}
-use Rattle.tag_layout.specs.Layout.{word_bits}
+use Rattle.tag_board.specs.Uses.{Bool, false, is_some, Kind, kind_of, length, List, map, nat_eq, nat_lt, number_in_set, Ordinary, Reserved, slice_index, slice_index_or, word_bits, ℕ}
+use Rattle.std.specs.Prelude.{◌≡◌, ◌+◌, ◌<◌, ◌&&◌}
 use Rattle.tag_core.specs.declared.record.Record.{Record}
 use Rattle.tag_core.specs.Callers.{record_of}
 use Rattle.tag_core.specs.Records.{tag_bit}
-use Rattle.tag_queue.specs.declared.agent.Agent.{Agent}
 use Rattle.tag_queue.specs.Agents as queue
 use Rattle.tag_sets.specs.declared.hand.Hand.{Hand}
-use Rattle.tag_sets.specs.declared.kind.Kind.{Kind}
-use Rattle.tag_sets.specs.declared.kind.Kind.TheVariants.{Ordinary, Reserved}
 use Rattle.tag_sets.specs.declared.tags.Tags.{Tags}
-use Rattle.tag_sets.specs.Sets.{kind_of, number_in_set}
-use Rattle.tag_sets.specs.Hands.{agent_of, queue_of, layout_of, reserved_of, total_of, least_of, split_of, standing_of, hint_of, number_of}
-use Rattle.tag_sets.specs.Hands.{book_steps, group_steps, wait_index_of}
-use Rattle.tag_board.specs.Searches.{Searcher, Searchers, nobody}
+use Rattle.tag_sets.specs.Hands.{agent_of, book_steps, group_steps, hint_of, layout_of, least_of, number_of, queue_of, reserved_of, split_of, standing_of, total_of, wait_index_of}
+use Rattle.tag_board.specs.AloneSets.{AloneSets, set_left, untouched}
 use Rattle.tag_board.specs.States.{Terms, Part, Waiter, State, idle, newcomer}
 
 -- the record of the hand's caller on the map of a set
@@ -62,17 +57,13 @@ waiter_of hand = record {
   next = wait_index_of hand;
 }
 
--- an agent as it works on its set
-abbrev pub searcher_of : Agent ℕ → Searcher
-searcher_of agent = record {
-  layout = (queue.caller_of agent).shape.value.layout;
-  steps = (record_of (queue.caller_of agent)).steps;
-  hint = queue.hint_of agent;
-}
+-- both sets, as the hand's own steps leave them
+abbrev pub sets_of : Tags ℕ → Hand ℕ → AloneSets
+sets_of tags hand = λ kind. set_left (layout_of tags kind) (record_in hand kind).steps (hint_of hand kind)
 
--- the hand as it works on both sets
-abbrev pub searchers_in : Hand ℕ → Searchers
-searchers_in hand = λ kind. searcher_of (agent_of hand kind)
+-- the sets of a board without callers
+abbrev pub no_sets : AloneSets
+no_sets kind = untouched (record { depth = 0; shift = 0 }) false
 
 -- the state of these tags and hands: caller n is the hand at index n
 abbrev pub state_of_all : Tags ℕ → List (Hand ℕ) → State
@@ -81,5 +72,5 @@ state_of_all tags hands = record {
   total = total_of tags;
   part = λ caller. slice_index_or (map part_of hands) caller (idle false);
   waiter = λ caller. slice_index_or (map waiter_of hands) caller newcomer;
-  searcher = λ caller. slice_index_or (map searchers_in hands) caller nobody;
+  alone = slice_index_or (map (sets_of tags) hands) 0 no_sets;
 }

@@ -1,44 +1,31 @@
--- Which commands are refused, and with which fault: the first cause that holds, in the order of the command.
-use Rattle.std.specs.Prelude.{◌≡◌, ◌≢◌, ◌⊎◌, ℕ, ◌+◌, ◌<◌, ◌≤◌, true, false, List, All, AllPairs}
-use Rattle.tag_sets.specs.declared.fault.TagFault.{TagFault}
-use Rattle.tag_sets.specs.declared.fault.TagFault.TheVariants.{NoSuchTag, NoReserved, NotHeld, BadCount, TooShallow, Spent, Waiting, NotWaiting}
+-- Which commands are refused: what each checks, in order, with the fault that it answers if the check fails.
+use Rattle.tag_board.specs.Uses.{[], All, AllPairs, BadCount, Checks, false, Kind, List, NoReserved, NoSuchTag, NotHeld, NotWaiting, Ordinary, Reserved, Spent, TagFault, TooShallow, true, ℕ}
+use Rattle.std.specs.Prelude.{◌≡◌, ◌≢◌, ◌+◌, ◌<◌, ◌≤◌, ◌∷◌}
+use Rattle.tag_sets.specs.declared.fault.TagFault.TheVariants.{Waiting}
 use Rattle.tag_queue.specs.Batches.{CountsTags}
-use Rattle.tag_sets.specs.declared.kind.Kind.{Kind}
-use Rattle.tag_sets.specs.declared.kind.Kind.TheVariants.{Ordinary, Reserved}
 use Rattle.tag_board.specs.States.{State}
 
--- winning n more tags of a set could exceed the caller's life
-abbrev pub IsSpent : State → ℕ → Kind → ℕ → Type 0
-IsSpent s caller kind n = s.terms.life kind < (s.part caller).won kind + n
+-- the caller may win n more tags of a set
+abbrev pub MayWin : State → ℕ → Kind → ℕ → Type 0
+MayWin s caller kind n = (s.part caller).won kind + n ≤ s.terms.life kind
 
 -- a get from a set
-abbrev pub RefusesGet : State → ℕ → Kind → TagFault → Type 0
-RefusesGet s caller Ordinary Spent = IsSpent s caller Ordinary 1
-RefusesGet s caller Reserved NoReserved = s.terms.reserved ≡ 0
-RefusesGet s caller Reserved Spent = (1 ≤ s.terms.reserved) × IsSpent s caller Reserved 1
-RefusesGet s caller kind fault = ⊥
+abbrev pub get_checks : State → ℕ → Kind → Checks TagFault
+get_checks s caller Ordinary = (MayWin s caller Ordinary 1, Spent) ∷ []
+get_checks s caller Reserved = (1 ≤ s.terms.reserved, NoReserved) ∷ (MayWin s caller Reserved 1, Spent) ∷ []
 
 -- a shallow get of this depth
-abbrev pub RefusesShallow : State → ℕ → ℕ → TagFault → Type 0
-RefusesShallow s caller depth TooShallow = depth < s.terms.least
-RefusesShallow s caller depth Spent = (s.terms.least ≤ depth) × IsSpent s caller Ordinary 1
-RefusesShallow s caller depth fault = ⊥
+abbrev pub shallow_checks : State → ℕ → ℕ → Checks TagFault
+shallow_checks s caller depth = (s.terms.least ≤ depth, TooShallow) ∷ (MayWin s caller Ordinary 1, Spent) ∷ []
 
--- a count that no batch may have: 0, or more than the bits of a word
-abbrev pub Miscounts : State → ℕ → Type 0
-Miscounts s n = (n ≡ 0) ⊎ (s.terms.bits Ordinary < n)
-
--- a batch get of n tags
-abbrev pub RefusesBatch : State → ℕ → ℕ → TagFault → Type 0
-RefusesBatch s caller n BadCount = Miscounts s n
-RefusesBatch s caller n Spent = ¬ (Miscounts s n) × ((s.part caller).round_robin ≡ false) × IsSpent s caller Ordinary n
-RefusesBatch s caller n fault = ⊥
+-- a batch get of n tags, 1 to the bits of a word, which under round robin wins none
+abbrev pub batch_checks : State → ℕ → ℕ → Checks TagFault
+batch_checks s caller n = ((1 ≤ n) × (n ≤ s.terms.bits Ordinary), BadCount)
+    ∷ ((s.part caller).round_robin ≡ false → MayWin s caller Ordinary n, Spent) ∷ []
 
 -- a clear or a post of this tag
-abbrev pub RefusesTag : State → ℕ → ℕ → TagFault → Type 0
-RefusesTag s caller tag NoSuchTag = s.total ≤ tag
-RefusesTag s caller tag NotHeld = (tag < s.total) × ((s.part caller).held tag ≡ false)
-RefusesTag s caller tag fault = ⊥
+abbrev pub tag_checks : State → ℕ → ℕ → Checks TagFault
+tag_checks s caller tag = (tag < s.total, NoSuchTag) ∷ ((s.part caller).held tag ≡ true, NotHeld) ∷ []
 
 -- each tag of the list is an ordinary one
 abbrev pub AreOrdinary : State → List ℕ → Type 0
@@ -49,18 +36,14 @@ abbrev pub AreHeldOnce : State → ℕ → List ℕ → Type 0
 AreHeldOnce s caller tags = All (λ tag. (s.part caller).held tag ≡ true) tags × AllPairs (λ a b. a ≢ b) tags
 
 -- a clear of a list of tags
-abbrev pub RefusesList : State → ℕ → List ℕ → TagFault → Type 0
-RefusesList s caller tags BadCount = ¬ (CountsTags tags)
-RefusesList s caller tags NoSuchTag = CountsTags tags × ¬ (AreOrdinary s tags)
-RefusesList s caller tags NotHeld = CountsTags tags × AreOrdinary s tags × ¬ (AreHeldOnce s caller tags)
-RefusesList s caller tags fault = ⊥
+abbrev pub list_checks : State → ℕ → List ℕ → Checks TagFault
+list_checks s caller tags =
+    (CountsTags tags, BadCount) ∷ (AreOrdinary s tags, NoSuchTag) ∷ (AreHeldOnce s caller tags, NotHeld) ∷ []
 
 -- a wait
-abbrev pub RefusesWait : State → ℕ → TagFault → Type 0
-RefusesWait s caller Waiting = (s.part caller).stands ≡ true
-RefusesWait s caller fault = ⊥
+abbrev pub wait_checks : State → ℕ → Checks TagFault
+wait_checks s caller = ((s.part caller).stands ≡ false, Waiting) ∷ []
 
 -- the end of a wait
-abbrev pub RefusesLeave : State → ℕ → TagFault → Type 0
-RefusesLeave s caller NotWaiting = (s.part caller).stands ≡ false
-RefusesLeave s caller fault = ⊥
+abbrev pub leave_checks : State → ℕ → Checks TagFault
+leave_checks s caller = ((s.part caller).stands ≡ true, NotWaiting) ∷ []

@@ -1,24 +1,17 @@
 -- The answer of each command, and the state that it leaves.
-use Rattle.std.specs.Prelude.{◌≡◌, ◌≢◌, ℕ, ◌+◌, ◌-◌, ◌<◌, ◌≤◌, Bool, true, false, not, ◌&&◌, ◌||◌, nat_eq, nat_le, IsTrue, List, length, Option, Some, None, Result, Ok, Err}
-use Rattle.std.specs.Int.{bit_at}
-use Rattle.std.specs.List.{list_any}
-use Rattle.tag_sets.specs.declared.fault.TagFault.{TagFault}
-use Rattle.tag_sets.specs.declared.fault.TagFault.TheVariants.{NoSuchTag, NotPosted}
+use Rattle.tag_board.specs.Uses.{bit_at, Bool, Checks, Err, FailsFirst, false, IsTrue, Kind, Left, length, List, list_any, nat_eq, nat_le, None, NoSuchTag, not, NotPosted, Ok, Option, Ordinary, PassesAll, Reserved, Result, Some, TagFault, true, Wakes, ℕ}
+use Rattle.std.specs.Prelude.{◌≡◌, ◌≢◌, ◌+◌, ◌-◌, ◌<◌, ◌≤◌, ◌&&◌, ◌||◌}
 use Rattle.tag_search.specs.Gains.{count_of, count_of_run}
-use Rattle.tag_sets.specs.declared.kind.Kind.{Kind}
-use Rattle.tag_sets.specs.declared.kind.Kind.TheVariants.{Ordinary, Reserved}
-use Rattle.tag_queue.specs.declared.waits.Wakes.{Wakes}
-use Rattle.wake_book.specs.declared.waiting.Left.{Left}
-use Rattle.tag_board.specs.AloneSets.{AloneSets, sets_in, plain, shallow, AloneGets, AloneBatch, AloneClears, AloneClearsList, AlonePosts, AloneTakes}
-use Rattle.tag_board.specs.Searches.{TriesTag}
+use Rattle.tag_board.specs.AloneSets.{AloneSets, plain, shallow, put_back, post_in, ChangesTag, AloneGets, AloneBatch, AloneClearsList, AloneTakes}
 use Rattle.tag_board.specs.States.{Part, Waiter, State}
 use Rattle.tag_board.specs.Wakeups.{GrantsFor, GrantsForTag, Enters, Leaves as LeavesGroup, Finds}
-use Rattle.tag_board.specs.Refusals.{RefusesGet, RefusesShallow, RefusesBatch, RefusesTag, RefusesList, RefusesWait, RefusesLeave}
+use Rattle.tag_board.specs.Refusals.{get_checks, shallow_checks, batch_checks, tag_checks, list_checks, wait_checks, leave_checks}
 
--- the command is refused for a cause that holds, and changes nothing; or no cause holds, and `done` holds of the answer
-abbrev pub Answers : {A : Type 0} → (TagFault → Type 0) → (A → Type 0) → State → Result A TagFault → State → Type 0
-Answers refuses done old (Ok answer) new = ((fault : TagFault) → ¬ (refuses fault)) × done answer
-Answers refuses done old (Err fault) new = refuses fault × (new ≡ old)
+-- every check passes, and `done` holds of the answer; or the fault is that of the first check that fails, and nothing
+-- changes
+abbrev pub Answers : {A : Type 0} → Checks TagFault → (A → Type 0) → State → Result A TagFault → State → Type 0
+Answers checks done old (Ok answer) new = PassesAll checks × done answer
+Answers checks done old (Err fault) new = FailsFirst checks fault × (new ≡ old)
 
 -- it is unchanged
 abbrev pub AsBefore : {A : Type 0} → A → A → Type 0
@@ -28,10 +21,9 @@ AsBefore old new = new ≡ old
 pub record Keeps (caller : ℕ) (old new : State) : Type 0 where
   pub part : new.part caller ≡ old.part caller
   pub waiter : new.waiter caller ≡ old.waiter caller
-  pub searcher : new.searcher caller ≡ old.searcher caller
 
 -- this caller's tags changed so, and so did the caller as it waits and wakes others; if it is the only one, both sets
--- changed so; all else is unchanged, but for the steps of this caller on both sets
+-- changed so; all else is unchanged
 pub record Changes (caller : ℕ) (change : Part → Part) (waits : Waiter → Waiter → Type 0)
     (alters : AloneSets → AloneSets → Type 0) (old new : State) : Type 0 where
   pub terms : new.terms ≡ old.terms
@@ -39,7 +31,7 @@ pub record Changes (caller : ℕ) (change : Part → Part) (waits : Waiter → W
   pub own : new.part caller ≡ change (old.part caller)
   pub waiter : waits (old.waiter caller) (new.waiter caller)
   pub others : (other : ℕ) → other ≢ caller → Keeps other old new
-  pub alone : old.terms.callers ≡ 1 → alters (sets_in old) (sets_in new)
+  pub alone : old.terms.callers ≡ 1 → alters old.alone new.alone
 
 -- the caller holds and counts what it did
 abbrev pub as_before : Part → Part
@@ -106,58 +98,56 @@ is_in_list tags tag = list_any (nat_eq tag) tags
 -- a get from a set
 abbrev pub Gets : Kind → ℕ → State → Result (Option ℕ) TagFault → State → Type 0
 Gets kind caller old result new =
-    Answers (RefusesGet old caller kind)
+    Answers (get_checks old caller kind)
     (λ answer. Wins caller kind (is_answer answer) (count_of answer) (AloneGets kind plain answer) old new) old result new
 
 -- a shallow get of this depth
 abbrev pub GetsShallow : ℕ → ℕ → State → Result (Option ℕ) TagFault → State → Type 0
 GetsShallow depth caller old result new =
-    Answers (RefusesShallow old caller depth)
+    Answers (shallow_checks old caller depth)
     (λ answer. Wins caller Ordinary (is_answer answer) (count_of answer) (AloneGets Ordinary (shallow depth) answer) old
     new) old result new
 
 -- a batch get of n tags, which finds none under round robin
 abbrev pub GetsBatch : ℕ → ℕ → State → Result (Option (ℕ × ℕ)) TagFault → State → Type 0
-GetsBatch n caller old result new = Answers (RefusesBatch old caller n)
+GetsBatch n caller old result new = Answers (batch_checks old caller n)
     (λ answer. ((old.part caller).round_robin ≡ true → answer ≡ None)
     × Wins caller Ordinary (is_in_run answer) (count_of_run answer) (AloneBatch n answer) old new) old result new
 
--- a clear, with the number of waiters woken, which is 0 for a reserved tag
+-- a clear, with the number of waiters woken
 abbrev pub Clears : ℕ → ℕ → State → Result ℕ TagFault → State → Type 0
-Clears tag caller old result new = Answers (RefusesTag old caller tag)
-    (λ woken. (tag < old.terms.reserved → woken ≡ 0)
-    × Changes caller (cleared (nat_eq tag) 1) (GrantsForTag old.terms tag woken) (AloneClears tag) old new) old result new
+Clears tag caller old result new = Answers (tag_checks old caller tag)
+    (λ woken. Changes caller (cleared (nat_eq tag) 1) (GrantsForTag old.terms tag woken) (ChangesTag put_back tag)
+    old new) old result new
 
 -- a clear of a list of tags, with the number of waiters woken
 abbrev pub ClearsList : List ℕ → ℕ → State → Result ℕ TagFault → State → Type 0
-ClearsList tags caller old result new = Answers (RefusesList old caller tags)
+ClearsList tags caller old result new = Answers (list_checks old caller tags)
     (λ woken. Changes caller (cleared (is_in_list tags) (length tags)) (GrantsFor old.terms.cap (length tags) woken)
     (AloneClearsList tags) old new) old result new
 
 -- a post
 abbrev pub Posts : ℕ → ℕ → State → Result (Unit {0}) TagFault → State → Type 0
-Posts tag caller old result new = Answers (RefusesTag old caller tag)
-    (λ done. Changes caller (left (nat_eq tag)) AsBefore (AlonePosts tag) old new) old result new
+Posts tag caller old result new = Answers (tag_checks old caller tag)
+    (λ done. Changes caller (left (nat_eq tag)) AsBefore (ChangesTag post_in tag) old new) old result new
 
--- a take of a tag in range made one exchange, which found it posted or not; no caller held a tag that was taken
+-- a take of a tag in range finds it posted or not; no caller held a tag that was taken
 abbrev pub Takes : ℕ → ℕ → State → Result (Unit {0}) TagFault → State → Type 0
 Takes tag caller old (Ok done) new = (tag < old.total) × NobodyHolds old (nat_eq tag)
     × Changes caller (joined (nat_eq tag)) AsBefore (λ sets. AloneTakes tag sets (Ok done)) old new
-    × TriesTag tag (Ok done) (old.searcher caller) (new.searcher caller)
 Takes tag caller old (Err NoSuchTag) new = (old.total ≤ tag) × (new ≡ old)
 Takes tag caller old (Err NotPosted) new = (tag < old.total)
     × Changes caller as_before AsBefore (λ sets. AloneTakes tag sets (Err NotPosted)) old new
-    × TriesTag tag (Err NotPosted) (old.searcher caller) (new.searcher caller)
 Takes tag caller old (Err fault) new = ⊥
 
 -- a wait, with the group that the caller entered
 abbrev pub Waits : ℕ → State → Result ℕ TagFault → State → Type 0
-Waits caller old result new = Answers (RefusesWait old caller)
-    (λ group. (group < 8) × Changes caller (standing true) (Enters group) AsBefore old new) old result new
+Waits caller old result new = Answers (wait_checks old caller)
+    (λ group. Changes caller (standing true) (Enters group) AsBefore old new) old result new
 
 -- the end of a wait, which tells whether the caller used a wakeup
 abbrev pub Leaves : ℕ → State → Result Left TagFault → State → Type 0
-Leaves caller old result new = Answers (RefusesLeave old caller)
+Leaves caller old result new = Answers (leave_checks old caller)
     (λ left. Changes caller (standing false) (LeavesGroup left) AsBefore old new) old result new
 
 -- the counts of wakeups: at most as many wakeups as completions, and at least one active waiter if the caller waits

@@ -6,8 +6,7 @@ use Rattle.tag_sets.specs.Opening.{HasRange}
 use Rattle.tag_sets.specs.Resizing.{IsOutOfRange}
 use Rattle.tag_board.specs.States.{State, held_in, posted_in, standing_in}
 use Rattle.tag_board.specs.Replays.{NobodyHolds}
-use Rattle.tag_board.specs.AloneSets.{AloneResizes, sets_in}
-use Rattle.tag_board.specs.Searches.{ResizesSets}
+use Rattle.tag_board.specs.AloneSets.{AloneResizes}
 
 -- no tag is held, and none is posted
 abbrev pub AreUnused : State → Type 0
@@ -26,11 +25,10 @@ RefusesResize s total cause = ⊥
 abbrev pub MayResize : State → ℕ → Type 0
 MayResize s total = HasRange total s.terms.reserved × AreUnused s × (standing_in s ≡ 0)
 
--- a resize: the total changes, no caller holds a tag, and all callers go on with a new ordinary set; a refusal changes
--- nothing
+-- a resize: the total changes, and no caller holds a tag; if there is one caller, it goes on with a new ordinary set and
+-- the same reserved one; a refusal changes nothing
 abbrev pub Resizes : ℕ → State → Result (Unit {0}) ResizeCause → State → Type 0
 Resizes total old (Ok done) new =
-    MayResize old total × (new ≡ record old { total = total; searcher = new.searcher }) × NobodyHolds new (λ tag. true)
-    × ResizesSets old.terms.callers total old.searcher new.searcher
-    × (old.terms.callers ≡ 1 → AloneResizes total (sets_in old) (sets_in new))
+    MayResize old total × (new ≡ record old { total = total; alone = new.alone }) × NobodyHolds new (λ tag. true)
+    × (old.terms.callers ≡ 1 → AloneResizes total old.alone new.alone)
 Resizes total old (Err cause) new = RefusesResize old total cause × (new ≡ old)

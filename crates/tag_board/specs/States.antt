@@ -1,11 +1,9 @@
--- The state of a board: what is known of its callers.
-use Rattle.std.specs.Prelude.{ℕ, ◌+◌, ◌-◌, Bool, false, List, [], Option, None}
-use Rattle.sums.specs.Below.{sum_below, count_below}
-use Rattle.tag_sets.specs.declared.kind.Kind.{Kind}
-use Rattle.tag_sets.specs.declared.kind.Kind.TheVariants.{Ordinary, Reserved}
+-- The state of a board: what is known of its callers, and of both sets if there is only one.
+use Rattle.tag_board.specs.Uses.{[], Bool, count_below, false, Kind, List, None, Option, Ordinary, Reserved, sum_below, ℕ}
+use Rattle.std.specs.Prelude.{◌+◌, ◌-◌}
 use Rattle.wake_book.specs.declared.steps.BookStep.{BookStep}
 use Rattle.wake_book.specs.declared.steps.GroupStep.{GroupStep}
-use Rattle.tag_board.specs.Searches.{Searchers}
+use Rattle.tag_board.specs.AloneSets.{AloneSets}
 
 -- what never changes: the number of reserved tags, which are the lowest; the number of callers; the most tags of a set
 -- that a caller may win; the most completions that it may count; the least depth of a shallow get; and the bits of a
@@ -35,14 +33,14 @@ pub record Waiter : Type 0 where
   pub group : Option ℕ
   pub next : ℕ
 
--- what never changes, the number of tags in both sets, and each caller: its tags, how it waits and wakes others, and its
--- own steps on both sets
+-- what never changes, the number of tags in both sets, each caller: its tags, and how it waits and wakes others; and both
+-- sets as the steps of caller 0 leave them, which are all steps if there is no other caller
 pub record State : Type 0 where
   pub terms : Terms
   pub total : ℕ
   pub part : ℕ → Part
   pub waiter : ℕ → Waiter
-  pub searcher : ℕ → Searchers
+  pub alone : AloneSets
 
 -- a caller that has done nothing
 abbrev pub idle : Bool → Part

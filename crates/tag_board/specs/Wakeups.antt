@@ -1,13 +1,12 @@
 -- What commands do to completions and wakeups, as the steps of their callers say.
-use Rattle.std.specs.Prelude.{◌≡◌, ℕ, ◌+◌, ◌%◌, ◌<◌, ◌≤◌, ◌⊎◌, ◌∷◌, Some, None}
+use Rattle.tag_board.specs.Uses.{Left, None, Some, Wakes, ℕ}
+use Rattle.std.specs.Prelude.{◌≡◌, ◌+◌, ◌%◌, ◌<◌, ◌≤◌, ◌⊎◌, ◌∷◌}
 use Rattle.step_ledger.specs.History.{total}
 use Rattle.wake_book.specs.declared.steps.BookStep.TheVariants.{LookCompletions, LookWakeups}
 use Rattle.wake_book.specs.declared.steps.GroupStep.TheVariants.{Look, Enter, Raise}
-use Rattle.wake_book.specs.declared.waiting.Left.{Left}
 use Rattle.wake_book.specs.Charges.{added}
 use Rattle.wake_book.specs.Waits.{active_at, index_at, moved_by}
 use Rattle.wake_book.specs.Walks.{IsLeave}
-use Rattle.tag_queue.specs.declared.waits.Wakes.{Wakes}
 use Rattle.tag_board.specs.States.{Terms, Waiter}
 
 -- a caller that is in no group, and enters group 0 first
@@ -27,13 +26,15 @@ pub record GrantsFor (cap n woken : ℕ) (old new : Waiter) : Type 0 where
   pub counted : (total added new.book ≡ total added old.book + n) ⊎ CountsNone cap n old new
   pub stays : (new.group ≡ old.group) × (new.next ≡ old.next)
 
--- a clear of one tag: a reserved one is not counted
+-- a clear of one tag: a reserved one is not counted, and wakes nobody
 abbrev pub GrantsForTag : Terms → ℕ → ℕ → Waiter → Waiter → Type 0
 GrantsForTag terms tag woken old new =
-    (tag < terms.reserved → new ≡ old) × (terms.reserved ≤ tag → GrantsFor terms.cap 1 woken old new)
+    (tag < terms.reserved → (woken ≡ 0) × (new ≡ old))
+    × (terms.reserved ≤ tag → GrantsFor terms.cap 1 woken old new)
 
 -- a wait: the group told is the one that was next, the caller is in it, and the next one follows it in the circle of 8
 pub record Enters (group : ℕ) (old new : Waiter) : Type 0 where
+  pub within : group < 8
   pub group_is : group ≡ old.next
   pub inside : new.group ≡ Some group
   pub next : new.next ≡ (old.next + 1) % 8

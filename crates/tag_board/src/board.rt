@@ -1,12 +1,13 @@
 //! The board of a script.
 ghost use Rattle.std.specs.Prelude.{◌≡◌, length, All};
-ghost use Rattle.tag_sets.specs.Hands.{IsHandOf, total_of, reserved_of};
+ghost use Rattle.tag_sets.specs.Hands.{IsHandOf, total_of, reserved_of, waits_of};
+ghost use Rattle.tag_queue.specs.declared.queue.Waits.TheVariants.{InGroups};
 ghost use Rattle.tag_sets.specs.Gathering.{hands_of};
 ghost use Rattle.tag_board.specs.Parts.{AreOrdered};
 
 use tag_sets::{Hand, Tags};
 
-/// Shared tags and all their hands: the hand at index `n` is caller `n`. A contract sees a board as its `State`, which
+/// Shared tags and all their hands, which wait in groups: the hand at index `n` is caller `n`. A contract sees a board as its `State`, which
 /// is what the answers so far determine.
 #[derive(Drop)]
 pub struct Board {
@@ -20,5 +21,6 @@ pub struct Board {
     ghost own: { All (IsHandOf tags) hands.items },
     ghost ordered: { AreOrdered hands.items },
     ghost every: { length hands.items ≡ hands_of tags },
+    ghost waits: { waits_of tags ≡ InGroups },
     ghost sizes: { (total_of tags ≡ total) × (reserved_of tags ≡ reserved) },
 }

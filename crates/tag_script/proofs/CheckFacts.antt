@@ -1,11 +1,9 @@
 -- The event that stops a run, by its place in the list.
-use Rattle.std.proofs.Common.{◌≡◌, ℕ, ◌+◌, List, refl, sym, ap, ◌∙◌, slice_index_or}
-use Rattle.std.proofs.lemmas.List.{get_or_at}
-use Rattle.tag_layout.specs.Layout.{Layout}
+use Rattle.tag_script.proofs.Uses.{ap, get_or_at, Layout, List, refl, slice_index_or, StopsAt, sym, ℕ, ◌∙◌}
+use Rattle.std.proofs.Common.{◌≡◌, ◌+◌}
 use Rattle.tag_model.specs.declared.event.Event.{Event}
 use Rattle.tag_model.specs.declared.event.EventFault.{EventFault}
 use Rattle.tag_model.specs.World.{World}
-use Rattle.tag_model.specs.Runs.{StopsAt}
 use Rattle.tag_script.specs.Check.{IsStopped}
 use Rattle.tag_script.specs.Refusals.{wrong_word}
 

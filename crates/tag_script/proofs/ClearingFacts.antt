@@ -1,21 +1,12 @@
 -- Freeing tags one after another, with one mask for neighbours in the same word.
-use Rattle.std.proofs.Common.{◌≡◌, ◌≢◌, ℕ, ◌+◌, ◌^◌, ◌<◌, ◌≤◌, Bool, true, false, not, ◌&&◌, ◌||◌, nat_eq, nat_lt, List, [], length, take, get_or, bit_or, refl, sym, ap, ◌∙◌, eq-eqb, ne_eqb, subst, arith}
+use Rattle.tag_script.proofs.Uses.{[], ap, arith, bit_at, bit_at-lt, bit_at-pow_other, bit_at-pow_same, bit_at-zero, bit_at_or, bit_or, Bool, eq-eqb, false, false≢true, free_at, freed, get_or, get_or-take, get_or_default_zero, is_busy, is_named, IsTaken, IsWithin, Layout, length, length-take, List, lt-ltb, MatchBool, nat_eq, nat_lt, ne_eqb, not, or_right, Plain, Pool, refl, subst, sym, tag_at, tag_at-back, take, true, word_of, ℕ, ◌∙◌}
+use Rattle.std.proofs.Common.{◌≡◌, ◌≢◌, ◌+◌, ◌^◌, ◌<◌, ◌≤◌, ◌&&◌, ◌||◌}
 use mathlib.Core.Logic.{dite}
 use native.Mathlib.Decide.{ℕ_discrete}
-use Rattle.std.specs.Int.{bit_at}
-use Rattle.std.specs.Prelude.{MatchBool}
-use Rattle.std.proofs.lemmas.Bool.{lt-ltb, false≢true, or_right}
 use Rattle.std.proofs.lemmas.List.Folds.{list_any_more, list_any_none}
-use Rattle.std.proofs.lemmas.Grind.{get_or_default_zero}
-use Rattle.std.proofs.lemmas.List.{length-take, get_or-take}
-use Rattle.std.proofs.lemmas.Nat.Bits.{bit_at_or, bit_at-lt, bit_at-zero, bit_at-pow_same, bit_at-pow_other}
-use Rattle.tag_layout.specs.Layout.{Layout, word_of, place_of, tag_at, IsWithin}
-use Rattle.tag_layout.proofs.PlaceFacts.{tag_at-back}
-use Rattle.tag_search.specs.Plain.{Plain, IsTaken}
-use Rattle.tag_search.specs.Pool.{Pool, is_busy, free_at}
+use Rattle.tag_layout.specs.Layout.{place_of}
 use Rattle.tag_search.proofs.Pools.{pool_ext, or_false, and_false}
 use Rattle.tag_search.proofs.OneTag.{one_place}
-use Rattle.tag_script.specs.PlainWorld.{freed, is_named}
 
 -- one more place is free
 abbrev pub with_place : ℕ → ℕ → Pool → Pool

@@ -1,16 +1,8 @@
 -- The numbers of tags held and set aside, counted word by word.
-use Rattle.std.proofs.Common.{◌≡◌, ℕ, zero, suc, ◌+◌, ◌-◌, ◌*◌, ◌^◌, ◌<◌, ◌≤◌, min, Bool, true, false, not, ◌&&◌, ◌||◌, nat_eq, nat_lt, cond, bit_and, count_ones, slice_index, refl, sym, ap, ◌∙◌, arith, rules}
-use Rattle.std.specs.Int.{bit_at, bit_not, w64}
-use Rattle.std.proofs.lemmas.Bool.{eqb-true}
-use Rattle.std.proofs.lemmas.Nat.{and_le_l, and_le_r}
-use Rattle.std.proofs.lemmas.Nat.Bits.{bit_at-zero, bit_at-lt, bit_at_and, bit_at_not}
-use Rattle.sums.specs.Below.{count_below}
+use Rattle.tag_script.proofs.Uses.{and_le_l, and_le_r, ap, arith, bit_and, bit_at, bit_at-lt, bit_at-zero, bit_at_and, bit_at_not, bit_not, Bool, cond, count_below, count_ones, count_word, eqb-true, false, is_busy, min, nat_eq, nat_lt, not, place_of-tag_at, Plain, plain_words, pool_of, refl, rules, slice_index, suc, sym, tag_at, true, w64, word_bits, word_depth, word_of, word_of-tag_at, words, zero, ℕ, ◌∙◌}
+use Rattle.std.proofs.Common.{◌≡◌, ◌+◌, ◌-◌, ◌*◌, ◌^◌, ◌<◌, ◌≤◌, ◌&&◌, ◌||◌}
 use Rattle.sums.proofs.Laws.{one_if-bit}
-use Rattle.tag_layout.specs.Layout.{word_bits, words, word_of, place_of, tag_at, word_depth}
-use Rattle.tag_layout.proofs.PlaceFacts.{word_of-tag_at, place_of-tag_at}
-use Rattle.tag_search.specs.Plain.{Plain, plain_words}
-use Rattle.tag_search.specs.Pool.{pool_of, is_busy}
-use Rattle.tag_sets.proofs.Tallies.{count_word}
+use Rattle.tag_layout.specs.Layout.{place_of}
 
 -- a bit that is 1 and not aside
 busy_bits : (b a : ℕ) → b < 2 → a < 2 → cond (not (nat_eq b 0 || nat_eq a 1)) 1 0 ≡ min b (1 - a)

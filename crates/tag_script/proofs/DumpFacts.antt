@@ -1,8 +1,6 @@
 -- Bytes made of bits.
-use Rattle.std.proofs.Common.{◌≡◌, ℕ, zero, suc, ◌+◌, ◌*◌, ◌^◌, ◌<◌, ◌≤◌, Bool, true, false, cond, arith}
-use Rattle.sums.specs.Below.{sum_below}
-use Rattle.tag_script.specs.Dump.{bit_value, is_held_tag}
-use Rattle.tag_script.specs.PlainWorld.{PlainWorld}
+use Rattle.tag_script.proofs.Uses.{arith, bit_value, Bool, cond, false, is_held_tag, PlainWorld, suc, sum_below, true, zero, ℕ}
+use Rattle.std.proofs.Common.{◌≡◌, ◌+◌, ◌*◌, ◌^◌, ◌<◌, ◌≤◌}
 
 value_le : (b : Bool) (x : ℕ) → cond b x 0 ≤ x
 value_le true x = omega arith

@@ -1,3 +1,4 @@
+mod Uses
 pub mod TextFacts
 pub mod DumpFacts
 pub mod ClearingFacts

@@ -1,15 +1,10 @@
 -- Orders carried out one after another, and the world of a plain caller.
-use Rattle.std.proofs.Common.{◌≡◌, ℕ, List, [], ◌∷◌, ◌++◌, ap, ◌∙◌, append-nil}
+use Rattle.tag_script.proofs.Uses.{[], ap, append-nil, IsRun, line_of, List, obeyed, ObeysAll, Order, over, Plain, plain_words, plain_world_of, pool_of, text_of, ℕ, ◌∙◌}
+use Rattle.std.proofs.Common.{◌≡◌, ◌∷◌, ◌++◌}
 use Rattle.std.proofs.lemmas.List.Concat.{flat_map-append}
-use Rattle.tag_lines.specs.declared.order.Order.{Order}
 use Rattle.tag_model.specs.declared.totals.Totals.{Totals}
 use Rattle.tag_script.specs.declared.answer.Answer.{Answer}
 use Rattle.tag_script.specs.declared.plain_caller.PlainCaller.{PlainCaller}
-use Rattle.tag_script.specs.Answers.{line_of, text_of}
-use Rattle.tag_script.specs.PlainCallers.{plain_world_of}
-use Rattle.tag_script.specs.Outputs.{ObeysAll, over, obeyed, IsRun}
-use Rattle.tag_search.specs.Plain.{Plain, plain_words}
-use Rattle.tag_search.specs.Pool.{pool_of}
 
 -- one more order, in the world that the earlier ones left
 pub obeys_more : {W : Type 0} (answers : W → Order → Answer → W → Type 0) {old between new : W} {done : List Order}

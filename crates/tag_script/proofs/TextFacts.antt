@@ -1,9 +1,7 @@
 -- Texts that are appended part by part, and lists of the numbers below a bound.
-use Rattle.std.proofs.Common.{◌≡◌, ℕ, zero, suc, ◌+◌, ◌<◌, Bool, true, false, cond, List, [], ◌∷◌, ◌++◌, map, ap, ◌∙◌, append_assoc, append-nil, arith}
-use Rattle.std.specs.Prelude.{filter}
-use Rattle.std.proofs.lemmas.List.{map-append}
+use Rattle.tag_script.proofs.Uses.{[], ap, append-nil, append_assoc, arith, Bool, cond, false, filter, List, map, map-append, range, suc, true, zero, ℕ, ◌∙◌}
+use Rattle.std.proofs.Common.{◌≡◌, ◌+◌, ◌<◌, ◌∷◌, ◌++◌}
 use Rattle.std.proofs.lemmas.List.Elements.{filter-append}
-use Rattle.tag_script.specs.Dump.{range}
 
 -- two parts appended one after the other
 pub after : (old between new first second : List ℕ) → between ≡ old ++ first → new ≡ between ++ second → new ≡ old

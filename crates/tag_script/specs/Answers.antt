@@ -1,12 +1,10 @@
 -- The line of each answer.
-use Rattle.std.specs.Prelude.{ℕ, ◌==◌, if◌then◌else◌, List, [], ◌++◌, flat_map, Option, Some, None, codes}
-use Rattle.tag_queue.specs.declared.resizes.ResizeCause.{ResizeCause}
+use Rattle.tag_script.specs.Uses.{[], codes, dump_text, field, flat_map, List, None, Option, ResizeCause, shown_text, Some, Wakes, ℕ}
+use Rattle.std.specs.Prelude.{◌==◌, if◌then◌else◌, ◌++◌}
 use Rattle.tag_queue.specs.declared.resizes.ResizeCause.TheVariants.{Missing, DepthTooLarge, InUse, Waiting, Memory}
-use Rattle.tag_queue.specs.declared.waits.Wakes.{Wakes}
 use Rattle.tag_script.specs.declared.answer.Answer.{Answer}
 use Rattle.tag_script.specs.declared.answer.Answer.TheVariants as answers
 use Rattle.tag_script.specs.Faults.{number_of_tag_fault, number_of_resize_cause}
-use Rattle.tag_sets.specs.Texts.{field, shown_text, dump_text}
 use Rattle.wake_book.specs.declared.waiting.Left.{Left}
 use Rattle.wake_book.specs.declared.waiting.Left.TheVariants.{Woken, Unwoken}
 

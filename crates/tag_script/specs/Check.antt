@@ -1,29 +1,22 @@
 -- The verdict of `check` on a list of events.
-use Rattle.std.specs.Prelude.{◌≡◌, ◌⊎◌, ℕ, ◌+◌, ◌<◌, ◌≤◌, List, ◌++◌, length, IsSomeAnd, codes}
-use Rattle.tag_layout.specs.Layout.{Layout}
-use Rattle.tag_layout.specs.declared.layout.TheConstants.{MAX_DEPTH, MAX_SHIFT}
-use Rattle.tag_model.specs.declared.event.Event.{Event}
+use Rattle.tag_script.specs.Uses.{AreReadings, codes, Event, EventFault, field, IsFirstFaulty, IsSomeAnd, Layout, length, List, MAX_DEPTH, MAX_SHIFT, SetFault, Whole, Word, ℕ}
+use Rattle.std.specs.Prelude.{◌≡◌, ◌⊎◌, ◌+◌, ◌<◌, ◌≤◌, ◌++◌}
 use Rattle.tag_model.specs.declared.world.TheConstants.{MAX_CALLERS}
 use Rattle.tag_model.specs.World.{World, opened}
 use Rattle.tag_model.specs.Runs.{after_all, MayRun, StopsAt}
 use Rattle.tag_model.specs.Totals.{AreTotals}
 use Rattle.tag_script.specs.declared.options.CheckOptions.{CheckOptions}
-use Rattle.tag_sets.specs.declared.fault.SetFault.{SetFault}
 use Rattle.tag_sets.specs.declared.fault.SetFault.TheVariants as faults
 use Rattle.tag_script.specs.declared.ending.Ending.{Ending}
 use Rattle.tag_script.specs.declared.ending.Ending.TheVariants.{Done}
 use Rattle.tag_script.specs.declared.check.Verdict.{Verdict}
 use Rattle.tag_script.specs.declared.check.Verdict.TheVariants.{Faulty, Setup, Stopped, Legal}
-use Rattle.tag_lines.specs.declared.refusal.Place.TheVariants.{Whole, Word}
 use Rattle.tag_lines.specs.Faults.{place_of}
-use Rattle.tag_model.specs.declared.event.EventFault.{EventFault}
 use Rattle.tag_script.specs.Refusals.{IsRefusedAt, wrong_word}
 use Rattle.tag_script.specs.Faults.{number_of_event_fault}
-use Rattle.tag_lines.specs.Readings.{AreReadings, IsFirstFaulty}
 use Rattle.tag_lines.specs.EventList.{event_of}
 use Rattle.tag_script.specs.Setups.{IsLayoutOf}
 use Rattle.tag_script.specs.Texts.{totals_text, faulty_text, setup_text}
-use Rattle.tag_sets.specs.Texts.{field}
 
 -- the number of callers is legal
 abbrev pub HasCallers : CheckOptions → Type 0

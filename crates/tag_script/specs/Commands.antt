@@ -1,19 +1,11 @@
 -- The answer of each command of a plain script, and the world after it.
-use Rattle.std.specs.Prelude.{◌≡◌, ℕ, List, filter, map, Option, Result, Ok, Err}
-use Rattle.tag_layout.specs.Layout.{words, word_bits}
-use Rattle.tag_lines.specs.declared.order.Command.{Command}
+use Rattle.tag_script.specs.Uses.{Command, Err, filter, List, map, Ok, Option, Order, plain_visits, reduced, Result, Shown, TagFault, Totals, Visit, word_bits, words, ℕ}
+use Rattle.std.specs.Prelude.{◌≡◌}
 use Rattle.tag_lines.specs.declared.order.Command.TheVariants as commands
-use Rattle.tag_lines.specs.declared.order.Order.{Order}
-use Rattle.tag_model.specs.declared.totals.Totals.{Totals}
-use Rattle.tag_sets.specs.declared.fault.TagFault.{TagFault}
 use Rattle.tag_script.specs.declared.answer.Answer.{Answer}
 use Rattle.tag_script.specs.declared.answer.Answer.TheVariants as answers
 use Rattle.tag_script.specs.Dump.{range, is_held_tag, held_byte, byte_count}
 use Rattle.tag_script.specs.PlainWorld.{PlainWorld, Gets, GetsShallow, Batches, Clears, ClearsBatch, held_in, aside_in}
-use Rattle.tag_search.specs.Hints.{reduced}
-use Rattle.tag_search.specs.Search.{Visit}
-use Rattle.tag_search.specs.Visits.{plain_visits}
-use Rattle.tag_sets.specs.declared.shown.Shown.{Shown}
 
 -- the answer for the result of a call: that of its value, or a refusal
 abbrev pub told : {A : Type 0} → (A → Answer) → Result A TagFault → Answer

@@ -1,12 +1,8 @@
 -- The numbers of refused setups, events, commands and resizes in the output.
-use Rattle.std.specs.Prelude.{ℕ}
-use Rattle.tag_model.specs.declared.event.EventFault.{EventFault}
+use Rattle.tag_script.specs.Uses.{EventFault, ResizeCause, SetFault, TagFault, ℕ}
 use Rattle.tag_model.specs.declared.event.EventFault.TheVariants as events
-use Rattle.tag_sets.specs.declared.fault.SetFault.{SetFault}
 use Rattle.tag_sets.specs.declared.fault.SetFault.TheVariants as setups
-use Rattle.tag_sets.specs.declared.fault.TagFault.{TagFault}
 use Rattle.tag_sets.specs.declared.fault.TagFault.TheVariants as tags
-use Rattle.tag_queue.specs.declared.resizes.ResizeCause.{ResizeCause}
 use Rattle.tag_queue.specs.declared.resizes.ResizeCause.TheVariants as resizes
 
 -- of a setup
@@ -40,6 +36,7 @@ number_of_tag_fault tags.TooShallow = 6
 number_of_tag_fault tags.Spent = 7
 number_of_tag_fault tags.Waiting = 8
 number_of_tag_fault tags.NotWaiting = 9
+number_of_tag_fault tags.OtherWait = 10
 
 -- of a resize
 abbrev pub number_of_resize_cause : ResizeCause → ℕ

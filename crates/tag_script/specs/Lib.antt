@@ -1,3 +1,4 @@
+mod Uses
 pub mod Faults
 pub mod Texts
 pub mod Setups

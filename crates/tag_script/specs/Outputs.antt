@@ -1,7 +1,6 @@
 -- The output of orders, one after another, on any world.
-use Rattle.std.specs.Prelude.{◌≡◌, ℕ, List, [], ◌∷◌, ◌++◌}
-use Rattle.tag_lines.specs.declared.order.Order.{Order}
-use Rattle.tag_model.specs.declared.totals.Totals.{Totals}
+use Rattle.tag_script.specs.Uses.{[], List, Order, Totals, ℕ}
+use Rattle.std.specs.Prelude.{◌≡◌, ◌∷◌, ◌++◌}
 use Rattle.tag_script.specs.declared.answer.Answer.{Answer}
 use Rattle.tag_script.specs.Answers.{text_of}
 use Rattle.tag_script.specs.Texts.{total_line}

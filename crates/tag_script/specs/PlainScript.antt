@@ -1,9 +1,6 @@
 -- The output of a script with one caller alone with plain words.
-use Rattle.std.specs.Prelude.{◌≡◌, ◌≢◌, ℕ, ◌<◌, ◌≤◌, List, max, unwrap_or, Option, IsSomeAnd}
-use Rattle.tag_layout.specs.Layout.{Layout}
-use Rattle.tag_layout.specs.declared.layout.TheConstants.{MAX_DEPTH, MAX_SHIFT}
-use Rattle.tag_lines.specs.declared.order.Order.{Order}
-use Rattle.tag_sets.specs.declared.fault.SetFault.{SetFault}
+use Rattle.tag_script.specs.Uses.{IsSomeAnd, Layout, List, max, MAX_DEPTH, MAX_SHIFT, Option, Order, SetFault, unwrap_or, ℕ}
+use Rattle.std.specs.Prelude.{◌≡◌, ◌≢◌, ◌<◌, ◌≤◌}
 use Rattle.tag_sets.specs.declared.fault.SetFault.TheVariants as faults
 use Rattle.tag_script.specs.declared.options.ScriptOptions.{ScriptOptions}
 use Rattle.tag_script.specs.Commands.{ObeysOrder, AreTotals}

@@ -1,18 +1,13 @@
 -- The world of a plain script: one caller alone with a map.
-use Rattle.std.specs.Prelude.{◌≡◌, ℕ, ◌+◌, ◌<◌, ◌≤◌, ◌≢◌, List, length, Bool, true, false, if◌then◌else◌, Option, Some, None, Result, Ok, Err, nat_lt, nat_eq, count_ones, ◌&&◌, ◌||◌, ◌-◌, slice_index, ◌⊎◌}
+use Rattle.tag_script.specs.Uses.{Bool, count_below, count_ones, Err, false, is_busy, Layout, length, List, nat_eq, nat_lt, None, Ok, Option, Pool, reduced, Result, set_aside, shallow_visits, slice_index, Some, TagFault, true, Visit, word_bits, word_of, ℕ}
+use Rattle.std.specs.Prelude.{◌≡◌, ◌+◌, ◌<◌, ◌≤◌, ◌≢◌, if◌then◌else◌, ◌&&◌, ◌||◌, ◌-◌, ◌⊎◌}
 use Rattle.std.specs.List.{All, AllPairs, Any, list_any}
-use Rattle.sums.specs.Below.{count_below}
-use Rattle.tag_layout.specs.Layout.{Layout, word_bits, word_of, place_of}
+use Rattle.tag_layout.specs.Layout.{place_of}
 use Rattle.tag_search.specs.declared.hint.Hint.{Hint}
 use Rattle.tag_search.specs.Batch.{batch_words}
 use Rattle.tag_search.specs.Follows.{HintFollows, BatchFollows}
-use Rattle.tag_search.specs.Hints.{reduced}
-use Rattle.tag_search.specs.Search.{Visit}
-use Rattle.tag_search.specs.Visits.{shallow_visits}
-use Rattle.tag_search.specs.Pool.{Pool, is_busy, set_aside}
 use Rattle.tag_search.specs.Choice.{IsChoice, IsBatchChoice}
 use Rattle.tag_queue.specs.Batches.{NamesTwice}
-use Rattle.tag_sets.specs.declared.fault.TagFault.{TagFault}
 use Rattle.tag_sets.specs.declared.fault.TagFault.TheVariants.{NoSuchTag, NotHeld, BadCount, TooShallow}
 
 -- the layout, the least depth of a shallow get, which places are free or set aside, the caller's hint, and how many

@@ -1,10 +1,8 @@
 -- Which word of an event's line is wrong, and how a refusal ends a run.
-use Rattle.std.specs.Prelude.{◌≡◌, ℕ, nat_lt, if◌then◌else◌}
-use Rattle.tag_layout.specs.Layout.{Layout, words}
+use Rattle.tag_script.specs.Uses.{Event, EventFault, Layout, nat_lt, words, ℕ}
+use Rattle.std.specs.Prelude.{◌≡◌, if◌then◌else◌}
 use Rattle.tag_lines.specs.declared.refusal.Place.{Place}
-use Rattle.tag_model.specs.declared.event.Event.{Event}
 use Rattle.tag_model.specs.declared.event.Event.TheVariants.{Look, Win, Put, Give, Sweep, Keep, Spill, Post, Take}
-use Rattle.tag_model.specs.declared.event.EventFault.{EventFault}
 use Rattle.tag_model.specs.declared.event.EventFault.TheVariants.{NoSuchTag, NoSuchCaller, Spent, NotFree, NotHeld, NotPosted, NotSwept}
 use Rattle.tag_script.specs.declared.ending.Ending.{Ending}
 use Rattle.tag_script.specs.declared.ending.Ending.TheVariants.{Done, Refused}

@@ -1,14 +1,9 @@
 -- The output of a script: the line of its first malformed line, that of a refused setup, or the answers of its orders.
-use Rattle.std.specs.Prelude.{ℕ, Bool, true, false, List}
+use Rattle.tag_script.specs.Uses.{AreReadings, Bool, false, FaultyLine, IsFirstFaulty, List, Order, SetFault, true, Whole, ℕ}
 use Rattle.tag_lines.specs.declared.dialect.Dialect.{Dialect}
 use Rattle.tag_lines.specs.declared.dialect.Dialect.TheVariants.{Plain, Shared}
-use Rattle.tag_lines.specs.declared.fault.FaultyLine.{FaultyLine}
-use Rattle.tag_lines.specs.declared.order.Order.{Order}
-use Rattle.tag_lines.specs.declared.refusal.Place.TheVariants.{Whole}
 use Rattle.tag_lines.specs.Faults.{place_of}
-use Rattle.tag_lines.specs.Readings.{AreReadings, IsFirstFaulty}
 use Rattle.tag_lines.specs.ScriptLines.{order_of}
-use Rattle.tag_sets.specs.declared.fault.SetFault.{SetFault}
 use Rattle.tag_script.specs.declared.ending.Ending.{Ending}
 use Rattle.tag_script.specs.declared.ending.Ending.TheVariants.{Done}
 use Rattle.tag_script.specs.declared.options.ScriptOptions.{ScriptOptions}

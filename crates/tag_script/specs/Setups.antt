@@ -1,8 +1,6 @@
 -- Which setups are legal.
-use Rattle.std.specs.Prelude.{◌≡◌, ℕ, ◌≤◌, Option, IfSome}
-use Rattle.tag_layout.specs.Layout.{Layout, HasShift}
-use Rattle.tag_layout.specs.declared.layout.TheConstants.{MAX_DEPTH, MAX_SHIFT}
-use Rattle.tag_sets.specs.declared.fault.SetFault.{SetFault}
+use Rattle.tag_script.specs.Uses.{HasShift, IfSome, Layout, MAX_DEPTH, MAX_SHIFT, Option, SetFault, ℕ}
+use Rattle.std.specs.Prelude.{◌≡◌, ◌≤◌}
 use Rattle.tag_script.specs.declared.fault.OpenFault.{OpenFault}
 use Rattle.tag_script.specs.declared.fault.OpenFault.TheVariants.{Memory, Setup}
 

@@ -1,24 +1,18 @@
 -- The answer of each command of a script over shared tags, and the state after it. With one caller the answers are
 -- those over plain words.
-use Rattle.std.specs.Prelude.{◌≡◌, ◌≢◌, ℕ, ◌+◌, ◌*◌, Bool, List, length, filter, nat_eq, Result, Ok, Err}
+use Rattle.tag_script.specs.Uses.{Bool, Command, Err, filter, length, List, nat_eq, Ok, Order, ResizeCause, Result, Shown, State, Totals, Wakes, ℕ}
+use Rattle.std.specs.Prelude.{◌≡◌, ◌≢◌, ◌+◌, ◌*◌}
 use Rattle.tag_board.specs.Closing.{totals_in}
 use Rattle.tag_board.specs.Looks.{ListsBusy, Shows, Dumps}
 use Rattle.tag_board.specs.Replays.{Gets, GetsShallow, GetsBatch, Clears, ClearsList, Posts, Takes, Waits, Leaves, FindsWakes}
 use Rattle.tag_board.specs.Resizes.{Resizes}
-use Rattle.tag_board.specs.States.{State}
-use Rattle.tag_lines.specs.declared.order.Command.{Command}
 use Rattle.tag_lines.specs.declared.order.Command.TheVariants as commands
-use Rattle.tag_lines.specs.declared.order.Order.{Order}
-use Rattle.tag_model.specs.declared.totals.Totals.{Totals}
-use Rattle.tag_queue.specs.declared.resizes.ResizeCause.{ResizeCause}
-use Rattle.tag_queue.specs.declared.waits.Wakes.{Wakes}
 use Rattle.tag_script.specs.declared.answer.Answer.{Answer}
 use Rattle.tag_script.specs.declared.answer.Answer.TheVariants as answers
 use Rattle.tag_script.specs.Commands.{TellsOutcome}
 use Rattle.tag_script.specs.Dump.{range}
 use Rattle.tag_sets.specs.declared.kind.Kind.{Kind}
 use Rattle.tag_sets.specs.declared.kind.Kind.TheVariants.{Ordinary, Reserved}
-use Rattle.tag_sets.specs.declared.shown.Shown.{Shown}
 use Rattle.tag_sets.specs.Bits.{bit_in}
 
 -- the answer for the result of a resize

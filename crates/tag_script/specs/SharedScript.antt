@@ -1,12 +1,11 @@
 -- The output of a script whose callers share tags.
-use Rattle.std.specs.Prelude.{ℕ, ◌^◌, List}
+use Rattle.tag_script.specs.Uses.{List, Order, SetFault, State, ℕ}
+use Rattle.std.specs.Prelude.{◌^◌}
 use Rattle.refusals.specs.Refusals.{FailsFirst, PassesAll}
-use Rattle.tag_lines.specs.declared.order.Order.{Order}
-use Rattle.tag_sets.specs.declared.fault.SetFault.{SetFault}
 use Rattle.tag_sets.specs.Refusals.{open_checks}
 use Rattle.tag_queue.specs.declared.queue.Options.{Options}
+use Rattle.tag_queue.specs.declared.queue.Waits.TheVariants.{InGroups}
 use Rattle.tag_board.specs.Opening.{IsOpen}
-use Rattle.tag_board.specs.States.{State}
 use Rattle.tag_script.specs.declared.options.ScriptOptions.{ScriptOptions}
 use Rattle.tag_script.specs.Outputs.{IsRun}
 use Rattle.tag_script.specs.SharedCommands.{ObeysShared, AreSharedTotals}
@@ -20,6 +19,7 @@ tag_options o = record {
   callers = o.callers;
   life = o.life;
   cap = 2 ^ 56;
+  waits = InGroups;
 }
 
 -- the first check of an open that fails: never that of the cap, which is 2 ^ 56

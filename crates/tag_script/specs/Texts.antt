@@ -1,11 +1,8 @@
 -- Texts that every run may write.
-use Rattle.std.specs.Prelude.{ℕ, List, ◌++◌, codes}
-use Rattle.tag_lines.specs.declared.fault.FaultyLine.{FaultyLine}
+use Rattle.tag_script.specs.Uses.{codes, FaultyLine, field, List, SetFault, Totals, ℕ}
+use Rattle.std.specs.Prelude.{◌++◌}
 use Rattle.tag_lines.specs.Faults.{number_of_line_fault}
-use Rattle.tag_model.specs.declared.totals.Totals.{Totals}
-use Rattle.tag_sets.specs.declared.fault.SetFault.{SetFault}
 use Rattle.tag_script.specs.Faults.{number_of_setup_fault}
-use Rattle.tag_sets.specs.Texts.{field}
 
 -- the four totals, each after its name
 abbrev pub totals_text : Totals → List ℕ

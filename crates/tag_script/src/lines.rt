@@ -177,5 +177,6 @@ fn number_of(fault: TagFault) -> u64
         TagFault::Spent => 7,
         TagFault::Waiting => 8,
         TagFault::NotWaiting => 9,
+        TagFault::OtherWait => 10,
     }
 }

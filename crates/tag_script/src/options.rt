@@ -4,7 +4,7 @@ ghost use Rattle.tag_script.specs.Script.{dialect_of};
 ghost use Rattle.tag_script.specs.SharedScript.{tag_options};
 
 use tag_lines::Dialect;
-use tag_sets::Options;
+use tag_sets::{Options, Waits};
 
 /// Most completions that a caller may count: 2^56.
 const CAP: u64 = 72_057_594_037_927_936;
@@ -53,6 +53,7 @@ impl ScriptOptions {
             callers: self.callers,
             life: self.life,
             cap: CAP,
+            waits: Waits::InGroups,
         }
     }
 }

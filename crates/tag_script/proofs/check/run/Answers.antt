@@ -1,8 +1,6 @@
 -- The event that was looked at is the one that stops the run.
-use Rattle.std.proofs.Common.{subst}
-use Rattle.tag_layout.specs.Layout.{Layout}
+use Rattle.tag_script.proofs.Uses.{Layout, StopsAt, subst}
 use Rattle.tag_model.specs.Kept.{callers_of, world_of}
-use Rattle.tag_model.specs.Runs.{StopsAt}
 use Rattle.tag_script.proofs.CheckFacts.{stopped_at}
 use Rattle.tag_script.proofs.check.run.Goals as goal
 

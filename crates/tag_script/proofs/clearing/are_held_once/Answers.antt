@@ -1,7 +1,6 @@
 -- A list whose tags are all held is judged by whether they are distinct.
-use Rattle.std.proofs.Common.{arith, ◌≡◌, ℕ, true, inr, sym, subst}
-use Rattle.std.proofs.lemmas.Grind.{get_or_default_zero}
-use Rattle.tag_search.specs.Plain.{is_busy_tag}
+use Rattle.tag_script.proofs.Uses.{arith, get_or_default_zero, inr, is_busy_tag, subst, sym, true, ℕ}
+use Rattle.std.proofs.Common.{◌≡◌}
 use Rattle.tag_script.proofs.ClearingFacts.{match_bool}
 use Rattle.tag_script.proofs.clearing.are_held_once.Goals as goal
 

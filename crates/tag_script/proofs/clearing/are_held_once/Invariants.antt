@@ -1,8 +1,7 @@
 -- The tags so far are held.
-use Rattle.std.proofs.Common.{◌≡◌, ℕ, ◌<◌, true, get_or}
-use Rattle.tag_layout.specs.Layout.{word_of, place_of}
-use Rattle.tag_search.specs.Plain.{plain_words}
-use Rattle.tag_search.specs.Pool.{pool_of, is_busy}
+use Rattle.tag_script.proofs.Uses.{get_or, is_busy, plain_words, pool_of, true, word_of, ℕ}
+use Rattle.std.proofs.Common.{◌≡◌, ◌<◌}
+use Rattle.tag_layout.specs.Layout.{place_of}
 use Rattle.tag_script.proofs.clearing.are_held_once.Given as goal
 
 abbrev pub invariant-loop-tag : goal.invariant-loop-tag

@@ -1,13 +1,8 @@
 -- Each tag adds its bit to the mask, or begins a new mask after a give, so freeing the mask frees one more tag.
-use Rattle.std.proofs.Common.{◌≡◌, ℕ, ◌+◌, ◌*◌, ◌%◌, ◌^◌, ◌<◌, true, take, get_or, length, bit_or, sym, ap, subst, ◌∙◌, arith, rules}
-use Rattle.std.specs.Int.{bit_at}
-use Rattle.std.proofs.lemmas.Nat.{one_shl, or_lt, pow_below, pow_pos}
-use Rattle.std.proofs.lemmas.Nat.Bits.{bit_at-zero}
-use Rattle.tag_layout.specs.Layout.{Layout, words, word_of, place_of, word_depth}
-use Rattle.tag_search.specs.Plain.{Plain, plain_words, IsTaken}
-use Rattle.tag_search.specs.Pool.{Pool, pool_of, is_busy, free_at}
+use Rattle.tag_script.proofs.Uses.{ap, arith, bit_at, bit_at-zero, bit_or, free_at, freed, get_or, is_busy, IsTaken, Layout, length, one_shl, or_lt, Plain, plain_words, Pool, pool_of, pow_below, pow_pos, rules, subst, sym, take, true, word_depth, word_of, words, ℕ, ◌∙◌}
+use Rattle.std.proofs.Common.{◌≡◌, ◌+◌, ◌*◌, ◌%◌, ◌^◌, ◌<◌}
+use Rattle.tag_layout.specs.Layout.{place_of}
 use Rattle.tag_search.proofs.PlainPools.{taken_of_busy}
-use Rattle.tag_script.specs.PlainWorld.{freed}
 use Rattle.tag_script.proofs.ClearingFacts.{with_place, free_more, free_one, free_none, freed_none, freed_more, still_held, held_before, taken_more, taken_one, taken_as, within_as}
 use Rattle.tag_script.proofs.clearing.give_all.Goals as goal
 use Rattle.tag_script.proofs.clearing.give_all.Goals.{then-here-word, else-here-word}

@@ -1,10 +1,6 @@
 -- Once the places of the mask are freed, exactly the tags so far are free besides those that were free before.
-use Rattle.std.proofs.Common.{◌≡◌, ℕ, ◌<◌, take}
-use Rattle.std.specs.Int.{bit_at}
-use Rattle.tag_layout.specs.Layout.{words, IsWithin}
-use Rattle.tag_search.specs.Plain.{plain_words, IsTaken}
-use Rattle.tag_search.specs.Pool.{pool_of, free_at}
-use Rattle.tag_script.specs.PlainWorld.{freed}
+use Rattle.tag_script.proofs.Uses.{bit_at, free_at, freed, IsTaken, IsWithin, plain_words, pool_of, take, words, ℕ}
+use Rattle.std.proofs.Common.{◌≡◌, ◌<◌}
 use Rattle.tag_script.proofs.clearing.give_all.Given as goal
 
 abbrev pub invariant-loop-tag : goal.invariant-loop-tag

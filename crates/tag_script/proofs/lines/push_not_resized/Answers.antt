@@ -1,10 +1,8 @@
 -- The number of the cause, its own numbers and the line feed are appended in this order.
-use Rattle.std.proofs.Common.{◌≡◌, ℕ, List, ◌++◌, ap, ◌∙◌}
+use Rattle.tag_script.proofs.Uses.{ap, codes, field, hindrance_text, List, ℕ, ◌∙◌}
+use Rattle.std.proofs.Common.{◌≡◌, ◌++◌}
 use Rattle.std.proofs.lemmas.Result.{on_ok_weaker}
-use Rattle.std.specs.Prelude.{codes}
-use Rattle.tag_script.specs.Answers.{hindrance_text}
 use Rattle.tag_script.specs.Faults.{number_of_resize_cause}
-use Rattle.tag_sets.specs.Texts.{field}
 use Rattle.tag_script.proofs.TextFacts.{after}
 use Rattle.tag_script.proofs.lines.push_not_resized.Goals as goal
 

@@ -1,10 +1,6 @@
 -- A run by the plain caller is a run in its world, since each of its answers is one in its world.
-use Rattle.std.proofs.Common.{ℕ, List, subst}
-use Rattle.tag_lines.specs.declared.order.Order.{Order}
+use Rattle.tag_script.proofs.Uses.{IsRun, List, Order, plain_world_of, PlainWorld, subst, ℕ}
 use Rattle.tag_script.specs.Commands.{ObeysOrder, AreTotals}
-use Rattle.tag_script.specs.PlainCallers.{plain_world_of}
-use Rattle.tag_script.specs.Outputs.{IsRun}
-use Rattle.tag_script.specs.PlainWorld.{PlainWorld}
 use Rattle.tag_script.proofs.RunFacts.{run_as}
 use Rattle.tag_script.proofs.plain.run_alone.Goals as goal
 

@@ -1,10 +1,6 @@
 -- Each order is carried out in the world that the earlier ones left, and its lines follow theirs.
-use Rattle.std.proofs.Common.{◌≡◌, ℕ, ◌<◌, ◌≤◌, ◌+◌, List, [], ◌∷◌, ◌++◌, take, length, get_or, sym, ap, subst, ◌∙◌, arith, rules}
-use Rattle.std.proofs.lemmas.List.{take_more, take_all}
-use Rattle.tag_lines.specs.declared.order.Order.{Order}
-use Rattle.tag_script.specs.Answers.{line_of}
-use Rattle.tag_script.specs.Outputs.{ObeysAll, over}
-use Rattle.tag_script.specs.Texts.{total_line}
+use Rattle.tag_script.proofs.Uses.{[], ap, arith, get_or, length, line_of, List, ObeysAll, Order, over, rules, subst, sym, take, take_all, take_more, total_line, ℕ, ◌∙◌}
+use Rattle.std.proofs.Common.{◌≡◌, ◌<◌, ◌≤◌, ◌+◌, ◌∷◌, ◌++◌}
 use Rattle.tag_script.proofs.RunFacts.{obeys_more, text_more}
 use Rattle.tag_script.proofs.running.run_orders.Goals as goal
 

@@ -1,18 +1,15 @@
 -- Each text is that of the first malformed line, of a refused setup, or of a run of the orders.
-use Rattle.std.proofs.Common.{◌≡◌, ℕ, List, sym, ap, subst, ◌∙◌}
-use Rattle.std.specs.List.{All}
+use Rattle.tag_script.proofs.Uses.{All, answered, ap, dialect_of, faulty, faulty_text, IsRefusedSetup, IsTold, List, Order, Owed, refused, setup_text, subst, sym, ℕ, ◌∙◌}
+use Rattle.std.proofs.Common.{◌≡◌}
 use Rattle.tag_lines.specs.declared.dialect.Dialect.{Dialect}
 use Rattle.tag_lines.specs.declared.fault.ListFault.{ListFault}
-use Rattle.tag_lines.specs.declared.order.Order.{Order}
 use Rattle.tag_lines.specs.Readings.{AreReadings, IsFirstFaulty, IsListFault}
 use Rattle.tag_lines.specs.Faults.{place_of}
 use Rattle.tag_lines.specs.ScriptLines.{order_of, IsOrderOf}
 use Rattle.tag_lines.proofs.KnownFacts.{orders_known}
 use Rattle.tag_script.specs.declared.ending.Ending.TheVariants.{Refused}
 use Rattle.tag_script.specs.declared.fault.OpenFault.{OpenFault}
-use Rattle.tag_script.specs.Script.{IsRefusedSetup, IsTold, Owed, dialect_of, faulty, refused, answered}
 use Rattle.tag_script.specs.Setups.{IsOpenFault}
-use Rattle.tag_script.specs.Texts.{faulty_text, setup_text}
 use Rattle.tag_script.proofs.script.answer_script.Goals as goal
 
 pub returns-in-Err-Faulty : goal.returns-in-Err-Faulty

@@ -1,6 +1,5 @@
 -- The output is that of the kind of script that was run.
-use Rattle.std.proofs.Common.{Bool, IfOk, sym, subst}
-use Rattle.tag_script.specs.Script.{IsTold}
+use Rattle.tag_script.proofs.Uses.{Bool, IfOk, IsTold, subst, sym}
 use Rattle.tag_script.proofs.script.carry_out.Goals as goal
 
 pub returns-then-options-clause-told : goal.returns-then-options-clause-told

@@ -1,10 +1,6 @@
 -- A run on the callers' board is a run on its states, since each answer on the board is one on its states.
-use Rattle.std.proofs.Common.{ℕ, List, ap, subst}
-use Rattle.tag_lines.specs.declared.order.Order.{Order}
-use Rattle.tag_script.specs.Outputs.{IsRun}
-use Rattle.tag_board.specs.Boards.{state_of}
+use Rattle.tag_script.proofs.Uses.{ap, AreSharedTotals, IsRun, List, ObeysShared, Order, state_of, subst, ℕ}
 use Rattle.tag_board.specs.States.{State}
-use Rattle.tag_script.specs.SharedCommands.{ObeysShared, AreSharedTotals}
 use Rattle.tag_script.proofs.RunFacts.{run_as}
 use Rattle.tag_script.proofs.shared.run_shared.Goals as goal
 

@@ -1,24 +1,22 @@
 -- The new list is filled whole, so its bytes are those of the dump; the loads change no part.
 use Rattle.std.proofs.Common.{ℕ, List, ◌++◌, drop, ap, sym, ◌∙◌, subst, arith, set}
 use Rattle.tag_board.proofs.Uses.{div_ceil, State, state_of, state_of_all, Dumps}
-use Rattle.tag_board.proofs.Lookings.{dump_there, depth_is, filled}
-use Rattle.tag_board.proofs.Commands.{effect_on, seated, dump_does, own_here, sits}
-use Rattle.tag_board.proofs.AloneCalls as alone
+use Rattle.tag_board.proofs.Lookings.{past_dump, depth_is, filled}
+use Rattle.tag_board.proofs.Commands.{effect_on, seated, dump_does, sits}
 use Rattle.tag_board.proofs.board.Board.dump.Goals as goal
 
 pub invariant_of-self : goal.invariant_of-self
 invariant_of-self c =
     let b = c.args.self.now in let at = sits (omega arith) c.index_mut.ensures.value in let old = c.index_mut.result.now in
     let new = c.dump.new.hand in let e = c.dump.ensures in
-    seated b at new e.hand
-    (dump_does b.tags old new (own_here b.tags at b.own) _ _ e.dumps.packed).number
+    seated b at new e.hand (dump_does b.tags old new _ _ e.dumps.packed).number
 
 pub returns : goal.returns
 returns c =
     let b = c.args.self.now in let at = sits c.requires c.index_mut.ensures.value in let old = c.index_mut.result.now in
     let new = c.dump.new.hand in let d = c.dump.ensures.dumps in let i : ℕ = c.args.caller in let kind = c.args.kind in
     let bytes = c.in_ok-bytes.bytes in let now : State = state_of_all b.tags (set b.hands.items i new) in
-    let k = effect_on b at new c.dump.ensures.hand (alone.packs kind d.bytes) (dump_does b.tags old new (own_here b.tags at b.own) kind d.bytes d.packed) in
+    let change = effect_on b at new c.dump.ensures.hand (dump_does b.tags old new kind d.bytes d.packed) in
     let few = c.in_ok-bytes.ensures.len in let count = c.div_ceil.ensures in
     let depth = ap (λ (n : ℕ). div_ceil n 8) c.depth-depth.ensures in
     let is = ap (λ (n : ℕ). div_ceil n 8) (depth_is b.tags b.hands.items kind) in
@@ -27,7 +25,6 @@ returns c =
     (d.count_is ∙ is ∙ omega arith) in
     subst (λ (x : List ℕ). Dumps kind i (state_of b) x now) whole record {
       long = d.long ∙ d.count_is ∙ is;
-      there = λ tag high. dump_there b.tags b.hands.items old new kind d.bytes tag d.packed high;
-      found = k.steps;
-      change = k.changes;
+      there = λ tag high. past_dump b.tags b.hands.items old new kind d.bytes tag d.packed high;
+      change = change;
     }

@@ -1,8 +1,7 @@
 -- The hand did not hold the tag before, and no other caller holds it now, so no caller held it.
-use Rattle.std.proofs.Common.{ℕ, Option, ap, arith}
-use Rattle.tag_board.proofs.Uses.{AloneGets, count_of, Ordinary, plain, state_of, RefusesGet, Wins, is_answer}
-use Rattle.tag_board.proofs.Commands.{got, holds_gained, kept, seated, get_gains, ok_map, own_here, sits, get_means, room_here}
-use Rattle.tag_board.proofs.AloneCalls as alone
+use Rattle.std.proofs.Common.{ℕ, Ok, Option, subst, sym, arith}
+use Rattle.tag_board.proofs.Uses.{Board, Gets, is_answer, Ordinary, state_of}
+use Rattle.tag_board.proofs.Commands.{holds_gained, kept, seated, wins, get_gains, ok_map, own_here, sits, room_here}
 use Rattle.tag_board.proofs.board.Board.get.Goals as goal
 
 pub invariant_of-self : goal.invariant_of-self
@@ -10,24 +9,22 @@ invariant_of-self c =
     let b = c.args.self.now in let at = sits (omega arith) c.index_mut.ensures.value in let old = c.index_mut.result.now in
     let new = c.get_freed.new.hand in let e = c.get_freed.ensures.does in let r = c.get_freed.result in
     seated b at new c.get_freed.ensures.hand (kept old new r (ok_map r e.gets
-    (λ found g. (get_gains b.tags old new (own_here b.tags at b.own) b.hands.items found.answer g).effect.number))
+    (λ found g. (get_gains b.tags old new b.hands.items found.answer g).effect.number))
     e.refusals.same)
 
 pub tell_free-requires-clause-held : goal.tell_free-requires-clause-held
 tell_free-requires-clause-held c =
     let b = c.args.self.now in let at = sits c.requires c.index_mut.ensures.value in let old = c.index_mut.result.now in
     let new = c.get_freed.new.hand in let a : Option ℕ = c.in_ok-answer.field-0.answer in
-    let g = get_gains b.tags old new (own_here b.tags at b.own) b.hands.items a c.in_ok-answer.ensures.does.gets in
+    let g = get_gains b.tags old new b.hands.items a c.in_ok-answer.ensures.does.gets in
     holds_gained b at new (is_answer a) _ g.names g.more
 
 pub returns : goal.returns
 returns c =
     let b = c.args.self.now in let at = sits c.requires c.index_mut.ensures.value in let old = c.index_mut.result.now in
     let new = c.get_freed.new.hand in let a : Option ℕ = c.in_ok-answer.field-0.answer in let e = c.in_ok-answer.ensures.does in
-    let i : ℕ = c.args.caller in let s = state_of b in let own = own_here b.tags at b.own in
-    got b at new {refuses = RefusesGet s i Ordinary}
-    (λ (o : Option ℕ). Wins i Ordinary (is_answer o) (count_of o) (AloneGets Ordinary plain o) s) (alone.finds Ordinary plain)
-    c.get_freed.ensures.hand a
-    (state_of c.tell_free.new.self) (ap state_of c.tell_free.ensures.same)
-    (get_gains b.tags old new own b.hands.items a e.gets) c.tell_free.ensures.alone
-    ((get_means s i (room_here b.tags at own Ordinary 1)).passes e.refusals.passes) (λ w. w)
+    let i : ℕ = c.args.caller in
+    subst (λ (x : Board). Gets Ordinary i (state_of b) (Ok a) (state_of x)) (sym c.tell_free.ensures.same) (
+      (room_here b.tags at (own_here b.tags at b.own) Ordinary 1 e.refusals.passes.0, tt),
+      wins b at new c.get_freed.ensures.hand (get_gains b.tags old new b.hands.items a e.gets) c.tell_free.ensures.alone,
+    )

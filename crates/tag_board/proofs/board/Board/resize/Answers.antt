@@ -1,9 +1,8 @@
 -- All hands are passed in, so none is missing; the tags in use that a refusal reports are the sums over both sets.
 use Rattle.std.proofs.Common.{◌≡◌, refl, sym, ap, ◌∙◌}
 use Rattle.tag_queue.specs.Agents as queue
-use Rattle.tag_board.proofs.Continuing.{order_kept, every_there, total_kept, numbers_kept, may_resize, refuses}
+use Rattle.tag_board.proofs.Continuing.{order_kept, every_there, total_kept, numbers_kept, may_resize, refuses, state_kept, state_resized}
 use Rattle.tag_board.proofs.Endings.{all_there}
-use Rattle.tag_board.proofs.Reopened.{state_kept, state_resized}
 use Rattle.tag_board.proofs.board.Board.resize.Goals as goal
 
 pub invariant_of-result : goal.invariant_of-result
@@ -13,6 +12,7 @@ invariant_of-result c =
       own = is.own;
       ordered = order_kept b.hands.items hands is.numbers b.ordered;
       every = every_there b.tags tags b.hands.items hands c.args.total is b.every;
+      waits = is.ordinary.rest.waits ∙ b.waits;
       sizes = (is.total_is, is.split ∙ b.sizes.1);
     }
 
@@ -21,7 +21,7 @@ returns-in-Ok-clause-answers c =
     let b = c.args.self in let tags = c.in-Ok.tags in let hands = c.in-Ok.hands.items in
     let is = c.in-Ok.ensures.ok in
     let may = c.in-Ok.ensures.may refl in
-    state_resized b.tags tags b.hands.items hands c.args.total b.own is
+    state_resized b.tags tags b.hands.items hands c.args.total is
     (may_resize b.tags b.hands.items b.own c.args.total may) may.1.0
 
 pub invariant_of-board : goal.invariant_of-board
@@ -32,6 +32,7 @@ invariant_of-board c =
       ordered = order_kept b.hands.items fault.hands.items
           (numbers_kept b.tags fault.tags b.hands.items fault.hands.items back.0 back.1) b.ordered;
       every = back.1.count ∙ b.every ∙ sym (ap queue.agents_of back.0.ordinary);
+      waits = ap queue.waits_of back.0.ordinary ∙ b.waits;
       sizes = (
         total_kept b.tags fault.tags b.hands.items fault.hands.items back.0 back.1 ∙ b.sizes.0,
         back.0.split ∙ b.sizes.1,

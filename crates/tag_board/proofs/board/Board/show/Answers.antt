@@ -1,27 +1,24 @@
 -- The sizes are those of the set, and the loads change no part.
-use Rattle.std.proofs.Common.{ap, arith}
-use Rattle.tag_board.proofs.Lookings.{show_depth, show_words, show_few}
-use Rattle.tag_board.proofs.Commands.{effect_on, seated, show_does, own_here, sits}
-use Rattle.tag_board.proofs.AloneCalls as alone
+use Rattle.std.proofs.Common.{ℕ, ◌+◌, ◌-◌, ◌/◌, ap, ◌∙◌, arith}
+use Rattle.tag_board.proofs.Uses.{state_of}
+use Rattle.tag_board.proofs.Lookings.{depth_is, show_few}
+use Rattle.tag_board.proofs.Commands.{effect_on, seated, show_does, sits}
 use Rattle.tag_board.proofs.board.Board.show.Goals as goal
 
 pub invariant_of-self : goal.invariant_of-self
 invariant_of-self c =
     let b = c.args.self.now in let at = sits (omega arith) c.index_mut.ensures.value in let old = c.index_mut.result.now in
     let new = c.show.new.hand in let e = c.show.ensures in
-    seated b at new e.hand
-    (show_does b.tags old new (own_here b.tags at b.own) _ _ e.shows).number
+    seated b at new e.hand (show_does b.tags old new _ _ e.shows).number
 
 pub returns : goal.returns
 returns c =
     let b = c.args.self.now in let at = sits c.requires c.index_mut.ensures.value in let old = c.index_mut.result.now in
-    let new = c.show.new.hand in let hands = b.hands.items in let s = c.show.ensures.shows in
-    let k = effect_on b at new c.show.ensures.hand (alone.counts c.args.kind c.show.result)
-    (show_does b.tags old new (own_here b.tags at b.own) c.args.kind c.show.result s) in record {
-      depth = show_depth b.tags hands old new c.args.kind c.show.result s;
+    let new = c.show.new.hand in let s = c.show.ensures.shows in let kind = c.args.kind in
+    let bits : ℕ = (state_of b).terms.bits kind in let deep = depth_is b.tags b.hands.items kind in record {
+      depth = ap (λ x. x.depth) s.shown_is ∙ deep;
       bits_per_word = ap (λ x. x.bits_per_word) s.shown_is;
-      map_nr = show_words b.tags hands old new c.args.kind c.show.result s;
-      busy = show_few b.tags hands old new c.args.kind c.show.result s;
-      found = k.steps;
-      change = k.changes;
+      map_nr = ap (λ x. x.map_nr) s.shown_is ∙ ap (λ (d : ℕ). (d + bits - 1) / bits) deep;
+      busy = show_few b.tags b.hands.items old new kind c.show.result s;
+      change = effect_on b at new c.show.ensures.hand (show_does b.tags old new kind c.show.result s);
     }

@@ -1,11 +1,10 @@
 -- The hand did not hold the tag before, and no other caller holds it now, so no caller held it.
 use Rattle.std.proofs.Common.{◌≡◌, ℕ, set, rules, Option, Some, Result, Ok, Err, IfErr, ⊎_elim, refl, sym, ap, subst, arith}
-use Rattle.tag_board.proofs.Uses.{as_before, AsBefore, Board, NotPosted, State, state_of_all, TagFault, total_of, TriesTag, state_of, Takes, is_answer}
+use Rattle.tag_board.proofs.Uses.{Board, State, state_of_all, TagFault, total_of, state_of, Takes, is_answer}
 use Rattle.tag_sets.specs.Gets.{IsAnswer}
 use Rattle.tag_board.proofs.Postings.{take_number, err_is, within_total}
 use Rattle.tag_board.proofs.Ranges.{tag_low}
-use Rattle.tag_board.proofs.Commands.{Effect, effect_on, free_before, holds_gained, seated, names_answer, names_one, refused_does, take_does, own_here, sits, unmoved}
-use Rattle.tag_board.proofs.AloneCalls as alone
+use Rattle.tag_board.proofs.Commands.{effect_on, free_before, holds_gained, miss_does, seated, names_answer, names_one, take_does, own_here, sits, unmoved}
 use Rattle.tag_board.proofs.board.Board.take.Goals as goal
 
 pub invariant_of-self : goal.invariant_of-self
@@ -27,15 +26,14 @@ returns c =
     let b = c.args.self.now in let at = sits c.requires c.index_mut.ensures.value in let old = c.index_mut.result.now in
     let new = c.take.new.hand in let i : ℕ = c.args.caller in let tag : ℕ = c.args.tag in
     let takes = c.in_ok-take.ensures.does.takes in let answer : Option ℕ = Some tag in
-    let k = effect_on b at new c.take.ensures.hand (alone.tries tag (Ok tt))
-    (take_does b.tags old new (own_here b.tags at b.own) tag takes) in
-    let free = free_before b at new (is_answer answer) (IsAnswer answer) (names_answer answer) takes.more k.changes
+    let own = own_here b.tags at b.own in
+    let k = effect_on b at new c.take.ensures.hand (take_does b.tags old new own tag takes) in
+    let free = free_before b at new (is_answer answer) (IsAnswer answer) (names_answer answer) takes.more k
     c.tell_free.ensures.alone in
     subst (λ (x : Board). Takes tag i (state_of b) (Ok tt) (state_of x)) (sym c.tell_free.ensures.same) (
       tag_low b.tags new c.take.ensures.hand tag (takes.more.joined tag refl),
       (λ caller other is. free caller other ((names_answer answer other).1 ((names_one tag other).0 is))),
-      k.changes,
-      k.steps,
+      k,
     )
 
 pub returns-in_err-take : goal.returns-in_err-take
@@ -51,12 +49,7 @@ returns-in_err-take c =
     (⊎_elim
     (λ none. subst (λ (f : TagFault). Takes tag i (state_of b) (Err f) now) (sym none.0)
     (e.no_such_tag.0 (ap Err none.0), ap (state_of_all b.tags) (unmoved b.tags at none.1)))
-    (λ missed. let f = missed.0 in
-    let k = effect_on b at new c.take.ensures.hand (alone.tries tag (Err NotPosted))
-    (subst (λ (x : TagFault). Effect as_before AsBefore (TriesTag tag (Err x)) old new) f
-    (refused_does b.tags old new (own_here b.tags at b.own) tag fault e.refuses)) in
-    subst (λ (x : TagFault). Takes tag i (state_of b) (Err x) now) (sym f) (
-      within_total (total_of b.tags) tag fault (λ high. let none = e.no_such_tag.1 high in cc) f,
-      k.changes,
-      k.steps,
+    (λ missed. subst (λ (f : TagFault). Takes tag i (state_of b) (Err f) now) (sym missed.0) (
+      within_total (total_of b.tags) tag fault (λ high. let none = e.no_such_tag.1 high in cc) missed.0,
+      effect_on b at new c.take.ensures.hand (miss_does b.tags old new (own_here b.tags at b.own) tag missed.1),
     )) e.refuses)

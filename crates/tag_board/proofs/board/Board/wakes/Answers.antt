@@ -2,20 +2,19 @@
 use Rattle.std.proofs.Common.{arith}
 use Rattle.tag_board.proofs.Uses.{Finds}
 use Rattle.tag_board.proofs.Commands.{effect_on, seated, stay_does, sits, standing_here}
-use Rattle.tag_board.proofs.AloneCalls as alone
 use Rattle.tag_board.proofs.board.Board.wakes.Goals as goal
 
 pub invariant_of-self : goal.invariant_of-self
 invariant_of-self c =
     let b = c.args.self.now in let at = sits (omega arith) c.index_mut.ensures.value in let old = c.index_mut.result.now in
     let new = c.wakes.new.hand in let e = c.wakes.ensures in
-    seated b at new e.hand (stay_does old new (λ x y. Unit {0}) e.same tt).number
+    seated b at new e.hand (stay_does b.tags old new (λ x y. Unit {0}) e.same tt).number
 
 pub returns : goal.returns
 returns c =
     let b = c.args.self.now in let at = sits c.requires c.index_mut.ensures.value in let old = c.index_mut.result.now in
     let new = c.wakes.new.hand in let e = c.wakes.ensures in let stands = e.same.set.changed.2 in
-    let k = effect_on b at new e.hand alone.rests (stay_does old new (Finds c.wakes.result) e.same record {
+    let k = effect_on b at new e.hand (stay_does b.tags old new (Finds c.wakes.result) e.same record {
       counts = e.counts;
       looks = e.looks;
       within = e.within;
@@ -23,5 +22,5 @@ returns c =
     }) in record {
       ordered = e.ordered;
       active = λ t. e.active ((standing_here b.tags at).1 t);
-      change = k.changes;
+      change = k;
     }

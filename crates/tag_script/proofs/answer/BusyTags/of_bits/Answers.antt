@@ -1,13 +1,8 @@
 -- A bit of 1 appends its tag, which comes after all earlier ones; a bit of 0 appends none, nor does a word of 0.
-use Rattle.std.proofs.Common.{◌≡◌, ℕ, ◌+◌, ◌*◌, ◌/◌, ◌%◌, ◌^◌, ◌<◌, List, [], ◌∷◌, ◌++◌, slice_index, bit_and, nat_eq, sym, ap, ◌∙◌, arith, eq-eqb}
-use Rattle.std.proofs.lemmas.Nat.{one_shl}
-use Rattle.std.proofs.lemmas.Nat.Bits.{bit_at-zero}
-use Rattle.std.specs.Int.{bit_at}
-use Rattle.std.specs.Prelude.{filter}
+use Rattle.tag_script.proofs.Uses.{[], ap, arith, bit_and, bit_at, bit_at-zero, eq-eqb, filter, is_marked, List, nat_eq, one_shl, range, slice_index, sym, ℕ, ◌∙◌}
+use Rattle.std.proofs.Common.{◌≡◌, ◌+◌, ◌*◌, ◌/◌, ◌%◌, ◌^◌, ◌<◌, ◌∷◌, ◌++◌}
 use Rattle.tag_search.proofs.PlainFacts.{clear_of_mask, taken_of_mask}
 use Rattle.tag_sets.specs.Bits.{bit_in}
-use Rattle.tag_script.specs.Dump.{range}
-use Rattle.tag_script.specs.SharedCommands.{is_marked}
 use Rattle.tag_script.proofs.TextFacts.{filter_range-pass, filter_range-fail, filter_range-none}
 use Rattle.tag_script.proofs.answer.BusyTags.of_bits.Goals as goal
 use Rattle.tag_script.proofs.answer.BusyTags.of_bits.Goals.{then-word-place-ne0+in_ok-push, else-word-place-ne0}

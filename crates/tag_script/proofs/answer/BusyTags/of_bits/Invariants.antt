@@ -1,8 +1,6 @@
 -- The list has the tags whose bits are 1 in the words so far and, in the inner loop, in the places so far of this word.
+use Rattle.tag_script.proofs.Uses.{filter, is_marked, range}
 use Rattle.std.proofs.Common.{◌≡◌, ◌+◌, ◌*◌}
-use Rattle.std.specs.Prelude.{filter}
-use Rattle.tag_script.specs.Dump.{range}
-use Rattle.tag_script.specs.SharedCommands.{is_marked}
 use Rattle.tag_script.proofs.answer.BusyTags.of_bits.Given as goal
 
 abbrev pub invariant-loop-index : goal.invariant-loop-index

@@ -1,9 +1,7 @@
 -- The slice that `clear_batch` takes has the tags of the command, so its outcome is that of the command.
-use Rattle.std.proofs.Common.{ℕ, List, sym, subst}
-use Rattle.tag_board.specs.Boards.{state_of}
+use Rattle.tag_script.proofs.Uses.{List, ObeysBy, state_of, subst, sym, ℕ}
 use Rattle.tag_board.specs.Replays.{ClearsList}
 use Rattle.tag_lines.specs.declared.order.Command.{Command}
-use Rattle.tag_script.specs.SharedCommands.{ObeysBy}
 use Rattle.tag_script.proofs.callers.Callers.answer.Goals as goal
 
 pub returns-in-ClearBatch : goal.returns-in-ClearBatch

@@ -1,11 +1,6 @@
 -- A word without a held tag can be skipped, since it adds nothing; in other words each held tag is appended.
-use Rattle.std.proofs.Common.{◌≡◌, ℕ, ◌+◌, ◌*◌, ◌<◌, ◌≤◌, List, [], ◌∷◌, ◌++◌, min, false, refl, sym, ap, subst, ◌∙◌, arith}
-use Rattle.std.specs.Prelude.{filter}
-use Rattle.tag_layout.specs.Layout.{Layout, words, word_bits, word_depth, tag_at}
-use Rattle.tag_layout.proofs.PlaceFacts.{word-start, word_bits-le}
-use Rattle.tag_script.specs.Dump.{range, is_held_tag}
-use Rattle.tag_script.specs.PlainCallers.{plain_world_of}
-use Rattle.tag_script.specs.PlainWorld.{PlainWorld}
+use Rattle.tag_script.proofs.Uses.{[], ap, arith, false, filter, is_held_tag, Layout, List, min, plain_world_of, PlainWorld, range, refl, subst, sym, tag_at, word-start, word_bits, word_bits-le, word_depth, words, ℕ, ◌∙◌}
+use Rattle.std.proofs.Common.{◌≡◌, ◌+◌, ◌*◌, ◌<◌, ◌≤◌, ◌∷◌, ◌++◌}
 use Rattle.tag_script.proofs.TextFacts.{filter_range-pass, filter_range-fail, filter_range-none}
 use Rattle.tag_script.proofs.plain_caller.PlainCaller.busy.Goals as goal
 use Rattle.tag_script.proofs.plain_caller.PlainCaller.busy.Goals.{then-holds+in_ok-push, else-holds}

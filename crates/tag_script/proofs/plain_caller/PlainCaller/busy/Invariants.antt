@@ -1,9 +1,6 @@
 -- The list has the held tags of the words so far; the inner loop adds those of the places so far of the next word.
-use Rattle.std.proofs.Common.{◌≡◌, ◌+◌, ◌*◌, min}
-use Rattle.std.specs.Prelude.{filter}
-use Rattle.tag_layout.specs.Layout.{word_bits}
-use Rattle.tag_script.specs.Dump.{range, is_held_tag}
-use Rattle.tag_script.specs.PlainCallers.{plain_world_of}
+use Rattle.tag_script.proofs.Uses.{filter, is_held_tag, min, plain_world_of, range, word_bits}
+use Rattle.std.proofs.Common.{◌≡◌, ◌+◌, ◌*◌}
 use Rattle.tag_script.proofs.plain_caller.PlainCaller.busy.Given as goal
 
 abbrev pub invariant-loop-word : goal.invariant-loop-word

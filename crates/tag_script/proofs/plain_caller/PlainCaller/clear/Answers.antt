@@ -1,12 +1,7 @@
 -- The range is tested before the holding, so a tag that passes both tests is held, and is set aside.
-use Rattle.std.proofs.Common.{◌≡◌, ◌+◌, sym, ap, subst, ◌∙◌, arith}
-use Rattle.std.proofs.lemmas.Bool.{false≢true, false_from_ne_true}
-use Rattle.tag_layout.specs.Layout.{Layout}
-use Rattle.std.specs.Prelude.{IsTrue, if◌then◌else◌, Ok}
-use Rattle.tag_search.specs.Plain.{plain_words}
-use Rattle.tag_search.specs.Pool.{pool_of}
-use Rattle.tag_script.specs.PlainCallers.{plain_world_of}
-use Rattle.tag_script.specs.PlainWorld.{PlainWorld, Clears, put_back, no_such_tag, not_held, cleared}
+use Rattle.tag_script.proofs.Uses.{ap, arith, cleared, Clears, false_from_ne_true, false≢true, IsTrue, Layout, no_such_tag, not_held, Ok, plain_words, plain_world_of, PlainWorld, pool_of, put_back, subst, sym, ◌∙◌}
+use Rattle.std.proofs.Common.{◌≡◌, ◌+◌}
+use Rattle.std.specs.Prelude.{if◌then◌else◌}
 use Rattle.tag_script.proofs.plain_caller.PlainCaller.clear.Goals as goal
 
 pub returns-then-tag-depth : goal.returns-then-tag-depth

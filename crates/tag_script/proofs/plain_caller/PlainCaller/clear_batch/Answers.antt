@@ -1,12 +1,7 @@
 -- The tests come in the order of the refusals, so a list that passes all three is held once each, and is freed.
-use Rattle.std.proofs.Common.{◌≡◌, ℕ, ◌≤◌, ◌<◌, ◌+◌, ◌-◌, length, get_or, inl, inr, sym, ap, subst, ◌∙◌, arith, rules}
-use Rattle.std.specs.Prelude.{if◌then◌else◌, Ok}
-use Rattle.std.specs.List.{All, Any}
-use Rattle.tag_layout.specs.Layout.{Layout}
-use Rattle.tag_search.specs.Plain.{plain_words}
-use Rattle.tag_search.specs.Pool.{pool_of}
-use Rattle.tag_script.specs.PlainCallers.{plain_world_of}
-use Rattle.tag_script.specs.PlainWorld.{PlainWorld, ClearsBatch, give_back, bad_count, no_such_tag, not_held, cleared}
+use Rattle.tag_script.proofs.Uses.{All, Any, ap, arith, bad_count, cleared, ClearsBatch, get_or, give_back, inl, inr, Layout, length, no_such_tag, not_held, Ok, plain_words, plain_world_of, PlainWorld, pool_of, rules, subst, sym, ℕ, ◌∙◌}
+use Rattle.std.proofs.Common.{◌≡◌, ◌≤◌, ◌<◌, ◌+◌, ◌-◌}
+use Rattle.std.specs.Prelude.{if◌then◌else◌}
 use Rattle.tag_script.proofs.ClearingFacts.{if_true, if_false}
 use Rattle.tag_script.proofs.plain_caller.PlainCaller.clear_batch.Goals as goal
 use Rattle.tag_script.proofs.plain_caller.PlainCaller.clear_batch.Goals.{then-is_empty-via-then-is_empty, then-is_empty-via-else-is_empty+then-tags-gt-MAX_BATCH}

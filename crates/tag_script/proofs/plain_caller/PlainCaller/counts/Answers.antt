@@ -1,12 +1,6 @@
 -- Each word adds the ones of its two masks, which are its tags held and set aside; loading a word changes nothing.
-use Rattle.std.proofs.Common.{◌≡◌, ℕ, ◌+◌, ◌*◌, ◌^◌, ◌<◌, ◌≤◌, min, bit_and, count_ones, slice_index, sym, ap, subst, ◌∙◌, arith}
-use Rattle.std.specs.Int.{bit_at, bit_not, w64}
-use Rattle.std.proofs.lemmas.Nat.{ones-le, and_le_l, and_le_r}
-use Rattle.sums.specs.Below.{count_below}
-use Rattle.tag_layout.specs.Layout.{Layout, words, word_bits, word_depth}
-use Rattle.tag_sets.proofs.Tallies.{narrow_word, all_words}
-use Rattle.tag_script.specs.PlainCallers.{plain_world_of}
-use Rattle.tag_script.specs.PlainWorld.{PlainWorld, is_held, is_aside, held_in, aside_in}
+use Rattle.tag_script.proofs.Uses.{all_words, and_le_l, and_le_r, ap, arith, aside_in, bit_and, bit_at, bit_not, count_below, count_ones, held_in, is_aside, is_held, Layout, min, narrow_word, ones-le, plain_world_of, PlainWorld, slice_index, subst, sym, w64, word_bits, word_depth, words, ℕ, ◌∙◌}
+use Rattle.std.proofs.Common.{◌≡◌, ◌+◌, ◌*◌, ◌^◌, ◌<◌, ◌≤◌}
 use Rattle.tag_script.proofs.CountFacts.{count_held, count_aside}
 use Rattle.tag_script.proofs.RunFacts.{same_world}
 use Rattle.tag_script.proofs.plain_caller.PlainCaller.counts.Goals.{After-loop-word}

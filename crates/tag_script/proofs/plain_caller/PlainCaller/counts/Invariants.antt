@@ -1,9 +1,6 @@
 -- The counts are those over the tags of the words so far, and the world is unchanged.
-use Rattle.std.proofs.Common.{◌≡◌, ◌≤◌, ◌*◌, min}
-use Rattle.sums.specs.Below.{count_below}
-use Rattle.tag_layout.specs.Layout.{word_bits}
-use Rattle.tag_script.specs.PlainCallers.{plain_world_of}
-use Rattle.tag_script.specs.PlainWorld.{is_held, is_aside}
+use Rattle.tag_script.proofs.Uses.{count_below, is_aside, is_held, min, plain_world_of, word_bits}
+use Rattle.std.proofs.Common.{◌≡◌, ◌≤◌, ◌*◌}
 use Rattle.tag_script.proofs.plain_caller.PlainCaller.counts.Given as goal
 
 -- the counts are those below the first tag of the next word, and at most 64 for each word so far

@@ -1,7 +1,6 @@
 -- Each pass appends the byte of the next offset.
-use Rattle.std.proofs.Common.{◌≡◌, [], ◌∷◌, ◌++◌, sym, ◌∙◌, rules}
-use Rattle.tag_script.specs.Dump.{held_byte}
-use Rattle.tag_script.specs.PlainCallers.{plain_world_of}
+use Rattle.tag_script.proofs.Uses.{[], held_byte, plain_world_of, rules, sym, ◌∙◌}
+use Rattle.std.proofs.Common.{◌≡◌, ◌∷◌, ◌++◌}
 use Rattle.tag_script.proofs.TextFacts.{map_range-next}
 use Rattle.tag_script.proofs.plain_caller.PlainCaller.dump.Goals as goal
 

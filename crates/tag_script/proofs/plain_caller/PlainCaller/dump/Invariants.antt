@@ -1,7 +1,6 @@
 -- The list has the bytes of the offsets so far, in order.
-use Rattle.std.proofs.Common.{◌≡◌, map}
-use Rattle.tag_script.specs.Dump.{range, held_byte}
-use Rattle.tag_script.specs.PlainCallers.{plain_world_of}
+use Rattle.tag_script.proofs.Uses.{held_byte, map, plain_world_of, range}
+use Rattle.std.proofs.Common.{◌≡◌}
 use Rattle.tag_script.proofs.plain_caller.PlainCaller.dump.Given as goal
 
 -- the list has the bytes of the offsets so far, in order

@@ -1,7 +1,6 @@
 -- A count in range is searched for unless the hint is round robin, and the ones of the mask are added to the tags won.
-use Rattle.std.proofs.Common.{◌≡◌, ℕ, ◌+◌, refl, ap, inl, inr, arith}
-use Rattle.tag_layout.specs.Layout.{word_bits}
-use Rattle.tag_script.specs.PlainWorld.{bad_count, none_around, side_by_side}
+use Rattle.tag_script.proofs.Uses.{ap, arith, bad_count, inl, inr, none_around, refl, side_by_side, word_bits, ℕ}
+use Rattle.std.proofs.Common.{◌≡◌, ◌+◌}
 use Rattle.tag_script.proofs.plain_caller.PlainCaller.get_batch.Goals as goal
 use Rattle.tag_script.proofs.plain_caller.PlainCaller.get_batch.Goals.{then-n-eq0-via-then-n-eq0, then-n-eq0-via-else-n-eq0+then-n-bits_per_word}
 

@@ -1,10 +1,7 @@
 -- The bits below bit n sum to less than 2^n, so adding bit n < 8 does not overflow a byte.
-use Rattle.std.proofs.Common.{◌≡◌, ◌*◌, ◌%◌, ◌^◌, ◌<◌, ◌≤◌, ap, ◌∙◌, arith}
+use Rattle.tag_script.proofs.Uses.{ap, arith, bit_value, one_shl, plain_world_of, sum_below, ◌∙◌}
+use Rattle.std.proofs.Common.{◌≡◌, ◌*◌, ◌%◌, ◌^◌, ◌<◌, ◌≤◌}
 use Rattle.std.proofs.Math.Nat.{pow-le-pow_right}
-use Rattle.std.proofs.lemmas.Nat.{one_shl}
-use Rattle.sums.specs.Below.{sum_below}
-use Rattle.tag_script.specs.Dump.{bit_value}
-use Rattle.tag_script.specs.PlainCallers.{plain_world_of}
 use Rattle.tag_script.proofs.DumpFacts.{bits-below}
 use Rattle.tag_script.proofs.plain_caller.PlainCaller.held_byte.Goals as goal
 

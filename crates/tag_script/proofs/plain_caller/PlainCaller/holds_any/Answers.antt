@@ -1,11 +1,8 @@
 -- A held tag has a bit that is 1 in the word and 0 in the cleared set, so it would make the mask differ from 0.
-use Rattle.std.proofs.Common.{◌≡◌, ℕ, ◌^◌, ◌<◌, Bool, false, ◌&&◌, nat_lt, bit_and, slice_index, sym, ap, ◌∙◌, arith}
+use Rattle.tag_script.proofs.Uses.{ap, arith, bit_and, bit_not, Bool, false, is_busy, nat_lt, place_of-tag_at, plain_words, pool_of, slice_index, sym, tag_at, w64, word_of, word_of-tag_at, ℕ, ◌∙◌}
+use Rattle.std.proofs.Common.{◌≡◌, ◌^◌, ◌<◌, ◌&&◌}
 use Rattle.std.proofs.Math.Bool.{and-false}
-use Rattle.std.specs.Int.{bit_not, w64}
-use Rattle.tag_layout.specs.Layout.{word_of, place_of, tag_at}
-use Rattle.tag_layout.proofs.PlaceFacts.{word_of-tag_at, place_of-tag_at}
-use Rattle.tag_search.specs.Plain.{plain_words}
-use Rattle.tag_search.specs.Pool.{pool_of, is_busy}
+use Rattle.tag_layout.specs.Layout.{place_of}
 use Rattle.tag_script.proofs.CountFacts.{idle_place, zero_of}
 use Rattle.tag_script.proofs.plain_caller.PlainCaller.holds_any.Goals as goal
 
