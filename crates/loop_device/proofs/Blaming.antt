@@ -1,27 +1,13 @@
 -- What a play reports where it fails.
-use Rattle.std.proofs.Common.{◌≡◌, ◌≢◌, ℕ, zero, suc, ◌<◌, false, List, [], ◌∷◌, Result, Ok, Err, IfOk, IfErr, OnOk, length, map, get_or, inr, refl, sym, subst, arith}
-use Rattle.std.specs.List.{Contains}
-use Rattle.std.proofs.lemmas.List.Elements.{Contains-append_right}
-use Rattle.std.proofs.lemmas.List.{length-map}
+use Rattle.loop_device.proofs.Uses.{[], AreTagsFor, arith, clean, Contains, Contains-append_right, Done, Err, false, Faults, get_or, Hand, HasRun, IfOk, inr, Io, IsHistory, IsLineOf, IsPlayFault, IsRun, IsSeen, length, length-map, List, Lost, map, Memory, Ok, OnOk, PlayFault, refl, Result, SaysSeen, Setup, Spurious, subst, suc, sym, Tags, Twice, zero, ℕ}
+use Rattle.std.proofs.Common.{◌≡◌, ◌≢◌, ◌<◌, ◌∷◌, IfErr}
 use Rattle.tag_model.specs.declared.totals.Totals.{Totals}
 use Rattle.tag_queue.specs.declared.gather.QueueTotals.{QueueTotals}
-use Rattle.tag_sets.specs.declared.hand.Hand.{Hand}
-use Rattle.tag_sets.specs.declared.tags.Tags.{Tags}
 use Rattle.tag_sets.specs.Gathering.{IsGathered}
-use Rattle.loop_device.specs.declared.io.Io.{Io}
-use Rattle.loop_device.specs.declared.io.Done.{Done}
-use Rattle.loop_device.specs.declared.fault.PlayFault.{PlayFault}
-use Rattle.loop_device.specs.declared.fault.PlayFault.TheVariants.{Memory, Setup, Lost, Twice, Spurious}
 use Rattle.loop_device.specs.declared.fault.PlayFault.TheVariants as variants
 use Rattle.loop_device.specs.declared.report.Report.{Report}
 use Rattle.loop_device.specs.declared.setup.Setup.{Setup as Asked}
-use Rattle.loop_device.specs.declared.workers.Faults.{Faults}
-use Rattle.loop_device.specs.History.{IsHistory}
-use Rattle.loop_device.specs.Requests.{IsLineOf}
-use Rattle.loop_device.specs.Verdict.{IsPlayFault}
 use Rattle.loop_device.specs.Playing.{IsClean, IsJudged, NamesLine}
-use Rattle.loop_device.specs.Runs.{AreTagsFor, HasRun, IsRun, IsSeen, SaysSeen}
-use Rattle.loop_device.specs.Working.{clean}
 
 -- a fault of the verdict is that of the play, where no thread ran into another
 pub passed_on : (ios : List Io) (done : List Done) (totals : Totals) (faults : Faults) (fault : PlayFault)

@@ -1,16 +1,10 @@
 -- A tag that is taken, read and cleared leaves the hand's tags as they were.
-use Rattle.std.proofs.Common.{◌≡◌, ℕ, ◌≤◌, ◌↔◌, inl, inr, ⊎_elim, List, Result, Ok, Err, IfOk, IfErr, refl, sym, ap, ◌∙◌, subst, arith}
+use Rattle.loop_device.proofs.Uses.{ap, arith, Completes, EndsRequest, EndsWithout, Err, Hand, IfOk, inl, inr, Io, IsRequestFault, List, Ok, PlayFault, refl, Result, Spurious, subst, sym, Tags, total_of, ℕ, ⊎_elim, ◌∙◌}
+use Rattle.std.proofs.Common.{◌≡◌, ◌≤◌, ◌↔◌, IfErr}
 use Rattle.tag_sets.specs.declared.fault.TagFault.{TagFault}
 use Rattle.tag_sets.specs.declared.fault.TagFault.TheVariants.{NoSuchTag, NotPosted}
-use Rattle.tag_sets.specs.declared.hand.Hand.{Hand}
-use Rattle.tag_sets.specs.declared.tags.Tags.{Tags}
-use Rattle.tag_sets.specs.Hands.{total_of}
 use Rattle.tag_sets.specs.Holding.{HoldsSame}
 use Rattle.tag_sets.specs.Slots.{Takes, Misses, RefusesTake}
-use Rattle.loop_device.specs.declared.io.Io.{Io}
-use Rattle.loop_device.specs.declared.fault.PlayFault.{PlayFault}
-use Rattle.loop_device.specs.declared.fault.PlayFault.TheVariants.{Spurious}
-use Rattle.loop_device.specs.Requests.{EndsRequest, EndsWithout, Completes, IsRequestFault}
 
 module _ (tags : Tags ℕ) (tag : ℕ) (old taken new : Hand ℕ) (takes : Takes tag old taken) where
   same_tags : (line : ℕ) → EndsRequest tags tag line taken new → HoldsSame old new

@@ -1,14 +1,7 @@
 -- How often lines are carried out, item after item.
-use Rattle.std.proofs.Common.{◌≡◌, ◌≢◌, ℕ, ◌<◌, ◌≤◌, ◌+◌, ◌==◌, List, [], ◌∷◌, replicate, length, get_or, set, map, take, refl, sym, ap, ◌∙◌, subst, arith}
-use Rattle.std.specs.List.{All, AllWithin, Contains, HoldsAt}
-use Rattle.std.proofs.lemmas.List.{length-map, get_or-map, get_or_default, ext_get_or}
-use Rattle.std.proofs.lemmas.List.Sums.{count_by_more_yes, count_by_more_no, count_by-le-length}
-use Rattle.std.proofs.lemmas.Bool.Decides.{nat_tests}
-use Rattle.std.proofs.lemmas.Grind.{common_steps, get_or_default_zero}
-use Rattle.loop_device.specs.declared.io.Io.{Io}
-use Rattle.loop_device.specs.declared.io.Done.{Done}
-use Rattle.loop_device.specs.Lines.{LinesAscend}
-use Rattle.loop_device.specs.Verdict.{times, AreOfLog, IsTwice, IsLost, CarriesEachOnce}
+use Rattle.loop_device.proofs.Uses.{[], AllWithin, ap, AreOfLog, arith, CarriesEachOnce, common_steps, Contains, count_by-le-length, count_by_more_no, count_by_more_yes, Done, ext_get_or, get_or, get_or-map, get_or_default, get_or_default_zero, HoldsAt, Io, IsLost, IsTwice, length, length-map, LinesAscend, List, map, nat_tests, refl, replicate, set, subst, sym, take, times, ℕ, ◌∙◌}
+use Rattle.std.proofs.Common.{◌≡◌, ◌≢◌, ◌<◌, ◌≤◌, ◌+◌, ◌==◌, ◌∷◌}
+use Rattle.std.specs.List.{All}
 use Rattle.loop_device.proofs.Indexes.{same_index}
 
 -- how often each line is carried out

@@ -1,12 +1,10 @@
 -- A hand may go to another thread, and threads may share what a play shares, where the slots hold lines.
-use denote.Struct.Field.{u64-field, u32-field}
+use Rattle.loop_device.proofs.Uses.{crosses, IsSend, IsSync, recorded_sync, sendable, struct_sync, u32-field, u64-field}
 use denote.RattleType.{RattleType}
-use denote.Param.Send.{IsSend, IsSync, recorded_sync, struct_sync, sendable}
 use denote.Struct.Declared.{shape as fields_of}
 use denote.Enum.Declared.{row, declared}
 use denote.Hole.FixSend.{Sends, fix_send}
 use denote.Param.SendFields.{variants_send}
-use Rattle.std.proofs.Crossing.{crosses}
 use Rattle.std.specs.contracts.option.Option as option
 use Rattle.atomic_table.proofs.owned.Table.TheSendSync.{the_field_sync as table_sync}
 use Rattle.atomic_table.proofs.shared.Seat.TheSendSync.{the_send as seat_send}

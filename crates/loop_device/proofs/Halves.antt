@@ -1,10 +1,8 @@
 -- What the halves of a row say of the whole row.
-use Rattle.std.proofs.Common.{◌≡◌, ℕ, ◌+◌, ◌-◌, ◌/◌, ◌<◌, ◌≤◌, ◌⊎◌, inl, inr, ⊎_elim, max, min, Bool, Box, true, ◌&&◌, ◌==◌, nat_le, refl, sym, ap, ◌∙◌, subst, arith}
-use Rattle.std.proofs.lemmas.Bool.Decides.{nat_tests}
+use Rattle.loop_device.proofs.Uses.{ap, arith, beside, Bool, Box, greatest_of, inl, inr, is_sound, is_split_at, IsGreatestWithin, max, min, nat_le, nat_tests, refl, Segments, stamp_at, subst, sym, true, ℕ, ⊎_elim, ◌∙◌}
+use Rattle.std.proofs.Common.{◌≡◌, ◌+◌, ◌-◌, ◌/◌, ◌<◌, ◌≤◌, ◌⊎◌, ◌&&◌, ◌==◌}
 use Rattle.std.specs.declared.alloc.Global.{Global}
-use Rattle.loop_device.specs.declared.segments.Segments.{Segments}
 use Rattle.loop_device.specs.declared.segments.Segments.TheVariants.{Leaf, Node, Node'}
-use Rattle.loop_device.specs.Segments.{beside, stamp_at, greatest_of, is_sound, is_split_at, IsGreatestWithin}
 
 -- a position is in the lower half, or in the upper one
 pub sides : (at half : ℕ) → (at < half) ⊎ (half ≤ at)

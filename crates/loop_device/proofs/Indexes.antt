@@ -1,14 +1,6 @@
 -- Where a line stands among lines that ascend.
-use Rattle.std.proofs.Common.{◌≡◌, ℕ, ◌<◌, ◌≤◌, List, length, get_or, Err, sym, ap, ◌∙◌, subst, arith}
-use Rattle.std.specs.List.{Contains}
-use Rattle.std.specs.List.Sorted.{IsBinarySearchResult, IsNonDecreasingBy}
-use Rattle.std.specs.Ordering.{nat_cmp, ordering_index}
-use Rattle.std.proofs.lemmas.Cmp.{ranked}
-use Rattle.std.proofs.lemmas.List.Elements.{at_from_Contains}
-use Rattle.std.proofs.lemmas.List.Sorted.{IsNonDecreasingBy-from_default}
-use Rattle.std.proofs.lemmas.Bool.Decides.{nat_tests}
-use Rattle.loop_device.specs.declared.io.Io.{Io}
-use Rattle.loop_device.specs.Lines.{LinesAscend}
+use Rattle.loop_device.proofs.Uses.{ap, arith, at_from_Contains, Contains, Err, get_or, Io, IsBinarySearchResult, IsNonDecreasingBy, IsNonDecreasingBy-from_default, length, LinesAscend, List, nat_cmp, nat_tests, ordering_index, ranked, subst, sym, ℕ, ◌∙◌}
+use Rattle.std.proofs.Common.{◌≡◌, ◌<◌, ◌≤◌}
 
 module _ (ios : List Io) (ascend : LinesAscend ios) where
   -- a line stands at one index

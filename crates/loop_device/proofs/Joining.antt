@@ -1,22 +1,11 @@
 -- Threads that are started one after another, and joined from the last on.
-use Rattle.std.proofs.Common.{◌≡◌, ℕ, ◌+◌, ◌-◌, ◌≤◌, ⊎_elim, Bool, true, false, not, IsTrue, rules, List, [], ◌∷◌, ◌++◌, length, map, fold, Option, Some, None, SomeIff, refl, sym, ap, ◌∙◌, subst, arith, append_assoc, length-append}
+use Rattle.loop_device.proofs.Uses.{[], added, All-cons, All-nil, ap, append_assoc, AreJoined, arith, Bool, clean, DidParts, false, Faults, fold-append, Hand, HasRun, HavePromised, Io, IsHandOf, IsPart, IsTrue, KeepInTurn, Keeps, length, length-append, List, map, map-append, nat_tests, nil_from_length, None, not, Option, Part, refl, Returns, rules, Some, SomeIff, submitter_at, subst, sym, Tags, true, ℕ, ⊎_elim, ◌∙◌}
+use Rattle.std.proofs.Common.{◌≡◌, ◌+◌, ◌-◌, ◌≤◌, ◌∷◌, ◌++◌, fold}
 use Rattle.std.specs.List.{All}
 use Rattle.std.specs.declared.thread.PromisedHandle.{PromisedHandle}
-use Rattle.std.proofs.lemmas.Bool.Decides.{nat_tests}
-use Rattle.std.proofs.lemmas.List.Elements.{All-cons, All-nil}
-use Rattle.std.proofs.lemmas.List.Sums.{fold-append}
-use Rattle.std.proofs.lemmas.List.{append-nil, map-append, nil_from_length}
-use Rattle.tag_sets.specs.declared.hand.Hand.{Hand}
-use Rattle.tag_sets.specs.declared.tags.Tags.{Tags}
-use Rattle.tag_sets.specs.Hands.{IsHandOf}
-use Rattle.loop_device.specs.declared.io.Io.{Io}
+use Rattle.std.proofs.lemmas.List.{append-nil}
 use Rattle.loop_device.specs.declared.setup.Setup.{Setup as Asked}
-use Rattle.loop_device.specs.declared.threads.Part.{Part}
-use Rattle.loop_device.specs.declared.workers.Faults.{Faults}
 use Rattle.loop_device.specs.declared.workers.Worked.{Worked}
-use Rattle.loop_device.specs.Promises.{Keeps, IsPart, HavePromised, KeepInTurn, AreJoined}
-use Rattle.loop_device.specs.Runs.{DidParts, Returns, submitter_at, HasRun}
-use Rattle.loop_device.specs.Working.{added, clean}
 use Rattle.loop_device.proofs.Parting.{parted}
 
 abbrev Handles : Type 0

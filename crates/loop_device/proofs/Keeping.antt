@@ -1,14 +1,7 @@
 -- What a history with one line more says of its sectors, and where they stand in the row.
-use Rattle.std.proofs.Common.{◌≡◌, ℕ, ◌+◌, ◌-◌, ◌*◌, ◌/◌, ◌^◌, ◌<◌, ◌≤◌, inl, inr, ⊎_elim, Bool, true, false, ◌&&◌, cond, nat_lt, nat_le, List, [], ◌∷◌, ◌++◌, length, refl, sym, ap, ◌∙◌, subst, arith, rules}
-use Rattle.std.proofs.lemmas.Bool.Decides.{nat_tests}
-use Rattle.loop_device.specs.declared.io.Io.{Io}
-use Rattle.loop_device.specs.declared.io.Done.{Done}
-use Rattle.loop_device.specs.declared.io.IoKind.{IoKind}
+use Rattle.loop_device.proofs.Uses.{[], Answers, AnswersAs, ap, AreStampsOf, arith, Bool, cond, covers, Done, done_of, end_key, false, first_key, FitsTypes, inl, inr, Io, IoKind, IsGreatest, IsGreatestWithin, IsHistory, IsStampedWithin, key, leaves_stamp, length, List, nat_le, nat_lt, nat_tests, refl, rules, Segments, stamp_after, stamp_at, stamp_of, stamps_sector, subst, sym, true, ℕ, ⊎_elim, ◌∙◌}
+use Rattle.std.proofs.Common.{◌≡◌, ◌+◌, ◌-◌, ◌*◌, ◌/◌, ◌^◌, ◌<◌, ◌≤◌, ◌&&◌, ◌∷◌, ◌++◌}
 use Rattle.loop_device.specs.declared.io.IoKind.TheVariants.{Read, Write, Trim, Sync, Datasync}
-use Rattle.loop_device.specs.declared.segments.Segments.{Segments}
-use Rattle.loop_device.specs.Segments.{stamp_at, IsGreatestWithin, IsStampedWithin}
-use Rattle.loop_device.specs.History.{covers, leaves_stamp, stamps_sector, stamp_after, stamp_of, done_of, Answers, AnswersAs, IsGreatest, IsHistory}
-use Rattle.loop_device.specs.Keys.{key, first_key, end_key, AreStampsOf, FitsTypes}
 use Rattle.loop_device.proofs.Parting.{parted}
 
 -- a line that answers what it answers after a history makes a history with it

@@ -1,3 +1,4 @@
+mod Uses
 pub mod Counting
 pub mod Halves
 pub mod Keeping

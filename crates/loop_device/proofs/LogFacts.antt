@@ -1,14 +1,6 @@
 -- What is read of a log, line after line.
-use Rattle.std.proofs.Common.{◌≡◌, ℕ, ◌+◌, ◌≤◌, cond, List, [], ◌∷◌, ◌++◌, length, map, filter_map, count_by, Ok, ap, sym, subst, ◌∙◌, append_assoc, append-nil, length-append, refl, arith}
-use Rattle.std.proofs.lemmas.List.{map-append}
-use Rattle.std.proofs.lemmas.List.Elements.{filter_map-append}
-use Rattle.std.proofs.lemmas.List.Sums.{sum_by-append}
-use Rattle.tag_lines.specs.Lines.{lines_of, line_words}
-use Rattle.loop_device.specs.declared.io.Log.{Log}
-use Rattle.loop_device.specs.declared.log_line.Entry.{Entry}
-use Rattle.loop_device.specs.LogLines.{names_of, names_after, entry_of}
-use Rattle.loop_device.specs.Logs.{entries_of, names_in, io_in, is_wait, Says}
-use Rattle.loop_device.specs.LogProgress.{Progress, ReadsLine}
+use Rattle.loop_device.proofs.Uses.{[], ap, append_assoc, arith, cond, count_by, entries_of, Entry, entry_of, filter_map, filter_map-append, io_in, is_wait, length, length-append, line_words, lines_of, List, Log, map, map-append, names_after, names_in, names_of, Ok, Progress, ReadsLine, refl, Says, subst, sum_by-append, sym, ℕ, ◌∙◌}
+use Rattle.std.proofs.Common.{◌≡◌, ◌+◌, ◌≤◌, ◌∷◌, ◌++◌, append-nil}
 
 -- of the lines after the header, line 1, all but `rest` have been read, with this progress; `entries` are those read
 pub record IsReadTo (lines : List (List ℕ)) (p : Progress) (rest : List (List ℕ)) : Type 0 where

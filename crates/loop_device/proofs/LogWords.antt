@@ -1,13 +1,8 @@
 -- What a line of a log says, by the words that were cut off it.
-use Rattle.std.proofs.Common.{◌≡◌, ℕ, ◌+◌, Bool, not, cond, nat_lt, List, [], ◌∷◌, length, map, Some, None, Result, Ok, Err, refl, ap, sym, ◌∙◌}
-use Rattle.std.specs.List.{position, position_or_len, prefix_len}
-use Rattle.std.proofs.lemmas.List.{length-map}
+use Rattle.loop_device.proofs.Uses.{[], ap, Bool, cond, Entry, entry_of, Err, first_part, index_of, length, length-map, List, map, nat_lt, None, not, Ok, parts_of, position, position_or_len, prefix_len, range_action, range_words, refl, Result, Some, sym, TellsCause, ℕ, ◌∙◌}
+use Rattle.std.proofs.Common.{◌≡◌, ◌+◌, ◌∷◌}
 use Rattle.std.specs.Prelude.{IfErr}
-use Rattle.tag_lines.specs.Lines.{parts_of}
-use Rattle.tag_lines.proofs.LineFacts.{first_part}
 use Rattle.loop_device.specs.declared.fault.LogCause.{LogCause}
-use Rattle.loop_device.specs.declared.log_line.Entry.{Entry}
-use Rattle.loop_device.specs.LogLines.{entry_of, range_words, range_action, index_of, TellsCause}
 
 -- the cause of an answer is that of what the line says
 pub is_told : (said result : Result Entry LogCause) → result ≡ said → IfErr result (TellsCause said)

@@ -1,14 +1,10 @@
 -- What the threads do keeps the rule of the device queue.
-use Rattle.std.proofs.Common.{◌≡◌, ℕ, zero, suc, ◌+◌, ◌<◌, ◌==◌, Bool, true, false, cond, List, [], ◌∷◌, ◌++◌, length, get_or, set, refl, sym, ap, subst, ⊎_elim, arith}
-use Rattle.std.specs.List.{Contains, sum_by}
-use Rattle.std.proofs.lemmas.List.Elements.{Contains-append_right, Contains-append_cases}
-use Rattle.std.proofs.lemmas.List.Sums.{sum_by-cons, sum_by-set, sum_by_push}
+use Rattle.loop_device.proofs.Uses.{[], after_pop, after_push, ap, AreHandedOn, arith, Bool, cond, Contains, Contains-append_cases, Contains-append_right, false, get_or, IsSeenBy, length, List, refl, set, subst, suc, sum_by, sum_by-cons, sum_by-set, sum_by_push, sym, times_in, times_popped, times_pushed, true, Worker, worker, zero, ℕ, ⊎_elim}
+use Rattle.std.proofs.Common.{◌≡◌, ◌+◌, ◌<◌, ◌==◌, ◌∷◌, ◌++◌}
 use mathlib.Core.Option.{some, some-injective, some-ne-none}
 use lib.ListN.{get_elem?}
 use Rattle.crossbeam_queue.specs.Fifo.{Pushes, Pops, Forks, Learns}
 use Rattle.crossbeam_queue.proofs.Lists.{set_again}
-use Rattle.loop_device.specs.declared.device_queue.Worker.{Worker}
-use Rattle.loop_device.specs.DeviceQueue.{worker, after_push, after_pop, times_in, times_pushed, times_popped, AreHandedOn, IsSeenBy}
 
 there : (workers : List Worker) (i : ℕ) (v : Worker) → get_elem? workers i ≡ some v
     → (i < length workers) × (get_or workers i v ≡ v)

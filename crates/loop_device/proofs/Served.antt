@@ -1,15 +1,6 @@
 -- One more number served, or one more look at the queue that found none.
-use Rattle.std.proofs.Common.{◌≡◌, ℕ, List, [], ◌∷◌, ◌++◌, Result, Ok, Err, IfOk, IfErr, refl, sym, subst}
-use Rattle.tag_sets.specs.declared.hand.Hand.{Hand}
-use Rattle.tag_sets.specs.declared.tags.Tags.{Tags}
-use Rattle.loop_device.specs.declared.device_queue.Worker.{Worker}
-use Rattle.loop_device.specs.declared.fault.PlayFault.{PlayFault}
-use Rattle.loop_device.specs.declared.io.Io.{Io}
-use Rattle.loop_device.specs.declared.workers.Faults.{Faults}
-use Rattle.loop_device.specs.Completing.{Ends, Serves, ServesPopped}
-use Rattle.loop_device.specs.DeviceQueue.{after_pop}
-use Rattle.loop_device.specs.Requests.{Completes, IsRequestFault}
-use Rattle.loop_device.specs.Working.{State, noted}
+use Rattle.loop_device.proofs.Uses.{[], after_pop, Completes, Ends, Err, Faults, Hand, IfOk, Io, IsRequestFault, List, noted, Ok, PlayFault, refl, Result, Serves, ServesPopped, State, subst, sym, Tags, Worker, ℕ}
+use Rattle.std.proofs.Common.{◌≡◌, ◌∷◌, ◌++◌, IfErr}
 use Rattle.loop_device.proofs.Turns.{one_more}
 
 -- what a thread has at a turn

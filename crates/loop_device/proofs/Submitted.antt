@@ -1,9 +1,6 @@
 -- One line more submitted.
-use Rattle.std.proofs.Common.{◌≡◌, ◌≢◌, ℕ, ◌+◌, ◌%◌, ◌<◌, List, [], ◌∷◌, ◌++◌, length, get_or, take, sym, ap, ◌∙◌, subst, arith}
-use Rattle.tag_sets.specs.declared.tags.Tags.{Tags}
-use Rattle.loop_device.specs.declared.io.Io.{Io}
-use Rattle.loop_device.specs.Submitting.{share_of, Submits}
-use Rattle.loop_device.specs.Working.{State, TakesTurns}
+use Rattle.loop_device.proofs.Uses.{[], ap, arith, get_or, Io, length, List, share_of, State, Submits, subst, sym, Tags, take, TakesTurns, ℕ, ◌∙◌}
+use Rattle.std.proofs.Common.{◌≡◌, ◌≢◌, ◌+◌, ◌%◌, ◌<◌, ◌∷◌, ◌++◌}
 use Rattle.loop_device.proofs.Turns.{one_more, share_with, share_without}
 
 some_line : (ios : List Io) → 0 < length ios → Io

@@ -1,18 +1,11 @@
 -- What is read of a log with times, line after line.
-use Rattle.std.proofs.Common.{◌≡◌, ℕ, ◌+◌, ◌≤◌, List, [], ◌∷◌, ◌++◌, length, map, Ok, Err, Result, refl, ap, sym, subst, ◌∙◌, append_assoc, append-nil, length-append, arith}
+use Rattle.loop_device.proofs.Uses.{[], All-push, ap, append_assoc, AreTimed, arith, Err, FailsTimed, IsTimed, IsTimedFaultOf, last_time, length, length-append, line_words, List, Log, map, names_in, names_of, NeverFall, none, Ok, Progress, progress_of, ReadsTimed, refl, Result, SaysTimed, subst, sym, TellsCause, timed, timed_entry, ℕ, ◌∙◌}
+use Rattle.std.proofs.Common.{◌≡◌, ◌+◌, ◌≤◌, ◌∷◌, ◌++◌, append-nil}
 use Rattle.std.specs.Prelude.{IfErr, fold}
 use Rattle.std.specs.List.{All}
-use Rattle.std.proofs.lemmas.List.Elements.{All-push}
 use Rattle.std.proofs.lemmas.List.Quantifiers.{all_pairs_push}
-use Rattle.tag_lines.specs.Lines.{line_words}
 use Rattle.loop_device.specs.declared.fault.LogFault.{LogFault}
-use Rattle.loop_device.specs.declared.io.Log.{Log}
 use Rattle.loop_device.specs.declared.timed_reader.TimedReader.{TimedReader}
-use Rattle.loop_device.specs.LogLines.{names_of, TellsCause}
-use Rattle.loop_device.specs.Logs.{names_in}
-use Rattle.loop_device.specs.LogProgress.{Progress, progress_of}
-use Rattle.loop_device.specs.TimedLogs.{IsTimed, AreTimed, none, timed, NeverFall, last_time, timed_entry, SaysTimed, IsTimedFaultOf}
-use Rattle.loop_device.specs.TimedProgress.{ReadsTimed, FailsTimed}
 use Rattle.loop_device.proofs.LogFacts.{IsReadTo, begun, read_on, finished}
 
 -- one more line with its time

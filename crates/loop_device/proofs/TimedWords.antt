@@ -1,10 +1,6 @@
 -- What a line with a time says, by its first word and what follows it.
-use Rattle.std.proofs.Common.{◌≡◌, ℕ, ◌<◌, ◌^◌, false, ◌||◌, ◌==◌, List, ◌∷◌, length, sym, ap, ◌∙◌, arith}
-use Rattle.std.proofs.lemmas.Bool.Decides.{nat_tests}
-use Rattle.tag_lines.specs.Lines.{parts_of, has_gap, line_words, number_below}
-use Rattle.tag_lines.proofs.LineFacts.{first_part}
-use Rattle.loop_device.specs.LogLines.{entry_of}
-use Rattle.loop_device.specs.TimedLogs.{behind, timed_entry}
+use Rattle.loop_device.proofs.Uses.{ap, arith, behind, entry_of, false, first_part, has_gap, length, line_words, List, nat_tests, number_below, parts_of, sym, timed_entry, ℕ, ◌∙◌}
+use Rattle.std.proofs.Common.{◌≡◌, ◌<◌, ◌^◌, ◌||◌, ◌==◌, ◌∷◌}
 
 -- a line without an empty part, its first word and what follows it
 module _ (line word plain : List ℕ) (full : has_gap (parts_of line) ≡ false) (cut : parts_of line ≡ word ∷ parts_of plain) where

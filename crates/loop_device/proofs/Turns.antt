@@ -1,12 +1,7 @@
 -- One turn more at the end of a thread's work, and what it was the turn of.
-use Rattle.std.proofs.Common.{◌≡◌, ◌≢◌, ℕ, ◌+◌, ◌%◌, ◌<◌, ◌==◌, Bool, true, false, cond, List, [], ◌∷◌, ◌++◌, length, get_or, map, filter, take, refl, sym, ap, ◌∙◌, subst, arith, add-zero, zero-add}
-use Rattle.std.specs.List.{enumerate_from}
-use Rattle.std.proofs.lemmas.List.{take_more, length-take, map-append, append-nil}
-use Rattle.std.proofs.lemmas.Bool.Decides.{nat_tests}
-use Rattle.std.proofs.lemmas.List.Elements.{filter-append}
-use Rattle.loop_device.specs.declared.io.Io.{Io}
-use Rattle.loop_device.specs.Submitting.{share_of}
-use Rattle.loop_device.specs.Working.{State, TakesTurns}
+use Rattle.loop_device.proofs.Uses.{[], add-zero, ap, arith, Bool, cond, enumerate_from, false, filter, filter-append, get_or, Io, length, length-take, List, map, map-append, nat_tests, refl, share_of, State, subst, sym, take, take_more, TakesTurns, true, zero-add, ℕ, ◌∙◌}
+use Rattle.std.proofs.Common.{◌≡◌, ◌≢◌, ◌+◌, ◌%◌, ◌<◌, ◌==◌, ◌∷◌, ◌++◌}
+use Rattle.std.proofs.lemmas.List.{append-nil}
 
 pub one_more : {A : Type 0} (Turn : A → State → State → Type 0) (xs : List A) (x : A) (old mid new : State)
     → TakesTurns Turn xs old mid → Turn x mid new → TakesTurns Turn (xs ++ x ∷ []) old new

@@ -6,6 +6,7 @@ use Rattle.tag_model.specs.declared.world.TheConstants.{MOST_WON}
 use Rattle.wake_book.specs.declared.book_opening.TheConstants.{MAX_CAP}
 use Rattle.tag_queue.specs.declared.gather.QueueTotals.{QueueTotals}
 use Rattle.tag_queue.specs.declared.queue.Options.{Options}
+use Rattle.tag_queue.specs.declared.queue.Waits.TheVariants.{InGroups}
 use Rattle.tag_sets.specs.declared.hand.Hand.{Hand}
 use Rattle.tag_sets.specs.declared.kind.Kind.TheVariants.{Ordinary, Reserved}
 use Rattle.tag_sets.specs.declared.tags.Tags.{Tags}
@@ -37,6 +38,7 @@ options_for setup = record {
   callers = setup.submitters + setup.completers;
   life = MOST_WON;
   cap = MAX_CAP;
+  waits = InGroups;
 }
 
 -- the tags are those that the setup asks for, and were opened with these options

@@ -2,6 +2,7 @@
 use Rattle.std.specs.Prelude.{◌≡◌, ◌==◌, ◌%◌, ◌⊎◌, ℕ, false, List, map, filter, Result, Ok, Err}
 use Rattle.std.specs.List.{enumerate_from}
 use Rattle.refusals.specs.Refusals.{FailsFirst}
+use Rattle.tag_queue.specs.declared.queue.Waits.TheVariants.{InGroups}
 use Rattle.tag_sets.specs.declared.fault.TagFault.{TagFault}
 use Rattle.tag_sets.specs.declared.hand.Hand.{Hand}
 use Rattle.tag_sets.specs.declared.tags.Tags.{Tags}
@@ -52,7 +53,7 @@ pub record EndsItself (tags : Tags ℕ) (room : ℕ) (ios : List Io) (line : ℕ
 pub record TakesNone (tags : Tags ℕ) (line : ℕ) (done : Result ℕ PlayFault) (before after : Worker)
     (old new : Hand ℕ) : Type 0 where
   pub fault : TagFault
-  pub refused : FailsFirst (blocking_checks tags old) fault
+  pub refused : FailsFirst (blocking_checks InGroups tags old) fault
   pub same : after ≡ before
   pub same_hand : new ≡ old
   pub is_lost : done ≡ Err (Lost line)

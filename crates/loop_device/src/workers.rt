@@ -2,6 +2,7 @@
 ghost use Rattle.std.specs.Prelude.{◌≡◌, ◌<◌, true, IfOk};
 ghost use Rattle.crossbeam_queue.specs.Passes.{view, IsPassOf, ruled_capacity};
 ghost use Rattle.refusals.specs.Refusals.{RefusesBy};
+ghost use Rattle.tag_queue.specs.declared.queue.Waits.TheVariants.{InGroups};
 ghost use Rattle.tag_sets.specs.Hands.{IsHandOf, total_of};
 ghost use Rattle.tag_sets.specs.Refusals.{blocking_checks};
 ghost use Rattle.loop_device.specs.Completing.{ServesPopped};
@@ -182,7 +183,7 @@ fn post_line<W: Wait>(
     ensures hand { IsHandOf tags.now hand.new }
     ensures tag { IfOk result (λ tag. tag < total_of tags.now) }
     ensures posts { IfOk result (λ tag. PostsLine tags.now line tag hand.old hand.new) }
-    ensures refusals { RefusesBy (blocking_checks tags.now hand.old) (hand.new ≡ hand.old) result }
+    ensures refusals { RefusesBy (blocking_checks InGroups tags.now hand.old) (hand.new ≡ hand.old) result }
 {
     let tag = tags.get_blocking(rt, hand)?;
     let _former = tags.write_held(hand, tag, line);

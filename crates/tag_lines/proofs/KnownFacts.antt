@@ -21,15 +21,10 @@ use Rattle.tag_lines.specs.ScriptLines.{lone_line, numbered_line, listed_line, w
 use Rattle.tag_lines.specs.ScriptLines.{IsPlain, IsCommandOf, IsOrderOf}
 use Rattle.tag_lines.proofs.ReadingFacts.{all_said}
 
--- a choice between two that are so
-either_some : {A : Type 0} (P : A → Type 0) (b : Bool) (x y : Option A) → IfSome x P → IfSome y P
-    → IfSome (cond b x y) P
-either_some P true x y h k = h
-either_some P false x y h k = k
-
-either_ok : (P : Order → Type 0) (b : Bool) (x y : Result Order LineFault) → IfOk x P → IfOk y P → IfOk (cond b x y) P
-either_ok P true x y h k = h
-either_ok P false x y h k = k
+-- what holds of two holds of a choice between them
+either : {A : Type 0} (P : A → Type 0) (b : Bool) (x y : A) → P x → P y → P (cond b x y)
+either P true x y h k = h
+either P false x y h k = k
 
 plain_command : (dialect : Dialect) (command : Command) → IsPlain command → IsCommandOf dialect command
 plain_command Plain command h = h
@@ -54,32 +49,32 @@ shared_kind Shared kind = λ n. tt
 module _ (dialect : Dialect) (callers : ℕ) where
   lone_known : (name : List ℕ) → IfSome (lone_of dialect name) (IsCommandOf dialect)
   lone_known name =
-      let K = IsCommandOf dialect in
-      either_some K (bytes_eq name (codes "get")) _ _ (plain_command dialect commands.Get tt)
-      (either_some K (bytes_eq name (codes "show")) _ _ (plain_command dialect commands.Show tt)
-      (either_some K (bytes_eq name (codes "busy")) _ _ (plain_command dialect commands.Busy tt)
-      (either_some K (bytes_eq name (codes "dump")) _ _ (plain_command dialect commands.Dump tt)
-      (either_some K (bytes_eq name (codes "get-reserved")) _ _ (shared_command dialect commands.GetReserved)
-      (either_some K (bytes_eq name (codes "wait")) _ _ (shared_command dialect commands.Wait)
-      (either_some K (bytes_eq name (codes "leave")) _ _ (shared_command dialect commands.Leave)
-      (either_some K (bytes_eq name (codes "wakes")) _ _ (shared_command dialect commands.Wakes) tt)))))))
+      let K : Option Command → Type 0 = λ o. IfSome o (IsCommandOf dialect) in
+      either K (bytes_eq name (codes "get")) _ _ (plain_command dialect commands.Get tt)
+      (either K (bytes_eq name (codes "show")) _ _ (plain_command dialect commands.Show tt)
+      (either K (bytes_eq name (codes "busy")) _ _ (plain_command dialect commands.Busy tt)
+      (either K (bytes_eq name (codes "dump")) _ _ (plain_command dialect commands.Dump tt)
+      (either K (bytes_eq name (codes "get-reserved")) _ _ (shared_command dialect commands.GetReserved)
+      (either K (bytes_eq name (codes "wait")) _ _ (shared_command dialect commands.Wait)
+      (either K (bytes_eq name (codes "leave")) _ _ (shared_command dialect commands.Leave)
+      (either K (bytes_eq name (codes "wakes")) _ _ (shared_command dialect commands.Wakes) tt)))))))
 
   numbered_known : (name : List ℕ) → IfSome (numbered_of dialect name) (IsKindOf dialect)
   numbered_known name =
-      let K = IsKindOf dialect in
-      either_some K (bytes_eq name (codes "shallow")) _ _ (plain_kind dialect kinds.Shallow (λ n. tt))
-      (either_some K (bytes_eq name (codes "batch")) _ _ (plain_kind dialect kinds.Batch (λ n. tt))
-      (either_some K (bytes_eq name (codes "clear")) _ _ (plain_kind dialect kinds.Clear (λ n. tt))
-      (either_some K (bytes_eq name (codes "post")) _ _ (shared_kind dialect kinds.Post)
-      (either_some K (bytes_eq name (codes "take")) _ _ (shared_kind dialect kinds.Take)
-      (either_some K (bytes_eq name (codes "resize")) _ _ (shared_kind dialect kinds.Resize) tt)))))
+      let K : Option Numbered → Type 0 = λ o. IfSome o (IsKindOf dialect) in
+      either K (bytes_eq name (codes "shallow")) _ _ (plain_kind dialect kinds.Shallow (λ n. tt))
+      (either K (bytes_eq name (codes "batch")) _ _ (plain_kind dialect kinds.Batch (λ n. tt))
+      (either K (bytes_eq name (codes "clear")) _ _ (plain_kind dialect kinds.Clear (λ n. tt))
+      (either K (bytes_eq name (codes "post")) _ _ (shared_kind dialect kinds.Post)
+      (either K (bytes_eq name (codes "take")) _ _ (shared_kind dialect kinds.Take)
+      (either K (bytes_eq name (codes "resize")) _ _ (shared_kind dialect kinds.Resize) tt)))))
 
   worded_known : (name word : List ℕ) → IfSome (worded_of dialect name word) (IsCommandOf dialect)
   worded_known name word =
-      let K = IsCommandOf dialect in
-      either_some K (bytes_eq word (codes "reserved")) _ _
-      (either_some K (bytes_eq name (codes "show")) _ _ (shared_command dialect commands.ShowReserved)
-      (either_some K (bytes_eq name (codes "dump")) _ _ (shared_command dialect commands.DumpReserved) tt)) tt
+      let K : Option Command → Type 0 = λ o. IfSome o (IsCommandOf dialect) in
+      either K (bytes_eq word (codes "reserved")) _ _
+      (either K (bytes_eq name (codes "show")) _ _ (shared_command dialect commands.ShowReserved)
+      (either K (bytes_eq name (codes "dump")) _ _ (shared_command dialect commands.DumpReserved) tt)) tt
 
   ordered_known : (caller : ℕ) (command : Command) → IsCommandOf dialect command
       → (less : Bool) → nat_lt caller callers ≡ less → IfOk (ordered callers caller command) (IsOrderOf dialect callers)
@@ -129,7 +124,8 @@ module _ (dialect : Dialect) (callers : ℕ) where
   order_known (caller ∷ name ∷ []) = lone_line_known (lone_of dialect name) (number_below (2 ^ 32) caller)
       (lone_known name)
   order_known (caller ∷ name ∷ word ∷ more) =
-      either_ok (IsOrderOf dialect callers) (bytes_eq name (codes "clear-batch")) _ _
+      either (λ (r : Result Order LineFault). IfOk r (IsOrderOf dialect callers))
+      (bytes_eq name (codes "clear-batch")) _ _
       (listed_line_known (number_below (2 ^ 32) caller) (numbers_below (2 ^ 32) FIRST (word ∷ more)))
       (one_word_known caller name word more)
 

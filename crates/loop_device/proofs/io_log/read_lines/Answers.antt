@@ -1,7 +1,5 @@
 -- Each line goes from the rest to what is read.
-use Rattle.std.proofs.Common.{subst, rules, arith}
-use Rattle.tag_lines.specs.Lines.{lines_of}
-use Rattle.loop_device.specs.LogProgress.{progress_of, ReadsLine}
+use Rattle.loop_device.proofs.Uses.{arith, lines_of, progress_of, ReadsLine, rules, subst}
 use Rattle.loop_device.proofs.LogFacts.{IsReadTo, read_on}
 use Rattle.loop_device.proofs.io_log.read_lines.Goals as goal
 

@@ -1,10 +1,7 @@
 -- Each line goes from the rest to what is read, or is the first faulty one.
-use Rattle.std.proofs.Common.{◌≤◌, length, ap, subst, rules, arith}
+use Rattle.loop_device.proofs.Uses.{ap, arith, common_steps, FailsTimed, length, lines_of, progress_of, ReadsTimed, rules, subst}
+use Rattle.std.proofs.Common.{◌≤◌}
 use Rattle.std.specs.Prelude.{IfErr}
-use Rattle.std.proofs.lemmas.Grind.{common_steps}
-use Rattle.tag_lines.specs.Lines.{lines_of}
-use Rattle.loop_device.specs.LogProgress.{progress_of}
-use Rattle.loop_device.specs.TimedProgress.{ReadsTimed, FailsTimed}
 use Rattle.loop_device.proofs.LogFacts.{no_lines}
 use Rattle.loop_device.proofs.TimedFacts.{IsTimedTo, timed_begun, timed_on, timed_faulty_in, timed_finished}
 use Rattle.loop_device.proofs.io_log.read_timed_lines.Goals as goal

@@ -1,7 +1,6 @@
 -- The lines so far are read without their times, and the rest is left.
-use Rattle.std.proofs.Common.{◌≤◌, ◌+◌, length}
-use Rattle.tag_lines.specs.Lines.{lines_of}
-use Rattle.loop_device.specs.LogProgress.{progress_of}
+use Rattle.loop_device.proofs.Uses.{length, lines_of, progress_of}
+use Rattle.std.proofs.Common.{◌≤◌, ◌+◌}
 use Rattle.loop_device.proofs.TimedFacts.{IsTimedTo}
 use Rattle.loop_device.proofs.io_log.read_timed_lines.Given as goal
 

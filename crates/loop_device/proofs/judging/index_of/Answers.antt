@@ -1,9 +1,5 @@
 -- The line stands nowhere, where its index has another line or there is none for its number.
-use Rattle.std.proofs.Common.{rules, arith, sym}
-use Rattle.std.proofs.lemmas.List.{get_or_default}
-use Rattle.std.proofs.lemmas.List.Sorted.{answers_always}
-use Rattle.std.proofs.lemmas.Cmp.{ranked}
-use Rattle.std.proofs.lemmas.Bool.Decides.{nat_tests}
+use Rattle.loop_device.proofs.Uses.{answers_always, arith, get_or_default, nat_tests, ranked, rules, sym}
 use Rattle.loop_device.proofs.Indexes.{absent_beside, absent_between}
 use Rattle.loop_device.proofs.judging.index_of.Goals as goal
 

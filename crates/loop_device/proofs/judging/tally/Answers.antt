@@ -1,11 +1,6 @@
 -- Each item is found among the lines, and counted there.
-use Rattle.std.proofs.Common.{◌≡◌, ◌+◌, rules, arith, sym, set, take, subst}
-use Rattle.std.specs.List.{Contains}
-use Rattle.std.proofs.lemmas.List.{take_all}
-use Rattle.std.proofs.lemmas.List.Elements.{All-more}
-use Rattle.std.proofs.lemmas.Grind.{common_steps}
-use Rattle.loop_device.specs.declared.io.Done.{Done}
-use Rattle.loop_device.specs.Verdict.{AreOfLog}
+use Rattle.loop_device.proofs.Uses.{All-more, AreOfLog, arith, common_steps, Contains, Done, rules, set, subst, sym, take, take_all}
+use Rattle.std.proofs.Common.{◌≡◌, ◌+◌}
 use Rattle.loop_device.proofs.Counting.{counted, none_yet, counts_few, count_at, read_count, tallied}
 use Rattle.loop_device.proofs.judging.tally.Goals as goal
 

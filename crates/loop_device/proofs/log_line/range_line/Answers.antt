@@ -1,8 +1,6 @@
 -- What follows the second number of a range has a first word, which is too much.
-use Rattle.std.proofs.Common.{◌≡◌, ◌∷◌, sym, arith}
-use Rattle.std.proofs.lemmas.Grind.{common_steps}
-use Rattle.tag_lines.specs.Lines.{parts_of}
-use Rattle.tag_lines.proofs.LineFacts.{first_part}
+use Rattle.loop_device.proofs.Uses.{arith, common_steps, first_part, parts_of, sym}
+use Rattle.std.proofs.Common.{◌≡◌, ◌∷◌}
 use Rattle.loop_device.proofs.log_line.range_line.Goals as goal
 
 pub returns-in-Some-more-clause-said : goal.returns-in-Some-more-clause-said

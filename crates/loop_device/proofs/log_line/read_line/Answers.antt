@@ -1,8 +1,6 @@
 -- What follows an action is a range.
-use Rattle.std.proofs.Common.{◌≡◌, ◌∙◌, ◌∷◌, sym, ap, arith, rules}
-use Rattle.std.proofs.lemmas.Grind.{common_steps}
-use Rattle.tag_lines.specs.Lines.{parts_of, line_words}
-use Rattle.loop_device.specs.LogLines.{names_of, index_of, range_action, range_words, entry_of}
+use Rattle.loop_device.proofs.Uses.{ap, arith, common_steps, entry_of, index_of, line_words, names_of, parts_of, range_action, range_words, rules, sym, ◌∙◌}
+use Rattle.std.proofs.Common.{◌≡◌, ◌∷◌}
 use Rattle.loop_device.proofs.LogWords.{is_told, range_said}
 use Rattle.loop_device.proofs.log_line.read_line.Goals as goal
 

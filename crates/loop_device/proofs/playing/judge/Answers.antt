@@ -1,6 +1,5 @@
 -- A fault of the verdict is passed on.
-use Rattle.std.proofs.Common.{rules}
-use Rattle.loop_device.specs.Verdict.{IsPlayFault}
+use Rattle.loop_device.proofs.Uses.{IsPlayFault, rules}
 use Rattle.loop_device.proofs.Blaming.{passed_on}
 use Rattle.loop_device.proofs.playing.judge.Goals as goal
 

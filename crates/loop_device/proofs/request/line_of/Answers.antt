@@ -1,11 +1,5 @@
 -- The line stands where the search found its number, and nowhere where the search found none.
-use Rattle.std.proofs.Common.{rules, Err, sym, subst}
-use Rattle.std.specs.List.Sorted.{IsBinarySearchResult}
-use Rattle.std.specs.Ordering.{nat_cmp}
-use Rattle.std.proofs.lemmas.Cmp.{ranked}
-use Rattle.std.proofs.lemmas.List.Elements.{Contains-get_or}
-use Rattle.std.proofs.lemmas.List.Sorted.{answers_always}
-use Rattle.loop_device.specs.declared.io.Io.{Io}
+use Rattle.loop_device.proofs.Uses.{answers_always, Contains-get_or, Err, Io, IsBinarySearchResult, nat_cmp, ranked, rules, subst, sym}
 use Rattle.loop_device.proofs.Indexes.{absent_between}
 use Rattle.loop_device.proofs.request.line_of.Goals as goal
 

@@ -1,7 +1,6 @@
 -- A write or a trim leaves its stamp, a read finds the greatest, and the others change nothing.
-use Rattle.std.proofs.Common.{◌≡◌, true, false, sym, ◌∙◌, subst}
-use Rattle.loop_device.specs.declared.io.IoKind.{IoKind}
-use Rattle.loop_device.specs.History.{leaves_stamp, AnswersAs}
+use Rattle.loop_device.proofs.Uses.{AnswersAs, false, IoKind, leaves_stamp, subst, sym, true, ◌∙◌}
+use Rattle.std.proofs.Common.{◌≡◌}
 use Rattle.loop_device.proofs.Keeping.{stamped_kept, unstamped_kept, answers_line, answers_0, reads_greatest}
 use Rattle.loop_device.proofs.store.answer.Goals as goal
 

@@ -1,13 +1,7 @@
 -- A thread does the part that its number says.
-use Rattle.std.proofs.Common.{◌≡◌, ℕ, true, false, [], Option, sym, ap, ◌∙◌, subst}
+use Rattle.loop_device.proofs.Uses.{[], ap, begins, DoesPart, ends, false, Option, ServesPopped, SubmitsShare, subst, sym, true, view, Worker, worker, ℕ, ◌∙◌}
+use Rattle.std.proofs.Common.{◌≡◌}
 use Rattle.std.specs.Prelude.{is_some}
-use Rattle.crossbeam_queue.specs.Passes.{view}
-use Rattle.loop_device.specs.declared.device_queue.Worker.{Worker}
-use Rattle.loop_device.specs.Completing.{ServesPopped}
-use Rattle.loop_device.specs.DeviceQueue.{worker}
-use Rattle.loop_device.specs.Runs.{DoesPart}
-use Rattle.loop_device.specs.Submitting.{SubmitsShare}
-use Rattle.loop_device.specs.Working.{begins, ends}
 use Rattle.loop_device.proofs.threads.do_part.Goals as goal
 
 pub returns-in-Some : goal.returns-in-Some

@@ -1,16 +1,10 @@
 -- What a thread has may go to it, and each new handle promises what the others do.
+use Rattle.loop_device.proofs.Uses.{[], ap, arith, Bool, crosses, HavePromised, IsFreshOf, IsSend, length, param_send, Part, rules, sendable, SomeIff, submitter_at, subst, suc, sym, u64-field, vec_len, worker, ℕ, ◌∙◌}
 use denote.Param.{param}
-use denote.Param.Send.{IsSend, param_send, sendable}
-use Rattle.std.proofs.Common.{◌≡◌, ℕ, ◌≤◌, ◌-◌, Bool, SomeIff, [], suc, sym, ap, ◌∙◌, subst, arith, rules, length, vec_len}
+use Rattle.std.proofs.Common.{◌≡◌, ◌≤◌, ◌-◌}
 use Rattle.std.specs.List.{All}
-use Rattle.std.proofs.Crossing.{crosses}
 use Rattle.loop_device.proofs.Crossing.{hand_goes, log_shared, device_shared, pass_goes}
-use Rattle.loop_device.specs.declared.threads.Part.{Part}
-use Rattle.loop_device.specs.DeviceQueue.{worker}
-use Rattle.loop_device.specs.Promises.{HavePromised}
-use Rattle.loop_device.specs.Runs.{IsFreshOf, submitter_at}
 use Rattle.loop_device.proofs.Joining.{numbered, promised_none, promised_more}
-use denote.Struct.Field.{u64-field}
 use Rattle.std.specs.contracts.option.Option as option
 use Rattle.loop_device.specs.contracts.setup.Setup as setup
 use Rattle.loop_device.proofs.threads.start_all.Lts as lts

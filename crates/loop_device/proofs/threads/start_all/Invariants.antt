@@ -1,9 +1,7 @@
 -- The hands that are left are fresh, the threads that run have promised their parts, and there is room for as many more.
-use Rattle.std.proofs.Common.{All, ◌≡◌, ◌+◌, ◌≤◌, vec_len, vec_capacity}
+use Rattle.loop_device.proofs.Uses.{HavePromised, IsFreshOf, IsPassOf, vec_capacity, vec_len}
+use Rattle.std.proofs.Common.{All, ◌≡◌, ◌+◌, ◌≤◌}
 use Rattle.std.specs.Vec.Iter.{into_iter_items, into_iter_len}
-use Rattle.crossbeam_queue.specs.Passes.{IsPassOf}
-use Rattle.loop_device.specs.Promises.{HavePromised}
-use Rattle.loop_device.specs.Runs.{IsFreshOf}
 use Rattle.loop_device.proofs.threads.start_all.Given as goal
 
 abbrev pub invariant-loop-hand : goal.invariant-loop-hand

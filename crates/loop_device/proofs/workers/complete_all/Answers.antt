@@ -1,9 +1,5 @@
 -- Each turn pops one more number and serves it, or finds none.
-use Rattle.std.proofs.Common.{rules, sym, subst}
-use Rattle.crossbeam_queue.specs.Passes.{view}
-use Rattle.loop_device.specs.declared.workers.Faults.{Faults}
-use Rattle.loop_device.specs.Completing.{ServesPopped}
-use Rattle.loop_device.specs.Working.{begins}
+use Rattle.loop_device.proofs.Uses.{begins, Faults, rules, ServesPopped, subst, sym, view}
 use Rattle.loop_device.proofs.Served.{ended, none_popped, still, serves_more}
 use Rattle.loop_device.proofs.workers.complete_all.Goals as goal
 

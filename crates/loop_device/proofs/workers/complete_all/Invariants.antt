@@ -1,8 +1,5 @@
 -- Hand and pass stay those of the play, and the numbers popped so far are served.
-use Rattle.crossbeam_queue.specs.Passes.{IsPassOf, view}
-use Rattle.tag_sets.specs.Hands.{IsHandOf}
-use Rattle.loop_device.specs.Completing.{ServesPopped}
-use Rattle.loop_device.specs.Working.{begins}
+use Rattle.loop_device.proofs.Uses.{begins, IsHandOf, IsPassOf, ServesPopped, view}
 use Rattle.loop_device.proofs.workers.complete_all.Given as goal
 
 abbrev pub invariant-loop : goal.invariant-loop

@@ -1,8 +1,5 @@
 -- The line was passed on, or its submitter took the tag back and ended the request as a completer does.
-use Rattle.std.proofs.Common.{ℕ, inl, inr, refl, sym, subst}
-use Rattle.crossbeam_queue.specs.Passes.{view, ruled_capacity}
-use Rattle.loop_device.specs.DeviceQueue.{WasFull}
-use Rattle.loop_device.specs.Submitting.{PostsLine}
+use Rattle.loop_device.proofs.Uses.{inl, inr, PostsLine, refl, ruled_capacity, subst, sym, view, WasFull, ℕ}
 use Rattle.loop_device.proofs.Completing.{completed, told, told_back}
 use Rattle.loop_device.proofs.Served.{ended}
 use Rattle.loop_device.proofs.workers.submit.Goals as goal
@@ -48,3 +45,13 @@ returns-clause-submits g c =
           (told tags tag posted taken last takes ios done c.finish.ensures.fault);
       same = c.in-Err.ensures.err;
     })
+
+-- no tag was got, so nothing changed
+pub returns-in_default-clause-submits : goal.returns-in_default-clause-submits
+returns-in_default-clause-submits g c = let refused = c.in_default.ensures.refusals in inr (inr record {
+  fault = c.in_default.field-0;
+  refused = refused.first;
+  same = refl;
+  same_hand = refused.same;
+  is_lost = refl;
+})

@@ -1,6 +1,5 @@
 -- Each turn submits one more line of the share, or passes over another's.
-use Rattle.crossbeam_queue.specs.Passes.{view, ruled_capacity}
-use Rattle.loop_device.specs.Working.{begins}
+use Rattle.loop_device.proofs.Uses.{begins, ruled_capacity, view}
 use Rattle.loop_device.proofs.Served.{state}
 use Rattle.loop_device.proofs.Submitted.{passed_over, submits_more}
 use Rattle.loop_device.proofs.workers.submit_all.Goals as goal

@@ -1,9 +1,6 @@
 -- Hand and pass stay those of the play and of a submitter, and the lines of the share so far are submitted.
-use Rattle.std.proofs.Common.{◌≡◌, true, take}
-use Rattle.crossbeam_queue.specs.Passes.{view, IsPassOf, ruled_capacity}
-use Rattle.tag_sets.specs.Hands.{IsHandOf}
-use Rattle.loop_device.specs.Submitting.{Submits, share_of}
-use Rattle.loop_device.specs.Working.{begins, TakesTurns}
+use Rattle.loop_device.proofs.Uses.{begins, IsHandOf, IsPassOf, ruled_capacity, share_of, Submits, take, TakesTurns, true, view}
+use Rattle.std.proofs.Common.{◌≡◌}
 use Rattle.loop_device.proofs.workers.submit_all.Given as goal
 
 abbrev pub invariant-loop-index : goal.invariant-loop-index

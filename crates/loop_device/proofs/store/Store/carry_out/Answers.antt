@@ -1,8 +1,6 @@
 -- The line goes into the history with what it answers after those before it.
-use Rattle.std.proofs.Common.{◌≡◌, ◌++◌, ◌∷◌, [], List, sym, subst, rules}
-use Rattle.loop_device.specs.declared.io.Done.{Done}
-use Rattle.loop_device.specs.History.{done_of}
-use Rattle.loop_device.specs.Keys.{IsKept}
+use Rattle.loop_device.proofs.Uses.{[], Done, done_of, IsKept, List, rules, subst, sym}
+use Rattle.std.proofs.Common.{◌≡◌, ◌++◌, ◌∷◌}
 use Rattle.loop_device.proofs.Keeping.{extends}
 use Rattle.loop_device.proofs.store.Store.carry_out.Goals as goal
 
