@@ -65,10 +65,7 @@ void tags_library_enlist(struct tags_hand *hand, bool listens)
 
 	tags_add(&bell->listening, listens);
 	tags_add(&bell->waits.waiting, 1);
-	if (hand->place->has_turn)
-		tags_library_list_again(hand, listens);
-	else
-		tags_library_list_self(hand, listens);
+	tags_library_list_self(hand, listens, hand->place->has_turn);
 	hand->place->has_turn = true;
 }
 

@@ -122,8 +122,7 @@ static inline bool tags_is_ended(const struct tags_hand *hand)
  * it was told (1) or not (0). Whoever makes tags free sees to them, and whoever was told and does
  * not need the tag sees to all tags: each fills in whom it told.
  */
-int32_t tags_library_list_self(struct tags_hand *hand, uint32_t listens);
-int32_t tags_library_list_again(struct tags_hand *hand, uint32_t listens);
+int32_t tags_library_list_self(struct tags_hand *hand, uint32_t listens, uint32_t again);
 int32_t tags_library_is_told(struct tags_hand *hand, uint32_t listens);
 int32_t tags_library_get_up(struct tags_hand *hand, uint32_t listens);
 int32_t tags_library_see_to(struct tags_hand *hand, uint32_t freed, struct tags_told *told);

@@ -626,17 +626,13 @@ static int32_t enter_list(struct member *member, uint32_t list)
 	return 0;
 }
 
-int32_t tags_library_list_self(struct tags_hand *hand, uint32_t listens)
+int32_t tags_library_list_self(struct tags_hand *hand, uint32_t listens, uint32_t again)
 {
 	struct member *member = member_of(hand);
 
-	take_turn(member);
+	if (!again)
+		take_turn(member);
 	return enter_list(member, listens != 0);
-}
-
-int32_t tags_library_list_again(struct tags_hand *hand, uint32_t listens)
-{
-	return enter_list(member_of(hand), listens != 0);
 }
 
 int32_t tags_library_is_told(struct tags_hand *hand, uint32_t listens)

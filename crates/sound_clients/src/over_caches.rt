@@ -3,7 +3,7 @@ ghost use Rattle.std.specs.Prelude.{◌≡◌, IfOk};
 ghost use Rattle.tag_cache.specs.Caches.{IsCacheOf};
 
 use tag_cache::{Cache, Ring, TagFault, Tags};
-use tag_sets::SLEEPERS;
+use tag_sets::{SLEEPERS, Turn};
 
 /// Gets a tag, writes its value and reads it, hands the tag over to itself, and clears it. Returns the value read.
 pub fn serve_from_cache(
@@ -32,7 +32,7 @@ pub fn flush_after_batch(cache: &mut Cache<u64>, tags: &Tags<u64>) -> Result<u32
     requires { IsCacheOf tags.now cache.old }
     ensures { IsCacheOf tags.now cache.new }
 {
-    cache.list_self(tags, SLEEPERS)?;
+    cache.list_self(tags, SLEEPERS, Turn::Next)?;
     let batch = cache.get_batch(tags, 2)?;
     cache.get_up(tags, SLEEPERS);
     let Some((first, mask)) = batch else {

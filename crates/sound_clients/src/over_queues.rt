@@ -3,7 +3,7 @@ ghost use Rattle.std.specs.Prelude.{◌≡◌, All, IfOk};
 ghost use Rattle.tag_queue.specs.Agents.{IsAgentOf};
 
 use std::alloc::Global;
-use tag_queue::{Agent, LISTENERS, Options, Queue, QueueFault, QueueTotals};
+use tag_queue::{Agent, LISTENERS, Options, Queue, QueueFault, QueueTotals, Turn};
 use wake_book::Ring;
 
 /// Gets a tag, writes its value and reads it, hands the tag over to itself, and clears it. Returns the value read.
@@ -32,7 +32,7 @@ pub fn see_to_others(queue: &Queue<u64>, agent: &mut Agent<u64>) -> Result<u32, 
     requires { IsAgentOf queue.now agent.old }
     ensures { IsAgentOf queue.now agent.new }
 {
-    queue.list_self(agent, LISTENERS)?;
+    queue.list_self(agent, LISTENERS, Turn::Next)?;
     let batch = queue.get_batch(agent, 2)?;
     let told = queue.get_up(agent, LISTENERS);
     let Some((first, mask)) = batch else {

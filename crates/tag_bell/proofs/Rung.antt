@@ -1,7 +1,7 @@
 -- Steps that change nothing of a caller's record but its list of steps, and what follows for what it has to see to.
 use Rattle.std.specs.Prelude.{◌++◌, ◌+◌, ◌-◌, ◌<◌, ◌^◌, ◌∷◌, ◌≡◌, ◌≢◌, ◌≤◌}
 use Rattle.tag_bell.proofs.Uses.{[], Adds, ap, append_assoc, arith, Bell, BellStep, bit_and, bit_at, bit_at-lt, bit_at-zero, bit_at_and, bit_at_ones, bit_or, Bool, Caller, cond, dite, Enlist, eq-eqb, false, GetUp, in_aside, in_word, Layout, le_or_l, le_or_r, length-append, List, Look, LookAside}
-use Rattle.tag_bell.proofs.Uses.{min, nat_eq, ne_eqb, nobody, OnlyAdds, or_zero_l, Owes, OwesNoneWhere, OwesNothing, place_of, Post, Record, record_of, refl, SameMap, Sight, Spot, Step, subst, sym, Take, Tell, Tells, Told, told_in, true, waits, Word, word_depth, word_of, ℕ, ℕ_discrete, ⊎_elim}
+use Rattle.tag_bell.proofs.Uses.{min, nat_eq, ne_eqb, nobody, OnlyAdds, or_zero_l, Owes, OwesNoneWhere, OwesNothing, place_of, Post, Record, record_of, refl, SameMap, Sight, Spot, Step, subst, sym, Take, Tell, Tells, Told, told_in, true, Word, word_depth, word_of, ℕ, ℕ_discrete, ⊎_elim}
 use Rattle.tag_bell.proofs.Uses.{◌∙◌}
 use Rattle.tag_layout.proofs.PlaceFacts.{place_of-below}
 use Rattle.tag_bell.specs.Waiting as steps

@@ -1,6 +1,6 @@
 -- What a call that leaves its caller unchanged keeps of what was said of it.
 use Rattle.std.specs.Prelude.{◌<◌, ◌≡◌}
-use Rattle.tag_bell.proofs.Uses.{Caller, Holds, IsUnchanged, KeepsAll, List, OnlyAdds, OwesNothing, Record, record_of, Step, subst, sym, Tells, TellsFew, Told, WaitsAsBefore, ℕ, ◌∙◌}
+use Rattle.tag_bell.proofs.Uses.{Caller, Holds, HoldsSame, IsUnchanged, List, OnlyAdds, OwesNothing, Record, record_of, Step, subst, sym, Tells, TellsFew, Told, WaitsAsBefore, ℕ, ◌∙◌}
 use Rattle.tag_core.specs.Records.{tag_bit}
 use Rattle.tag_bell.specs.Waiting as steps
 
@@ -27,7 +27,7 @@ module _ {R : Type 0} (old new : Caller R) (unchanged : IsUnchanged old new) whe
   pub held_before : (tag : ℕ) → Holds new tag → Holds old tag
   held_before tag = subst (holds_of tag) unchanged.known
 
-  pub keeps_still : (first : Caller R) → KeepsAll first old → KeepsAll first new
+  pub keeps_still : (first : Caller R) → HoldsSame first old → HoldsSame first new
   keeps_still first keeps = record {
     kept = λ tag has. let was = keeps.kept tag has in (holds_still tag was.0, unchanged.slots tag ∙ was.1);
     none_else = λ tag has. keeps.none_else tag (held_before tag has);

@@ -10,7 +10,7 @@ pub use Rattle.tag_layout.specs.Layout.{Layout, place_of, word_depth, word_of, w
 pub use Rattle.tag_core.proofs.Masks.{bit_minus, ones_and}
 pub use Rattle.tag_core.specs.Callers.{Adds, Holds, IsCallerOf, IsUnchanged, layout_of, record_of, SameMap}
 pub use Rattle.tag_core.specs.Histories.{cells_of, EachFinds, FindsIn, History, steps_by}
-pub use Rattle.tag_core.specs.Holdings.{KeepsAll}
+pub use Rattle.tag_core.specs.Holding.{HoldsSame}
 pub use Rattle.tag_core.specs.Steps.{changed_at, Finds, without, Words, words_after}
 pub use Rattle.tag_core.specs.declared.bell_step.BellStep.{BellStep}
 pub use Rattle.tag_core.specs.declared.bell_step.BellStep.TheVariants.{Enlist, GetUp, Sight, Tell}

@@ -18,4 +18,4 @@ pub use sleeping::{Woken, sleep, wake};
 pub use spot::Spot;
 pub use telling::{finds_waiters, see_to};
 pub use told::{LISTENERS, SLEEPERS, Told};
-pub use waiting::{get_up, is_told, list_again, list_self};
+pub use waiting::{Turn, get_up, is_told, list_self};

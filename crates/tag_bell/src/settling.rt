@@ -3,7 +3,7 @@ ghost use Rattle.std.specs.Prelude.{◌≡◌, ℕ, ◌+◌, ◌*◌, ◌<◌, f
 ghost use Rattle.tag_layout.specs.Layout.{words};
 ghost use Rattle.tag_core.specs.declared.bell.TheConstants.{LISTS};
 ghost use Rattle.tag_core.specs.Callers.{layout_of, IsCallerOf};
-ghost use Rattle.tag_core.specs.Holdings.{KeepsAll};
+ghost use Rattle.tag_core.specs.Holding.{HoldsSame};
 ghost use Rattle.tag_bell.specs.Callers.{WaitsAsBefore, OwesNothing};
 ghost use Rattle.tag_bell.specs.Calls.{OwesNoneWhere, Tells, nobody};
 ghost use Rattle.tag_bell.specs.Selection.{TellsFew};
@@ -23,7 +23,7 @@ pub fn settle<R>(map: &Map<R>, caller: &mut Caller<R>) -> Told
     ensures told { Tells (2 * words (layout_of map.now) + 8) result caller.old caller.new }
     ensures few { TellsFew 1 result caller.old caller.new }
     ensures waits { (list : ℕ) → WaitsAsBefore list caller.old caller.new }
-    ensures kept { KeepsAll caller.old caller.new }
+    ensures kept { HoldsSame caller.old caller.new }
 {
     let (sleepers, listeners) = sight_lists(map, caller);
     if sleepers | listeners == 0 {
@@ -42,7 +42,7 @@ fn look_through<R>(map: &Map<R>, caller: &mut Caller<R>) -> Told
     ensures told { Tells (2 * words (layout_of map.now) + 6) result caller.old caller.new }
     ensures few { TellsFew 1 result caller.old caller.new }
     ensures waits { (list : ℕ) → WaitsAsBefore list caller.old caller.new }
-    ensures kept { KeepsAll caller.old caller.new }
+    ensures kept { HoldsSame caller.old caller.new }
 {
     for word in 0..map.layout().words() {
         if has_free(map, caller, word) {
@@ -62,7 +62,7 @@ fn has_free<R>(map: &Map<R>, caller: &mut Caller<R>, word: u32) -> bool
         → OwesNoneWhere (λ i. i < word) list caller.new }
     ensures told { Tells 2 nobody caller.old caller.new }
     ensures waits { (list : ℕ) → WaitsAsBefore list caller.old caller.new }
-    ensures kept { KeepsAll caller.old caller.new }
+    ensures kept { HoldsSame caller.old caller.new }
 {
     let usable = map.layout().usable(word);
     let taken = map.look(caller, word);

@@ -2,7 +2,7 @@
 ghost use Rattle.std.specs.Prelude.{◌≡◌, ◌≢◌, ℕ, ◌<◌, max, false};
 ghost use Rattle.tag_core.specs.declared.bell.TheConstants.{LISTS};
 ghost use Rattle.tag_core.specs.Callers.{IsCallerOf};
-ghost use Rattle.tag_core.specs.Holdings.{KeepsAll};
+ghost use Rattle.tag_core.specs.Holding.{HoldsSame};
 ghost use Rattle.tag_bell.specs.Callers.{WaitsAsBefore, OwesNothing};
 ghost use Rattle.tag_bell.specs.Calls.{OwesNoMore, FindsWaiters, LooksAtLists, Tells, TellsIn, nobody};
 ghost use Rattle.tag_bell.specs.Selection.{IsSelection, TellsFew, TellsFewIn, TellsFewOf};
@@ -20,7 +20,7 @@ pub fn see_to<R>(map: &Map<R>, caller: &mut Caller<R>, freed: u32) -> Told
     ensures told { Tells 6 result caller.old caller.new }
     ensures few { TellsFew (max freed 1) result caller.old caller.new }
     ensures waits { (list : ℕ) → WaitsAsBefore list caller.old caller.new }
-    ensures kept { KeepsAll caller.old caller.new }
+    ensures kept { HoldsSame caller.old caller.new }
 {
     let (sleepers, listeners) = sight_lists(map, caller);
     if sleepers | listeners == 0 {
@@ -37,7 +37,7 @@ pub fn finds_waiters<R>(map: &Map<R>, caller: &mut Caller<R>) -> bool
     ensures done { result ≡ false → (list : ℕ) → list < LISTS → OwesNothing list caller.new }
     ensures finds { FindsWaiters result caller.old caller.new }
     ensures waits { (list : ℕ) → WaitsAsBefore list caller.old caller.new }
-    ensures kept { KeepsAll caller.old caller.new }
+    ensures kept { HoldsSame caller.old caller.new }
 {
     let (sleepers, listeners) = sight_lists(map, caller);
     sleepers | listeners != 0
@@ -53,7 +53,7 @@ pub(crate) fn sight_lists<R>(map: &Map<R>, caller: &mut Caller<R>) -> (u64, u64)
     ensures looks { LooksAtLists result.0 result.1 caller.old caller.new }
     ensures told { Tells 2 nobody caller.old caller.new }
     ensures waits { (list : ℕ) → WaitsAsBefore list caller.old caller.new }
-    ensures kept { KeepsAll caller.old caller.new }
+    ensures kept { HoldsSame caller.old caller.new }
 {
     let sleepers = map.sight(caller, SLEEPERS);
     let listeners = map.sight(caller, LISTENERS);
@@ -77,7 +77,7 @@ fn tell_each<R>(
     ensures told { Tells 4 result caller.old caller.new }
     ensures few { TellsFewOf (max freed 1) sleepers listeners result caller.old caller.new }
     ensures waits { (list : ℕ) → WaitsAsBefore list caller.old caller.new }
-    ensures kept { KeepsAll caller.old caller.new }
+    ensures kept { HoldsSame caller.old caller.new }
 {
     let sleepers = tell_some(map, caller, SLEEPERS, freed, sleepers);
     let listeners = tell_some(map, caller, LISTENERS, freed, listeners);
@@ -99,7 +99,7 @@ fn tell_some<R>(map: &Map<R>, caller: &mut Caller<R>, list: u32, most: u32, list
     ensures told { TellsIn list result caller.old caller.new }
     ensures few { TellsFewIn list (max most 1) listed result caller.old caller.new }
     ensures waits { (other : ℕ) → WaitsAsBefore other caller.old caller.new }
-    ensures kept { KeepsAll caller.old caller.new }
+    ensures kept { HoldsSame caller.old caller.new }
 {
     if listed == 0 {
         return 0;

@@ -4,30 +4,23 @@ ghost use Rattle.std.specs.Int.{bit_at};
 ghost use Rattle.tag_core.specs.declared.bell.TheConstants.{LISTS};
 ghost use Rattle.tag_core.specs.declared.bell_step.BellStep.TheVariants.{Enlist, GetUp};
 ghost use Rattle.tag_core.specs.Callers.{IsCallerOf, record_of};
-ghost use Rattle.tag_core.specs.Holdings.{KeepsAll};
+ghost use Rattle.tag_core.specs.Holding.{HoldsSame};
 ghost use Rattle.tag_bell.specs.Callers.{IsWaiting, IsUp, WaitsAsBefore, OwesNothing};
 ghost use Rattle.tag_bell.specs.Calls.{Rings, OwesNoMore};
 
 use tag_core::{Caller, Map};
 
-/// Lists the caller among those that wait, with the next turn. Afterwards it has to try each tag before it may sleep.
-pub fn list_self<R>(map: &Map<R>, caller: &mut Caller<R>, list: u32)
-    requires caller { IsCallerOf map.now caller.old }
-    requires within { list < LISTS }
-    ensures caller { IsCallerOf map.now caller.new }
-    ensures waiting { IsWaiting list caller.new }
-    ensures others { (other : ℕ) → other ≢ list → WaitsAsBefore other caller.old caller.new }
-    ensures owes { IsUp list caller.old → OwesNoMore list caller.old caller.new }
-    ensures owes_others { (other : ℕ) → other ≢ list → OwesNoMore other caller.old caller.new }
-    ensures step { (found : ℕ) × Rings (Enlist list (record_of caller.old).number found) caller.old caller.new }
-    ensures kept { KeepsAll caller.old caller.new }
-{
-    map.take_turn(caller);
-    list_again(map, caller, list);
+/// With which turn a caller is listed. Of those listed, whoever has the lowest is told first.
+#[derive(Clone, Copy, Debug, PartialEq, Eq)]
+pub enum Turn {
+    /// The next one.
+    Next,
+    /// The one that it had: for a caller that was told and found no tag.
+    Same,
 }
 
-/// Lists the caller as `list_self` does, with the turn that it had: for one that was told and found no tag.
-pub fn list_again<R>(map: &Map<R>, caller: &mut Caller<R>, list: u32)
+/// Lists the caller among those that wait. Afterwards it has to try each tag before it may sleep.
+pub fn list_self<R>(map: &Map<R>, caller: &mut Caller<R>, list: u32, turn: Turn)
     requires caller { IsCallerOf map.now caller.old }
     requires within { list < LISTS }
     ensures caller { IsCallerOf map.now caller.new }
@@ -36,8 +29,11 @@ pub fn list_again<R>(map: &Map<R>, caller: &mut Caller<R>, list: u32)
     ensures owes { IsUp list caller.old → OwesNoMore list caller.old caller.new }
     ensures owes_others { (other : ℕ) → other ≢ list → OwesNoMore other caller.old caller.new }
     ensures step { (found : ℕ) × Rings (Enlist list (record_of caller.old).number found) caller.old caller.new }
-    ensures kept { KeepsAll caller.old caller.new }
+    ensures kept { HoldsSame caller.old caller.new }
 {
+    if turn == Turn::Next {
+        map.take_turn(caller);
+    }
     map.enlist(caller, list);
 }
 
@@ -53,7 +49,7 @@ pub fn get_up<R>(map: &Map<R>, caller: &mut Caller<R>, list: u32) -> bool
     ensures owes_others { (other : ℕ) → other ≢ list → OwesNoMore other caller.old caller.new }
     ensures step { (found : ℕ) × Rings (GetUp list (record_of caller.old).number found) caller.old caller.new
         × (IsTrue result ↔ (bit_at found (record_of caller.old).number ≡ 0)) }
-    ensures kept { KeepsAll caller.old caller.new }
+    ensures kept { HoldsSame caller.old caller.new }
 {
     let found = map.get_up(caller, list);
     !map.is_listed(caller, found)

@@ -14,7 +14,7 @@ impl Board {
         ensures { Gets Ordinary caller (state_of self.old) result (state_of self.new) }
     {
         // Nobody sleeps on a board, so no tag that the sweeps freed keeps anybody waiting.
-        let Found { answer, .. } = self.tags.get_freed(&mut self.hands[caller as usize])?;
+        let Found { answer, .. } = self.tags.get_and_report(&mut self.hands[caller as usize])?;
         self.tell_free(caller, answer);
         Ok(answer)
     }
@@ -38,7 +38,7 @@ impl Board {
     {
         let Found { answer, .. } = self
             .tags
-            .get_shallow_freed(&mut self.hands[caller as usize], depth)?;
+            .get_shallow_and_report(&mut self.hands[caller as usize], depth)?;
         self.tell_free(caller, answer);
         Ok(answer)
     }
@@ -52,7 +52,7 @@ impl Board {
     {
         let Found { answer, .. } = self
             .tags
-            .get_batch_freed(&mut self.hands[caller as usize], n)?;
+            .get_batch_and_report(&mut self.hands[caller as usize], n)?;
         self.tell_run_free(caller, answer);
         Ok(answer)
     }

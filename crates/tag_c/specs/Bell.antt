@@ -3,6 +3,8 @@ use Rattle.std.specs.Prelude.{if◌then◌else◌, ◌*◌, ◌+◌, ◌≡◌, 
 use Rattle.tag_c.specs.Uses.{agent_of, Bool, ByBell, Changes, false, hand_of, IsSome, layout_of, max, nat_eq, Ordinary, OtherWait, pos, SameTags, standing_of, Tags, true, Waiting, waits_of, words, ℕ, ℤ}
 use Rattle.tag_bell.specs.declared.told.Told.{Told}
 use Rattle.tag_bell.specs.declared.told.TheConstants.{SLEEPERS, LISTENERS}
+use Rattle.tag_bell.specs.declared.waiting.Turn.{Turn}
+use Rattle.tag_bell.specs.declared.waiting.Turn.TheVariants.{Next, Same}
 use Rattle.tag_queue.specs.declared.agent.Agent.{Agent}
 use Rattle.tag_queue.specs.Agents.{number_of}
 use Rattle.tag_queue.specs.Bell as queue
@@ -17,6 +19,10 @@ use Rattle.tag_c.specs.Holders.{Holder, Either, IsUnchanged}
 -- the list of those that learn by other means that they were told, or of those that sleep
 abbrev pub list_of : ℕ → ℕ
 list_of listens = if nat_eq listens 0 then SLEEPERS else LISTENERS
+
+-- the turn that a hand had, or the next one
+abbrev pub turn_of : ℕ → Turn
+turn_of again = if nat_eq again 0 then Next else Same
 
 -- 1 for yes, and 0 for no
 abbrev pub code_of_answer : Bool → ℤ

@@ -2,7 +2,7 @@
 //! whoever they say was told is theirs to wake.
 ghost use Rattle.std.specs.Prelude.{◌≡◌, ◌<◌};
 ghost use Rattle.tag_core.specs.declared.bell.TheConstants.{LISTS};
-ghost use Rattle.tag_c.specs.Bell.{list_of, code_of_answer, told_of, DoesListSelf, DoesGetUp, DoesSeeTo, DoesSeeToAll, Answers, SaysNumber};
+ghost use Rattle.tag_c.specs.Bell.{list_of, turn_of, code_of_answer, told_of, DoesListSelf, DoesGetUp, DoesSeeTo, DoesSeeToAll, Answers, SaysNumber};
 ghost use Rattle.tag_c.specs.Calls.{CallsBy};
 ghost use Rattle.tag_c.specs.Codes.{IsRefusal};
 
@@ -12,7 +12,7 @@ use crate::codes::done_code;
 use crate::handle::Handle;
 use crate::member::Member;
 use crate::status::fault_code;
-use tag_bell::{LISTENERS, SLEEPERS, Told};
+use tag_bell::{LISTENERS, SLEEPERS, Told, Turn};
 use tag_sets::{Count, Numbered, TagFault};
 
 /// The hands that a call told, a bit for the number of each: 1 is told.
@@ -44,6 +44,14 @@ fn list_of(listens: u32) -> u32
     if listens == 0 { SLEEPERS } else { LISTENERS }
 }
 
+/// Returns the turn that the hand had, or the next one if `again` is 0.
+#[inline]
+fn turn_of(again: u32) -> Turn
+    ensures { result ≡ turn_of again }
+{
+    if again == 0 { Turn::Next } else { Turn::Same }
+}
+
 /// Returns 1 for yes, and 0 for no.
 #[inline]
 fn answer_code(answer: bool) -> i32
@@ -54,14 +62,9 @@ fn answer_code(answer: bool) -> i32
 
 /// Calls of those who wait, and of those who see to them.
 trait BellCalls: AnyHand {
-    /// Lists the hand among those that wait, with the next turn. It refuses one that is in a wait group, and one whose tags
-    /// were opened for waits in groups.
-    fn list_self(&mut self, list: u32) -> i32
-        requires { list < LISTS }
-        ensures { Self.changes (DoesListSelf list result) self.old self.new };
-
-    /// Lists the hand as `list_self` does, with the turn that it had.
-    fn list_again(&mut self, list: u32) -> i32
+    /// Lists the hand among those that wait. It refuses one that is in a wait group, and one whose tags were opened for waits
+    /// in groups.
+    fn list_self(&mut self, list: u32, turn: Turn) -> i32
         requires { list < LISTS }
         ensures { Self.changes (DoesListSelf list result) self.old self.new };
 
@@ -90,19 +93,11 @@ trait BellCalls: AnyHand {
 
 impl BellCalls for Member {
     #[inline(always)]
-    fn list_self(&mut self, list: u32) -> i32 {
+    fn list_self(&mut self, list: u32, turn: Turn) -> i32 {
         if self.hand.is_waiting() {
             return fault_code(TagFault::Waiting);
         }
-        done_code(self.shared.tags.list_self(&mut self.hand, list))
-    }
-
-    #[inline(always)]
-    fn list_again(&mut self, list: u32) -> i32 {
-        if self.hand.is_waiting() {
-            return fault_code(TagFault::Waiting);
-        }
-        done_code(self.shared.tags.list_again(&mut self.hand, list))
+        done_code(self.shared.tags.list_self(&mut self.hand, list, turn))
     }
 
     #[inline(always)]
@@ -135,19 +130,11 @@ impl BellCalls for Member {
 
 impl BellCalls for CachedMember {
     #[inline(always)]
-    fn list_self(&mut self, list: u32) -> i32 {
+    fn list_self(&mut self, list: u32, turn: Turn) -> i32 {
         if self.cache.is_waiting() {
             return fault_code(TagFault::Waiting);
         }
-        done_code(self.cache.list_self(&self.shared.tags, list))
-    }
-
-    #[inline(always)]
-    fn list_again(&mut self, list: u32) -> i32 {
-        if self.cache.is_waiting() {
-            return fault_code(TagFault::Waiting);
-        }
-        done_code(self.cache.list_again(&self.shared.tags, list))
+        done_code(self.cache.list_self(&self.shared.tags, list, turn))
     }
 
     #[inline(always)]
@@ -180,19 +167,12 @@ impl BellCalls for CachedMember {
 }
 
 #[unsafe(no_mangle)]
-pub extern "C" fn tags_list_self(hand: &mut Handle, listens: u32) -> i32
+pub extern "C" fn tags_list_self(hand: &mut Handle, listens: u32, again: u32) -> i32
     ensures { CallsBy (DoesListSelf (list_of listens) result) result hand.old.object.value hand.new.object.value }
 {
     let list = list_of(listens);
-    on_hand!(hand.list_self(list))
-}
-
-#[unsafe(no_mangle)]
-pub extern "C" fn tags_list_again(hand: &mut Handle, listens: u32) -> i32
-    ensures { CallsBy (DoesListSelf (list_of listens) result) result hand.old.object.value hand.new.object.value }
-{
-    let list = list_of(listens);
-    on_hand!(hand.list_again(list))
+    let turn = turn_of(again);
+    on_hand!(hand.list_self(list, turn))
 }
 
 #[unsafe(no_mangle)]

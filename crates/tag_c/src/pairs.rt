@@ -31,7 +31,7 @@ trait PairCalls: AnyHand {
 impl PairCalls for Member {
     #[inline(always)]
     fn get_write(&mut self, value: u64, left: &mut u64) -> i32 {
-        let found = self.shared.tags.get_freed(&mut self.hand);
+        let found = self.shared.tags.get_and_report(&mut self.hand);
         match tell_left(found, left) {
             Ok(Some(tag)) => {
                 // The hand has just won the tag, so the write is not refused.
@@ -57,7 +57,7 @@ impl PairCalls for Member {
 impl PairCalls for CachedMember {
     #[inline(never)]
     fn get_write(&mut self, value: u64, left: &mut u64) -> i32 {
-        let found = self.cache.get_freed(&self.shared.tags);
+        let found = self.cache.get_and_report(&self.shared.tags);
         match tell_left(found, left) {
             Ok(Some(tag)) => {
                 // The hand has just won the tag, so the write is not refused.

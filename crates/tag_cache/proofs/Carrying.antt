@@ -1,6 +1,7 @@
 -- What a change of the hand, or of the kept tags, is for the user of a cache.
 use Rattle.tag_cache.proofs.Uses.{ap, AreOwn, Bool, Cache, count_ones, Err, false, false≢true, Hand, HoldsLess, HoldsMore, HoldsSame, IfErr, IfOk, inl, inr, IsIn, IsKept, IsKnown, IsLeftWith, IsOk, IsTrue, KeepsNone, KeepsSame, MOST_REUSED, NoSuchTag, NotPosted, Ok, OnErr, OnOk, refl, Result}
 use Rattle.tag_cache.proofs.Uses.{SameHand, SameTerms, subst, sym, TagFault, Tags, true, WhileHolding, Writes, ℕ, ⊎_elim, ◌∙◌}
+use Rattle.tag_model.proofs.HoldingFacts.{same_itself}
 use Rattle.std.specs.Prelude.{◌+◌, ◌^◌, ◌<◌, ◌↔◌, ◌≡◌, ◌≢◌, ◌≤◌}
 use mathlib.Core.Bool.{not}
 use Rattle.tag_sets.specs.Hands as hands
@@ -94,7 +95,7 @@ module _ {R : Type 0} where
 
   unchanged_hand : (a b : Hand R) → b ≡ a → hand_holding.HoldsSame a b
   unchanged_hand a b e = subst (λ (x : Hand R). hand_holding.HoldsSame a x) (sym e)
-      (record { kept = λ tag h. (h, refl); none_else = λ tag h. h })
+      (same_itself a)
 
   module _ (old new : Cache R) (keeps : KeepsSame old new) where
     kept_before : (tag : ℕ) → IsKept new tag → IsKept old tag
@@ -150,21 +151,6 @@ module _ {R : Type 0} where
         → IfOk r (λ value. hand_slots.Reads tag value old.hand new.hand) → OnOk r (HoldsSame old new)
     same_on tag (Ok v) p = same p.same
     same_on tag (Err e) p = tt
-
-  -- one change after another
-  pub same_then_less : (a b c : Cache R) (named : ℕ → Type 0) → HoldsSame a b → HoldsLess named b c
-      → HoldsLess named a c
-  same_then_less a b c named s l = record {
-    gone = l.gone;
-    kept = λ tag n h. let x = s.kept tag h in let y = l.kept tag n x.0 in (y.0, y.1 ∙ x.1);
-    none_else = λ tag h. s.none_else tag (l.none_else tag h);
-  }
-
-  pub same_then_same : (a b c : Cache R) → HoldsSame a b → HoldsSame b c → HoldsSame a c
-  same_then_same a b c s t = record {
-    kept = λ tag h. let x = s.kept tag h in let y = t.kept tag x.0 in (y.0, y.1 ∙ x.1);
-    none_else = λ tag h. s.none_else tag (t.none_else tag h);
-  }
 
   -- the hand of a cache that keeps nothing holds what the user holds
   pub left_with : (old new : Cache R) → HoldsSame old new → KeepsNone new → IsLeftWith old new.hand

@@ -104,9 +104,9 @@ module _ {R : Type 0} where
     refused = err;
   }
 
-  pub get_freed_call : (tags : Tags R) (a b : Hand R) (r : Result (Found ℕ) TagFault)
+  pub get_and_report_call : (tags : Tags R) (a b : Hand R) (r : Result (Found ℕ) TagFault)
       → DoesGet tags r a b → Gain r (λ found. IsAnswer found.answer) (λ found. answered found.answer) a b
-  get_freed_call tags a b r does = record {
+  get_and_report_call tags a b r does = record {
     gains = IfOk-weaker r _ _ (λ found. plain_gains tags found.answer a b) does.gets;
     refused = does.refusals.same;
   }
@@ -120,10 +120,10 @@ module _ {R : Type 0} where
     refused = err;
   }
 
-  pub shallow_freed_call : (tags : Tags R) (depth : ℕ) (a b : Hand R) (r : Result (Found ℕ) TagFault)
+  pub shallow_report_call : (tags : Tags R) (depth : ℕ) (a b : Hand R) (r : Result (Found ℕ) TagFault)
       → DoesGetShallow depth tags r a b
       → Gain r (λ found. IsAnswer found.answer) (λ found. answered found.answer) a b
-  shallow_freed_call tags depth a b r does = record {
+  shallow_report_call tags depth a b r does = record {
     gains = IfOk-weaker r _ _ (λ found. shallow_gains tags depth found.answer a b) does.gets;
     refused = does.refusals.same;
   }
@@ -152,21 +152,21 @@ module _ {R : Type 0} where
     batch_call true (Ok (Some won)) refusals none gets = let e = (none refusals.passes.0 refl).0 in cc
     batch_call true (Err e) refusals none gets = record { gains = tt; refused = refusals.same }
 
-    pub batch_freed_call : (robin : Bool) (r : Result (Found (ℕ × ℕ)) TagFault)
+    pub batch_report_call : (robin : Bool) (r : Result (Found (ℕ × ℕ)) TagFault)
         → RefusesBy ((counts, fault) ∷ later) (b ≡ a) r
         → (counts → IsTrue robin → IsOkAnd r (λ found. found.answer ≡ None) × (b ≡ a))
         → (robin ≡ false → IfOk r (λ found. hand_gets.GetsBatch tags n found.answer a b))
         → Gain r (λ found. IsInRun found.answer) (λ found. answered_run found.answer) a b
-    batch_freed_call false r refusals none gets = record {
+    batch_report_call false r refusals none gets = record {
       gains = IfOk-weaker r _ _ (λ found. batch_gains tags n found.answer a b) (gets refl);
       refused = refusals.same;
     }
-    batch_freed_call true (Ok found) refusals none gets = let same = none refusals.passes.0 refl in record {
+    batch_report_call true (Ok found) refusals none gets = let same = none refusals.passes.0 refl in record {
       gains = subst (λ (answer : Option (ℕ × ℕ)). Gains (IsInRun answer) (answered_run answer) a b) (sym same.0)
           (gains_none a b same.1);
       refused = tt;
     }
-    batch_freed_call true (Err e) refusals none gets = record { gains = tt; refused = refusals.same }
+    batch_report_call true (Err e) refusals none gets = record { gains = tt; refused = refusals.same }
 
   -- the hand still has what it had
   pub gained_still : {A : Type 0} {r : Result A TagFault} {named : A → ℕ → Type 0} {count : A → ℕ} {a b : Hand R}

@@ -1,5 +1,5 @@
 -- What a get gives the user where nothing is kept.
-use Rattle.tag_cache.proofs.Uses.{answered, Cache, Found, Gets, GetsAndLooks, GetsBy, GetsFreed, Hand, IfOk, IfOk-weaker, inr, IsAnswer, IsOrdinaryTag, KeepsNone, KeepsSame, Option, Result, TagFault, Tags, Tallies, ℕ}
+use Rattle.tag_cache.proofs.Uses.{answered, Cache, Found, Gets, GetsAndLooks, GetsAndReports, GetsBy, Hand, IfOk, IfOk-weaker, inr, IsAnswer, IsOrdinaryTag, KeepsNone, KeepsSame, Option, Result, TagFault, Tags, Tallies, ℕ}
 use Rattle.tag_sets.specs.Gets as hand_gets
 use Rattle.tag_cache.proofs.Carrying.{more}
 use Rattle.tag_cache.proofs.Gaining.{Gains, plain_gains, get_gains}
@@ -31,7 +31,7 @@ module _ {R : Type 0} (tags : Tags R) (old new : Cache R) (keeps : KeepsSame old
 
   pub gets_freed_after : (r : Result (Found ℕ) TagFault)
       → IfOk r (λ found. hand_gets.Gets tags found.answer old.hand new.hand) → record {
-        gets : IfOk r (λ found. GetsFreed tags found.answer old new);
+        gets : IfOk r (λ found. GetsAndReports tags found.answer old new);
         tally : IfOk r (λ found. Tallies (answered found.answer) 0 old new);
       }
   gets_freed_after r found = record {

@@ -2,21 +2,13 @@
 use Rattle.std.specs.Prelude.{◌<◌, ◌≡◌, ◌≤◌}
 use Rattle.tag_cache.proofs.Uses.{ap, arith, back_in_both, Cache, GiveBack, GiveBackAll, GivesAlone, GivesKept, Goes, GoesBy, GoesOrdinary, Hand, HoldsLess, Keep, KeepInstead, KeepsNone, LooksInGroups, reserved_of, subst, sym, Tags, Tallies, Way, won_in_both, ℕ, ⊎_elim, ◌∙◌}
 use Rattle.tag_sets.specs.Holding as hand_holding
+use Rattle.tag_model.proofs.HoldingFacts.{same_then_less}
 use Rattle.tag_cache.proofs.Carrying.{less}
 use Rattle.tag_cache.proofs.Reusing.{keeping, no_count}
 use Rattle.tag_cache.proofs.Tallying.{Moves, stays_moves}
 use Rattle.tag_cache.proofs.Giving.{kept_less, kept_moves, gives_moves}
 
 module _ {R : Type 0} (tags : Tags R) where
-  -- the hand looked, and then gave the tag back
-  pub looks_less : (a b c : Hand R) (named : ℕ → Type 0) → hand_holding.HoldsSame a b → hand_holding.HoldsLess named b c
-      → hand_holding.HoldsLess named a c
-  looks_less a b c named s l = record {
-    gone = l.gone;
-    kept = λ tag n h. let x = s.kept tag h in let y = l.kept tag n x.0 in (y.0, y.1 ∙ x.1);
-    none_else = λ tag h. s.none_else tag (l.none_else tag h);
-  }
-
   -- the kept tags went back and then named ones, and nothing is kept any more
   pub both_less : (woken : ℕ) (old new : Cache R) (between flushed : Hand R) (named : ℕ → Type 0)
       → hand_holding.HoldsSame old.hand between → GivesKept tags woken old between flushed
@@ -49,7 +41,7 @@ module _ {R : Type 0} (tags : Tags R) where
         );
       }
   way_less GiveBack tag woken old new looked s g = less old new g.kept (λ other. other ≡ tag)
-      (looks_less old.hand looked new.hand (λ other. other ≡ tag) s g.gives.clears.less)
+      (same_then_less s g.gives.clears.less)
   way_less GiveBackAll tag woken old new looked s g = both_less g.gives.sooner old new looked g.gives.between
       (λ other. other ≡ tag) s g.gives.kept g.gives.gives.clears.less g.none
 

@@ -5,7 +5,8 @@ use Rattle.tag_cache.proofs.Uses.{SameFields, subst, sym, Tags, Tallies, ℕ, �
 use Rattle.tag_sets.specs.Batches as hand_batches
 use Rattle.tag_cache.proofs.Carrying.{less, same, same_fields, keeps_twice}
 use Rattle.tag_cache.proofs.Giving.{kept_moves, list_moves}
-use Rattle.tag_cache.proofs.Going.{looks_less, both_less}
+use Rattle.tag_cache.proofs.Going.{both_less}
+use Rattle.tag_model.proofs.HoldingFacts.{same_then_less}
 use Rattle.tag_cache.proofs.Looking.{kept_same, same_known}
 use Rattle.tag_cache.proofs.Reusing.{no_count}
 use Rattle.tag_cache.proofs.Tallying.{stays_moves}
@@ -110,7 +111,7 @@ module _ {R : Type 0} (tags : Tags R) where
       → HoldsLess (Contains list) old new
   list_less list woken old new g = ⊎_elim
       (λ (a : ListGoesAlone tags list woken old new). less old new a.kept (Contains list)
-      (looks_less tags old.hand a.between new.hand (Contains list) a.looked.stays.same a.gives.gives.less))
+      (same_then_less a.looked.stays.same a.gives.gives.less))
       (λ (w : ListGoesWithKept tags list woken old new). both_less tags w.sooner old new w.between w.flushed
       (Contains list) w.looked.stays.same w.kept w.gives.gives.less w.none) g
 

@@ -1,6 +1,6 @@
 -- What becomes of a tag after a look at the active count, which changes the hand alone.
 use Rattle.std.specs.Prelude.{◌↔◌, ◌≡◌, ◌≤◌}
-use Rattle.tag_cache.proofs.Uses.{ap, arith, Cache, CallsFor, CanBeKept, count_of, GiveBack, GiveBackAll, GivesKept, GivesList, GoesBy, GoesOrdinary, Hand, HasNoPlace, Holds, HoldsLess, HoldsSame, inl, inr, IsIn, IsKnown, IsLast, Keep, KeepInstead, KeepsNone, KeepsSame, kept_tags, KnowsLess}
+use Rattle.tag_cache.proofs.Uses.{ap, arith, Cache, CallsFor, CanBeKept, count_of, GiveBack, GiveBackAll, GivesKept, GivesList, GoesBy, GoesOrdinary, Hand, HasNoPlace, Holds, inl, inr, IsIn, IsKnown, IsLast, Keep, KeepInstead, KeepsNone, KeepsSame, kept_tags, KnowsLess}
 use Rattle.tag_cache.proofs.Uses.{LeavesWindow, List, LooksInGroups, MayStay, SameFields, SameWindow, subst, sym, Tags, tags_in, Way, ℕ, ⊎_elim, ◌∙◌}
 use Rattle.tag_cache.proofs.Carrying.{same, same_fields, keeps_twice, terms_twice}
 use Rattle.tag_cache.proofs.Moving.{also_from, can_also, only_from}
@@ -41,15 +41,6 @@ same_then_knows_less tag a b c s l = λ other. (
 pub knows_less_then_same : {R : Type 0} (tag : ℕ) (a b c : Cache R) → KnowsLess tag a b
     → ((other : ℕ) → IsKnown c other ↔ IsKnown b other) → KnowsLess tag a c
 knows_less_then_same tag a b c l s = λ other. ((λ i. (l other).0 ((s other).0 i)), (λ x. (s other).1 ((l other).1 x)))
-
--- the user holds less, and nothing changed since
-pub holds_less_then_same : {R : Type 0} (named : ℕ → Type 0) (a b c : Cache R) → HoldsLess named a b → HoldsSame b c
-    → HoldsLess named a c
-holds_less_then_same named a b c l s = record {
-  gone = λ tag n h. l.gone tag n (s.none_else tag h);
-  kept = λ tag n h. let x = l.kept tag n h in let y = s.kept tag x.0 in (y.0, y.1 ∙ x.1);
-  none_else = λ tag h. l.none_else tag (s.none_else tag h);
-}
 
 -- a tag that was not among those known
 pub unknown_less : {R : Type 0} (tag : ℕ) (old new : Cache R) → ¬ (IsKnown old tag)

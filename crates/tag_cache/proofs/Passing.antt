@@ -4,7 +4,8 @@ use Rattle.tag_cache.proofs.Uses.{Agent, ap, Cache, Changes, Err, Forgets, Grant
 use Rattle.tag_cache.proofs.Uses.{SameTerms, SameWindow, split_of, subst, sym, TagFault, Tags, Tallies, Waiter, waiter_of, ℕ}
 use Rattle.tag_queue.specs.Agents as queue
 use Rattle.tag_queue.specs.Slots as queue_slots
-use Rattle.tag_cache.proofs.Carrying.{keeps_twice, less, none_after, same_then_less, same_user, terms_twice}
+use Rattle.tag_model.proofs.HoldingFacts.{same_then_less}
+use Rattle.tag_cache.proofs.Carrying.{keeps_twice, less, none_after, same_user, terms_twice}
 use Rattle.tag_cache.proofs.Looking.{knows_less_then_same, same_then_knows_less, unknown_less}
 use Rattle.tag_cache.proofs.Reusing.{last_unknown}
 use Rattle.tag_cache.proofs.Tallying.{Moves, moves_in, moves_tallies, unchanged_tallies}
@@ -66,7 +67,7 @@ module _ {R : Type 0} (tag : ℕ) where
   pub passes_last : (old mid new : Cache R) → IsLast tag old → HoldsSame old mid → KeepsNone mid → SameTerms old mid
       → SameWindow old mid → PassesAlone tag mid new → Passes tag old new
   passes_last old mid new last same none terms window a = record {
-    less = same_then_less old mid new (λ other. other ≡ tag) same a.less;
+    less = same_then_less same a.less;
     posts = λ n. absurd (n last);
     kept = λ n. absurd (n last);
     last = λ l. none_after mid new none a.kept;
@@ -78,7 +79,7 @@ module _ {R : Type 0} (tag : ℕ) where
   pub forgotten_passes : (old mid new : Cache R) → Forgets tag old mid → KeepsSame mid new → SameWindow mid new
       → Posts tag mid.hand new.hand → PassesAlone tag old new
   forgotten_passes old mid new f keeps window p = record {
-    less = same_then_less old mid new (λ other. other ≡ tag) (same_user old mid f.same)
+    less = same_then_less (same_user old mid f.same)
         (less mid new keeps (λ other. other ≡ tag) p.less);
     posts = subst (λ (h : Hand R). Posts tag h new.hand) f.same.hand p;
     kept = keeps_twice old mid new f.same.kept keeps;

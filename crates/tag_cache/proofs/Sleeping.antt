@@ -1,9 +1,10 @@
 -- What a get that sleeps gives the user of a cache, and what waking those whom the hand told leaves as it was.
 use Rattle.std.specs.Prelude.{◌≡◌}
-use Rattle.tag_cache.proofs.Uses.{Agent, arith, blocking_checks, Cache, Caller, Changes, count_of, DoesSeeTo, Err, FailsFirst, FindsNobody, GetsSleeping, Hand, IfOk, inl, inr, IsHandOf, IsUnchanged, KeepsAll, KeepsNone, KeepsSame, Layout, layout_of, Learns, max, nobody, None, Ok, Option, Ordinary}
-use Rattle.tag_cache.proofs.Uses.{refl, RefusesBy, Result, Reuses, SameTags, Some, subst, suc, sym, TagFault, Tags, Tallies, TellsWithKept, Told, told_by, Waiter, waiter_of, Waits, Woken, won_by, zero, ℕ, ⊎_elim, ◌∙◌}
+use Rattle.tag_cache.proofs.Uses.{Agent, arith, blocking_checks, Cache, Changes, count_of, DoesSeeTo, Err, FailsFirst, FindsNobody, GetsSleeping, Hand, IfOk, inl, inr, IsHandOf, IsUnchanged, KeepsNone, KeepsSame, Layout, layout_of, Learns, max, nobody, None, Ok, Option, Ordinary}
+use Rattle.tag_cache.proofs.Uses.{RefusesBy, Result, Reuses, SameTags, Some, subst, suc, sym, TagFault, Tags, Tallies, TellsWithKept, Told, told_by, Waiter, waiter_of, Waits, Woken, won_by, zero, ℕ, ⊎_elim, ◌∙◌}
 use Rattle.tag_bell.specs.Callers as callers
 use Rattle.tag_bell.proofs.StillThere.{owes_still, waits_still, keeps_still, tells_still, few_still}
+use Rattle.tag_model.proofs.HoldingFacts.{same_itself, same_then_same}
 use Rattle.tag_queue.specs.Agents as queue
 use Rattle.tag_queue.specs.Bell as queue_bell
 use Rattle.tag_queue.specs.Blocking.{GetsPlainAndLooks}
@@ -13,7 +14,7 @@ use Rattle.tag_sets.specs.Hands.{caller_of}
 use Rattle.tag_sets.specs.Refusals as of_hand
 use Rattle.tag_sets.specs.Sleeping as hands
 use Rattle.tag_sets.proofs.Lifting as lifting
-use Rattle.tag_cache.proofs.Carrying.{more, none_after, same_then_same, terms_twice}
+use Rattle.tag_cache.proofs.Carrying.{more, none_after, terms_twice}
 use Rattle.tag_cache.proofs.Looking.{window_twice}
 use Rattle.tag_cache.proofs.Reusing.{reuse_ordinary, taken}
 use Rattle.tag_cache.proofs.Ringing.{adds_rests}
@@ -115,13 +116,10 @@ module _ {R : Type 0} (tags : Tags R) (old new : Cache R) where
 
 -- to wake those told makes no step
 module _ {R : Type 0} (a b : Hand R) (unchanged : Changes Ordinary queue.IsUnchanged a b) where
-  keeps_itself : (c : Caller R) → KeepsAll c c
-  keeps_itself c = record { kept = λ tag has. (has, refl); none_else = λ tag has. has }
-
   pub wakes_rests : Rests a b
   wakes_rests = record {
     held = lifting.same a b Ordinary unchanged.other unchanged.split
-        (keeps_still (caller_of a) (caller_of b) unchanged.changed.caller (caller_of a) (keeps_itself (caller_of a)));
+        (keeps_still (caller_of a) (caller_of b) unchanged.changed.caller (caller_of a) (same_itself (caller_of a)));
     moves = moves_in Ordinary 0 0 _ a b (λ c d (u : queue.IsUnchanged c d). record_rests c d u.caller.known) unchanged;
   }
 
@@ -166,7 +164,7 @@ module _ {R : Type 0} (tags : Tags R) (old mid new : Cache R) (told : Told) {Ans
         (sees.done list low);
     tells = subst (λ (w : Waiter). Tells answer (waiter_of old.hand) w) (sym unchanged.changed.same_else.1.1)
         sees.tells;
-    same = same_then_same old mid new sees.same rest.held;
+    same = same_then_same sees.same rest.held;
     tally = tallies_on 0 0 old mid new sees.tally rest.tally;
     terms = terms_twice sees.terms rest.kept.terms;
     reused = rest.kept.reused ∙ sees.reused;

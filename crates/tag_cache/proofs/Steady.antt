@@ -1,7 +1,7 @@
 -- What a call of the hand leaves as it is that neither wins tags nor gives any back.
 use Rattle.std.specs.Prelude.{◌+◌, ◌∷◌, ◌≡◌}
 use Rattle.tag_cache.proofs.Uses.{[], Agent, ap, AreOwn, arith, Cache, Err, Hand, IfNone, IfOk, IfSome, IsIn, KeepsSame, Kind, Layout, layout_of, List, Look, LookAside, LooksAfter, None, Ok, OnErr, Option, Ordinary, Record, record_of, refl, Reserved, Result, SameTags, SameWindow, Some, subst, suc}
-use Rattle.tag_cache.proofs.Uses.{sym, TagFault, Tags, Word, ℕ, ◌∙◌}
+use Rattle.tag_cache.proofs.Uses.{sym, TagFault, Tags, Word, ℕ}
 use Rattle.tag_core.specs.Records.{record_after}
 use Rattle.tag_search.specs.Shared.{record_after_all}
 use Rattle.wake_book.specs.declared.waiting.Left.{Left}
@@ -9,6 +9,7 @@ use Rattle.tag_queue.specs.Agents as queue
 use Rattle.tag_queue.specs.Freed as queue_freed
 use Rattle.tag_queue.specs.Waits as queue_waits
 use Rattle.tag_sets.specs.Hands as hands
+use Rattle.tag_model.proofs.HoldingFacts.{same_itself, same_then_same}
 use Rattle.tag_sets.specs.Holding.{HoldsSame}
 use Rattle.tag_sets.specs.Looks.{looks_from, MakesLooks}
 use Rattle.tag_sets.specs.Shows.{LooksAround}
@@ -28,16 +29,13 @@ module _ {R : Type 0} where
   rests_then : (a b c : Hand R) → Rests a b → Rests b c → Rests a c
   rests_then a b c r s = let rw = r.moves.won_is in let rb = r.moves.back_is in let sw = s.moves.won_is in
       let sb = s.moves.back_is in record {
-        held = record {
-          kept = λ tag h. let x = r.held.kept tag h in let y = s.held.kept tag x.0 in (y.0, y.1 ∙ x.1);
-          none_else = λ tag h. r.held.none_else tag (s.held.none_else tag h);
-        };
+        held = same_then_same r.held s.held;
         moves = record { won_is = omega arith; back_is = omega arith };
       }
 
   pub rests_unchanged : (a b : Hand R) → b ≡ a → Rests a b
   rests_unchanged a b e = subst (λ (x : Hand R). Rests a x) (sym e) (record {
-    held = record { kept = λ tag h. (h, refl); none_else = λ tag h. h };
+    held = same_itself a;
     moves = record { won_is = omega arith; back_is = omega arith };
   })
 

@@ -1,7 +1,7 @@
 -- Telling whom a call granted a wakeup makes no step, so what the call did is what both did.
 use Rattle.std.specs.Prelude.{◌-◌, ◌^◌, ◌∷◌, ◌≡◌, ◌≤◌}
 use Rattle.tag_cache.proofs.Uses.{active_at, Adds, Agent, ap, arith, batch_of, ByBell, Cache, Caller, caller_of, cap_of, Changes, GivesKept, GivesList, GivesOne, group_steps, GroupStep, Hand, Hint, hint_of, InGroups, inl, inr, Kind, kind_of, Layout, layout_of, length, List, MakesNoStep}
-use Rattle.tag_cache.proofs.Uses.{number_in_set, Ordinary, ordinary_above, place_of, Put, record_of, Releases, Reserved, reserved_of, sighted_beside, sighted_steps, sighting_of, slice_index, split_of, StandsAsBefore, subst, sym, Tags, teller_of, Waits, Word, word_of, ℕ, ⊎_elim, ◌∙◌}
+use Rattle.tag_cache.proofs.Uses.{number_in_set, Ordinary, ordinary_above, place_of, Put, record_of, Reserved, reserved_of, sighted_beside, sighted_steps, sighting_of, slice_index, split_of, StandsAsBefore, subst, sym, Tags, teller_of, Waits, Word, word_of, ℕ, ⊎_elim, ◌∙◌}
 use Rattle.tag_search.specs.Follows.{ClearFollows}
 use Rattle.wake_book.specs.declared.book.Teller.{Teller}
 use Rattle.wake_book.specs.declared.steps.GroupStep.TheVariants.{Look}
@@ -12,6 +12,8 @@ use Rattle.tag_queue.specs.Agents.{waiter_of, waits_of}
 use Rattle.tag_queue.specs.Batches as queue_batches
 use Rattle.tag_queue.specs.Clears as queue_clears
 use Rattle.tag_queue.specs.Waits as queue_waits
+use Rattle.tag_core.specs.Holding as callers
+use Rattle.tag_model.proofs.HoldingFacts.{less_then_same}
 use Rattle.tag_sets.specs.Clears as hand_clears
 use Rattle.tag_sets.specs.Holding as hand_holding
 use Rattle.tag_sets.specs.Waits as hand_waits
@@ -23,7 +25,7 @@ module _ {R : Type 0} (a b c : Agent R) (caller : caller_of c ≡ caller_of b) (
     found = p.found;
     put = subst (λ (x : Caller R). Adds (Word (Put (word_of l tag) (2 ^ place_of l tag) p.found)) (caller_of a) x)
         (sym caller) p.put;
-    less = subst (λ (x : Caller R). Releases (λ other. other ≡ tag) (caller_of a) x) (sym caller) p.less;
+    less = subst (λ (x : Caller R). callers.HoldsLess (λ other. other ≡ tag) (caller_of a) x) (sym caller) p.less;
     hint = subst (λ (x : Hint). ClearFollows tag (hint_of a) x) (sym hint) p.hint;
   }
 
@@ -87,11 +89,7 @@ module _ {R : Type 0} (a b c : Agent R) (caller : caller_of c ≡ caller_of b) (
 
 module _ {R : Type 0} (tags : Tags R) (a b c : Hand R) (r : MakesNoStep b c) where
   less_still : (named : ℕ → Type 0) → hand_holding.HoldsLess named a b → hand_holding.HoldsLess named a c
-  less_still named l = record {
-    gone = λ tag n h. l.gone tag n (r.stays.same.none_else tag h);
-    kept = λ tag n h. let x = l.kept tag n h in let y = r.stays.same.kept tag x.0 in (y.0, y.1 ∙ x.1);
-    none_else = λ tag h. l.none_else tag (r.stays.same.none_else tag h);
-  }
+  less_still named l = less_then_same l r.stays.same
 
   -- a change in the ordinary set
   set_still : (change : Agent R → Agent R → Type 0) → (change a.ordinary b.ordinary → change a.ordinary c.ordinary)

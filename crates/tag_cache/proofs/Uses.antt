@@ -17,7 +17,6 @@ pub use Rattle.tag_search.specs.Gains.{count_of_run, count_of as won_by}
 pub use Rattle.tag_search.specs.declared.found.Found.{Found}
 pub use Rattle.tag_search.specs.declared.hint.Hint.{Hint}
 pub use Rattle.tag_core.specs.Callers.{Adds, record_of}
-pub use Rattle.tag_core.specs.Holdings.{KeepsAll, Releases}
 pub use Rattle.tag_core.specs.declared.caller.Caller.{Caller}
 pub use Rattle.tag_core.specs.declared.record.Record.{Record}
 pub use Rattle.tag_core.specs.declared.step.Step.TheVariants.{Word}
@@ -58,7 +57,7 @@ pub use Rattle.tag_cache.specs.Bell.{DoesSeeTo, FindsNobody, LooksForWaiters, Te
 pub use Rattle.tag_cache.specs.Caches.{CanBeKept, count_of, HasNoPlace, Holds, IsCacheOf, IsFixed, IsKept, IsKnown, IsLast, IsWithin, keeping_of, KeepsNone, KeepsWithCare, kept_tags, LeavesWindow, reused_of}
 pub use Rattle.tag_cache.specs.Changes.{Forgets, IsUnchanged, KeepsAlso, KeepsOnly, KeepsSame, KnowsLess, KnowsNoneOf, Learns, Reuses, SameFields, SameHand, SameTerms, SameWindow, TakesLeast}
 pub use Rattle.tag_cache.specs.Clears.{CallsFor, GivesAlone, GivesKept, GivesList, GivesOne, GivesWith, Goes, GoesBy, GoesOrdinary, MayStay}
-pub use Rattle.tag_cache.specs.Gets.{Gets, GetsBy, GetsFreed, WaitsFor}
+pub use Rattle.tag_cache.specs.Gets.{Gets, GetsAndReports, GetsBy, WaitsFor}
 pub use Rattle.tag_cache.specs.Holding.{HoldsLess, HoldsMore, HoldsSame, IsLeftWith, Writes}
 pub use Rattle.tag_cache.specs.Refusals.{blocking_checks, tag_checks}
 pub use Rattle.tag_cache.specs.Rings.{GrantsNone, MakesNoStep, TellsSince}

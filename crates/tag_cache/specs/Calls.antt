@@ -12,7 +12,7 @@ use Rattle.tag_cache.specs.Batches.{ListGoes, answered_run}
 use Rattle.tag_cache.specs.Caches.{KeepsNone, IsLast, LeavesWindow, hand_of, slot_of, reused_of}
 use Rattle.tag_cache.specs.Changes.{IsUnchanged, KeepsSame, SameTerms, SameWindow, KnowsLess, KnowsNoneOf}
 use Rattle.tag_cache.specs.Clears.{Goes, GivesKept}
-use Rattle.tag_cache.specs.Gets.{GetsFreed, LearnsAnswer}
+use Rattle.tag_cache.specs.Gets.{GetsAndReports, LearnsAnswer}
 use Rattle.tag_cache.specs.Holding.{HoldsLess, HoldsMore, HoldsSame, Writes}
 use Rattle.tag_cache.specs.Refusals.{get_checks, tag_checks, list_checks, mask_checks}
 use Rattle.tag_cache.specs.Same.{SameTags}
@@ -23,7 +23,7 @@ use Rattle.tag_cache.specs.Waits.{Enters}
 -- gets an ordinary tag, and tells how many its sweeps left free
 pub record DoesGet {R : Type 0} (tags : Tags R) (result : Result (Found ℕ) TagFault) (old new : Cache R) : Type 0 where
   pub refusals : RefusesBy (get_checks old) (IsUnchanged old new) result
-  pub gets : IfOk result (λ found. GetsFreed tags found.answer old new)
+  pub gets : IfOk result (λ found. GetsAndReports tags found.answer old new)
   pub left : IfOk result (λ found. found.left ≡ left_free (hand_of old) (hand_of new))
   pub knows : IfOk result (λ found. LearnsAnswer found.answer old new)
   pub tally : IfOk result (λ found. Tallies (answered found.answer) 0 old new)

@@ -33,8 +33,8 @@ abbrev pub Gets : {R : Type 0} → Tags R → Option ℕ → Cache R → Cache R
 Gets tags answer = GetsBy (GetsAndLooks (hands.Gets tags answer)) tags answer
 
 -- a get that looks for no sleeper
-abbrev pub GetsFreed : {R : Type 0} → Tags R → Option ℕ → Cache R → Cache R → Type 0
-GetsFreed tags answer = GetsBy (hands.Gets tags answer) tags answer
+abbrev pub GetsAndReports : {R : Type 0} → Tags R → Option ℕ → Cache R → Cache R → Type 0
+GetsAndReports tags answer = GetsBy (hands.Gets tags answer) tags answer
 
 -- nothing was kept, and the hand waited for the tag by rounds
 pub record FromWaiting {R : Type 0} (tags : Tags R) (tag : ℕ) (old new : Cache R) : Type 0 where

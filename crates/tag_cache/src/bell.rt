@@ -16,7 +16,7 @@ ghost use Rattle.tag_cache.specs.Same.{SameTags};
 ghost use Rattle.tag_cache.specs.Tallies.{Tallies};
 
 use crate::cache::Cache;
-use tag_bell::Told;
+use tag_bell::{Told, Turn};
 use tag_sets::{TagFault, Tags, Waking};
 
 impl<R> Cache<R> {
@@ -34,9 +34,9 @@ impl<R> Cache<R> {
 }
 
 impl<R: Copy> Cache<R> {
-    /// Lists the hand among those that wait, with the next turn, as `Tags::list_self` does. A get that finds no tag keeps
-    /// none either. `OtherWait` means that hands wait in groups.
-    pub fn list_self(&mut self, tags: &Tags<R>, list: u32) -> Result<(), TagFault>
+    /// Lists the hand among those that wait, as `Tags::list_self` does. A get that finds no tag keeps none either.
+    /// `OtherWait` means that hands wait in groups.
+    pub fn list_self(&mut self, tags: &Tags<R>, list: u32, turn: Turn) -> Result<(), TagFault>
         requires cache { IsCacheOf tags.now self.old }
         requires within { list < LISTS }
         ensures cache { IsCacheOf tags.now self.new }
@@ -44,20 +44,7 @@ impl<R: Copy> Cache<R> {
         ensures lists { OnOk result (Changes Ordinary (queue.ListsSelf list) (hand_of self.old) (hand_of self.new)) }
         ensures same { SameTags self.old self.new }
     {
-        tags.list_self(&mut self.hand, list)
-    }
-
-    /// Lists the hand with the turn that it had, as `Tags::list_again` does: for one that was told and found no tag.
-    /// It is refused as `list_self` is: `OtherWait`.
-    pub fn list_again(&mut self, tags: &Tags<R>, list: u32) -> Result<(), TagFault>
-        requires cache { IsCacheOf tags.now self.old }
-        requires within { list < LISTS }
-        ensures cache { IsCacheOf tags.now self.new }
-        ensures refusals { RefusesBy (bell_checks tags.now) (IsUnchanged self.old self.new) result }
-        ensures lists { OnOk result (Changes Ordinary (queue.ListsSelf list) (hand_of self.old) (hand_of self.new)) }
-        ensures same { SameTags self.old self.new }
-    {
-        tags.list_again(&mut self.hand, list)
+        tags.list_self(&mut self.hand, list, turn)
     }
 
     /// Ends the hand's wait, and returns whether somebody had told it, or it did not wait there, as `Tags::get_up` does.

@@ -35,7 +35,7 @@ impl<R: Copy> Cache<R> {
     }
 
     /// Looks for sleepers and rings them after a get that left this many tags free, as `Tags::look_after` does: for those
-    /// who get by `get_freed`, `get_shallow_freed` or `get_batch_freed` and wake threads by no other means.
+    /// who get by `get_and_report`, `get_shallow_and_report` or `get_batch_and_report` and wake threads by no other means.
     #[inline]
     pub fn look_after(&mut self, tags: &Tags<R>, left: u64)
         requires { IsCacheOf tags.now self.old }

@@ -1,6 +1,6 @@
 -- A seat gives back all slots that it has, and takes those of its tags after the step, in order.
 use Rattle.std.specs.Prelude.{◌+◌, ◌<◌, ◌∷◌, ◌≡◌, ◌≢◌, ◌≤◌}
-use Rattle.tag_core.proofs.Uses.{[], Act, ap, arith, Bool, carried_after, chain, cond, dite, eq-eqb, get_elem?, gives, homes_after, keeps, length, length-set, List, map, ne_eqb, none, refl, set, set_else, set_here, some, some-injective, some-ne-none, subst, suc, sym, tags_from, takes, Valid}
+use Rattle.tag_core.proofs.Uses.{[], Act, ap, arith, Bool, carried_after, chain, cond, dite, eq-eqb, get_elem?, gives, homes_after, keeps, length, length-set, List, map, ne_eqb, none, refl, set, set_else, set_here, some, some-injective, subst, suc, sym, tags_from, takes, Valid}
 use Rattle.tag_core.proofs.Uses.{value_of, zero, ℕ, ℕ_discrete, ◌∙◌}
 use mathlib.Core.Option as maybe
 

@@ -2,7 +2,7 @@
 use Rattle.std.specs.Prelude.{◌%◌, ◌+◌, ◌-◌, ◌<◌, ◌^◌, ◌∷◌, ◌≡◌, ◌≤◌, ◌⊎◌}
 use Rattle.tag_core.proofs.Uses.{Act, Allows, ap, arith, Bell, BellStep, bit_and, bit_at, bit_of, bit_or, carried_after, Carries, Claimed, claimed, count_ones, Enlist, enlisted, event_of, FindsHeld, gave, get_elem?, get_or, GetUp, Give, got_up, held, homes_after, inl, IsKnown, IsWithin, last_post}
 use Rattle.tag_core.proofs.Uses.{Layout, length, List, LISTS, Look, LookAside, looked, looked_aside, Me, MOST_WON, none, or_lt, own_view, Place, place_after, place_of, posted, posted_by, Put, put_aside, Record, record_after, refl, same_record, set, set-get_or, Shape, Shown, Sight, sighted, some}
-use Rattle.tag_core.proofs.Uses.{some-injective, Spill, spilled, State, Step, step, Stepped, subst, Swap, swapped, sym, tag_bit, Tell, took, Valid, value_of, View, without, Word, word_depth, word_of, word_of-below, words, world_of, ℕ, ◌∙◌}
+use Rattle.tag_core.proofs.Uses.{Spill, spilled, State, Step, step, Stepped, subst, Swap, swapped, sym, tag_bit, Tell, Valid, value_of, View, without, Word, word_depth, word_of, word_of-below, words, world_of, ℕ, ◌∙◌}
 use mathlib.Core.Option as maybe
 use Rattle.tag_core.specs.declared.word_step.WordStep.{WordStep}
 use Rattle.tag_core.specs.Spacing.{list_at, word_at, aside_at}

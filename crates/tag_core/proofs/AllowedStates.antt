@@ -1,7 +1,7 @@
 -- Each kind of step on the state of a tag is allowed by the rule.
 use Rattle.std.specs.Prelude.{◌<◌, ◌==◌, ◌≡◌, ◌≢◌, ◌≤◌}
-use Rattle.tag_core.proofs.Uses.{Act, Allows, ap, arith, Bool, carried_after, Carries, claimed, cond, dite, either, enlisted, eq-eqb, eqb, exchanged, FindsHeld, gave, get_elem?, get_or, got_up, held, homes_after, inl, inr, last_post, List, looked, looked_aside, Me, ne_eqb, None, none, own_view}
-use Rattle.tag_core.proofs.Uses.{Place, Post, posted, posted_bit, put_aside, Record, refl, same_record, set, Shape, Shown, sighted, SlotIs, Some, some, some-injective, spilled, State, step, Stepped, subst, swapped, sym, tag_bit, Take, took, Valid, value_of, View, world_of, ℕ, ℕ_discrete}
+use Rattle.tag_core.proofs.Uses.{Act, Allows, ap, arith, Bool, carried_after, Carries, cond, dite, either, eq-eqb, eqb, exchanged, get_elem?, get_or, held, homes_after, inl, inr, last_post, List, Me, ne_eqb, None, none, own_view}
+use Rattle.tag_core.proofs.Uses.{Place, Post, posted, posted_bit, Record, refl, same_record, set, Shape, Shown, SlotIs, Some, some, some-injective, State, step, Stepped, subst, sym, tag_bit, Take, took, Valid, value_of, View, world_of, ℕ, ℕ_discrete}
 use Rattle.tag_core.proofs.Uses.{◌∙◌}
 use Rattle.tag_core.specs.Spacing.{state_at}
 use Rattle.tag_core.specs.Plays as plays

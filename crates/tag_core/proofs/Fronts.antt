@@ -2,7 +2,7 @@
 -- nothing else.
 use Rattle.std.specs.Prelude.{◌<◌, ◌∷◌, ◌≡◌, ◌≢◌}
 use Rattle.tag_core.proofs.Uses.{[], Act, Allows, ap, arith, but, carried_after, Carries, chain, dite, eq-eqb, fronted, get_elem?, get_or, gives, homes_after, IsKnown, keeps, Layout, length, length-set, List, map, Me, ne_eqb, none, ordered, own_view, Record, refl, same_record, set, set-get_or}
-use Rattle.tag_core.proofs.Uses.{set_else, set_here, Shape, Shown, SlotIs, some, some-injective, some-ne-none, State, step, subst, suc, sym, tag_bit, tags_from, takes, Valid, value_of, View, world_of, zero, ℕ, ℕ_discrete, ◌∙◌}
+use Rattle.tag_core.proofs.Uses.{set_else, set_here, Shape, Shown, SlotIs, some, some-injective, State, step, subst, suc, sym, tag_bit, tags_from, takes, Valid, value_of, View, world_of, zero, ℕ, ℕ_discrete, ◌∙◌}
 use mathlib.Core.Option as maybe
 use Rattle.tag_core.specs.Spacing.{state_at}
 use Rattle.tag_core.proofs.Turns.{held_from}

@@ -1,7 +1,8 @@
 -- What the steps that join a caller's list do to the tags that it holds.
-use Rattle.std.specs.Prelude.{◌-◌, ◌<◌, ◌^◌, ◌≡◌, ◌≤◌}
-use Rattle.tag_core.proofs.Uses.{Acquires, Adds, AddsTwo, ap, arith, bit_at, bit_at-lt, bit_at_above, Caller, eq-eqb, get_or, held_after, Holds, IsCallerOf, IsInMask, IsWithin, joined, KeepsAll, Layout, layout_of, length, List, Map, max, min, parted, place_of, Record, Releases, Shape, slot_of, Step}
+use Rattle.std.specs.Prelude.{◌-◌, ◌<◌, ◌^◌, ◌↔◌, ◌≡◌, ◌≤◌}
+use Rattle.tag_core.proofs.Uses.{Adds, AddsTwo, ap, arith, bit_at, bit_at-lt, bit_at_above, Caller, eq-eqb, get_or, held_after, Holds, HoldsLess, HoldsMore, HoldsSame, IsCallerOf, IsInMask, IsWithin, joined, Layout, layout_of, length, List, Map, max, min, parted, place_of, Record, Shape, slot_of, Step}
 use Rattle.tag_core.proofs.Uses.{subst, sym, tag_at-back, tag_at-below, tag_bit, without, word_of, word_of-below, words, ℕ, ◌∙◌}
+use Rattle.tag_model.proofs.HoldingFacts.{less_like, more_like}
 use Rattle.tag_core.proofs.Masks.{bit_minus}
 use Rattle.tag_core.proofs.Picks.{among, among_one, one_among}
 use Rattle.tag_core.proofs.TagBits.{place_small, among_here, among_else, among_small, minus_bit, or_bit, list_bit, only_among, only_is, tag_mask, small_word}
@@ -28,8 +29,11 @@ module _ (k : Shape) (narrow : k.layout.shift ≤ 6) (u : ℕ) where
   pub alone_named : (t : ℕ) → IsInMask k.layout (word_of k.layout u) (2 ^ place_of k.layout u) t → t ≡ u
   alone_named t h = only_is k narrow t u (only_among k narrow u t ∙ among_one k.layout _ _ t h)
 
-  pub named_alone : (t : ℕ) → t ≡ u → IsInMask k.layout (word_of k.layout u) (2 ^ place_of k.layout u) t
+  named_alone : (t : ℕ) → t ≡ u → IsInMask k.layout (word_of k.layout u) (2 ^ place_of k.layout u) t
   named_alone t e = grind (arith, one_among, only_among, eq-eqb)
+
+  pub is_one : (t : ℕ) → IsInMask k.layout (word_of k.layout u) (2 ^ place_of k.layout u) t ↔ (t ≡ u)
+  is_one t = (alone_named t, named_alone t)
 
 module _ {R : Type 0} (old new : Caller R) (narrow : old.shape.value.layout.shift ≤ 6)
     (same : new.shape.value ≡ old.shape.value)
@@ -50,7 +54,7 @@ module _ {R : Type 0} (old new : Caller R) (narrow : old.shape.value.layout.shif
   holds_now t h = grind arith
 
   -- the held set stays
-  pub keeps_all : new.held.items ≡ old.held.items → KeepsAll old new
+  pub keeps_all : new.held.items ≡ old.held.items → HoldsSame old new
   keeps_all is = grind (arith, now_holds, holds_now, slots)
 
   module _ (i m : ℕ) (inside : i < words k.layout) where
@@ -69,7 +73,7 @@ module _ {R : Type 0} (old new : Caller R) (narrow : old.shape.value.layout.shif
       less t = ap (λ (l : List ℕ). has l t) is ∙ sym (minus_bit k narrow (λ j. get_or old.held.items j 0) i m t fits
           ∙ list_bit k narrow old.held.items i _ t long)
 
-      pub releases : Releases (IsInMask k.layout i m) old new
+      pub releases : HoldsLess (IsInMask k.layout i m) old new
       releases = grind (arith, less, in_mask, not_in_mask, now_holds, holds_now, has_small, slots)
 
     -- the tags of a mask join the held set
@@ -80,17 +84,8 @@ module _ {R : Type 0} (old new : Caller R) (narrow : old.shape.value.layout.shif
       more t = ap (λ (l : List ℕ). has l t) is ∙ sym (or_bit k narrow (λ j. get_or old.held.items j 0) i m t
           ∙ list_bit k narrow old.held.items i _ t long)
 
-      pub acquires : Acquires (IsInMask k.layout i m) old new
+      pub acquires : HoldsMore (IsInMask k.layout i m) old new
       acquires = grind (arith, more, in_mask, one_among, among_small, now_holds, holds_now, has_small, slots, below)
-
--- the same tags, told in another way
-pub released_as : {R : Type 0} (old new : Caller R) (P Q : ℕ → Type 0) → ((t : ℕ) → P t → Q t) → ((t : ℕ) → Q t → P t)
-    → Releases P old new → Releases Q old new
-released_as old new P Q to back h = grind (arith, h.gone, h.kept, h.none_else, to, back)
-
-pub acquired_as : {R : Type 0} (old new : Caller R) (P Q : ℕ → Type 0) → ((t : ℕ) → P t → Q t) → ((t : ℕ) → Q t → P t)
-    → Acquires P old new → Acquires Q old new
-acquired_as old new P Q to back h = grind (arith, h.fresh, h.joined, h.kept, h.none_else, to, back)
 
 module _ {R : Type 0} (m : Map R) (old new : Caller R) (own : IsCallerOf m old) where
   abbrev l : Layout
@@ -107,14 +102,14 @@ module _ {R : Type 0} (m : Map R) (old new : Caller R) (own : IsCallerOf m old) 
     held = ap (λ (r : Record R). r.held) adds.known
 
     -- a step that leaves the held set
-    pub adds_keeps : held_after l st old.held.items ≡ old.held.items → KeepsAll old new
+    pub adds_keeps : held_after l st old.held.items ≡ old.held.items → HoldsSame old new
     adds_keeps is = keeps_all old new low shape adds.slots (held ∙ is)
 
     -- a step that takes the tags of a mask out of it
     pub adds_releases : (i x : ℕ) → i < words (layout_of m) → IsWithin (layout_of m) i x
-        → held_after l st old.held.items ≡ parted old.held.items i x → Releases (IsInMask (layout_of m) i x) old new
+        → held_after l st old.held.items ≡ parted old.held.items i x → HoldsLess (IsInMask (layout_of m) i x) old new
     adds_releases i x inside within is = let same : old.shape.value ≡ m.shape = own.1 in
-        subst (λ (z : Shape). Releases (IsInMask z.layout i x) old new) same
+        subst (λ (z : Shape). HoldsLess (IsInMask z.layout i x) old new) same
         (releases old new low shape adds.slots i x (subst (λ (z : Shape). i < words z.layout) (sym same) inside)
         (small_word old.shape.value low i x (subst (λ (z : Shape). IsWithin z.layout i x) (sym same) within))
         (held ∙ is))
@@ -122,9 +117,9 @@ module _ {R : Type 0} (m : Map R) (old new : Caller R) (own : IsCallerOf m old) 
     -- a step that brings the tags of a mask into it
     pub adds_acquires : (i x : ℕ) → i < words (layout_of m) → IsWithin (layout_of m) i x
         → ((t : ℕ) → IsInMask (layout_of m) i x t → ¬ (Holds old t))
-        → held_after l st old.held.items ≡ joined old.held.items i x → Acquires (IsInMask (layout_of m) i x) old new
+        → held_after l st old.held.items ≡ joined old.held.items i x → HoldsMore (IsInMask (layout_of m) i x) old new
     adds_acquires i x inside within fresh is = let same : old.shape.value ≡ m.shape = own.1 in
-        subst (λ (z : Shape). Acquires (IsInMask z.layout i x) old new) same
+        subst (λ (z : Shape). HoldsMore (IsInMask z.layout i x) old new) same
         (acquires old new low shape adds.slots i x (subst (λ (z : Shape). i < words z.layout) (sym same) inside)
         (subst (λ (z : Shape). (t : ℕ) → IsInMask z.layout i x t → ¬ (Holds old t)) (sym same) fresh)
         (λ t named. named_in old.shape.value low i x t
@@ -132,7 +127,7 @@ module _ {R : Type 0} (m : Map R) (old new : Caller R) (own : IsCallerOf m old) 
 
   -- two steps that leave it
   pub adds_two_keeps : (first second : Step R) → AddsTwo first second old new
-      → held_after l second (held_after l first old.held.items) ≡ old.held.items → KeepsAll old new
+      → held_after l second (held_after l first old.held.items) ≡ old.held.items → HoldsSame old new
   adds_two_keeps first second adds is = keeps_all old new low (ap (λ (r : Record R). r.shape) adds.known) adds.slots
       (ap (λ (r : Record R). r.held) adds.known ∙ is)
 
@@ -140,9 +135,8 @@ module _ {R : Type 0} (m : Map R) (old new : Caller R) (own : IsCallerOf m old) 
   pub brings_one : new.shape.value ≡ old.shape.value
       → ((tag : ℕ) → Holds old tag → Holds new tag → slot_of new tag ≡ slot_of old tag) → (u : ℕ)
       → u < l.depth → ¬ (Holds old u)
-      → new.held.items ≡ joined old.held.items (word_of l u) (2 ^ place_of l u) → Acquires (λ t. t ≡ u) old new
-  brings_one same slots u below fresh is = acquired_as old new (IsInMask l (word_of l u) (2 ^ place_of l u)) (λ t. t ≡ u)
-      (alone_named old.shape.value low u) (named_alone old.shape.value low u)
+      → new.held.items ≡ joined old.held.items (word_of l u) (2 ^ place_of l u) → HoldsMore (λ t. t ≡ u) old new
+  brings_one same slots u below fresh is = more_like (is_one old.shape.value low u)
       (acquires old new low same slots (word_of l u) (2 ^ place_of l u) (word_of-below l u below)
       (λ t named. subst (λ (z : ℕ). ¬ (Holds old z)) (sym (alone_named old.shape.value low u t named)) fresh)
       (λ t named. subst (λ (z : ℕ). z < l.depth) (sym (alone_named old.shape.value low u t named)) below) is)
@@ -154,14 +148,14 @@ module _ {R : Type 0} (m : Map R) (old new : Caller R) (own : IsCallerOf m old) 
 
     pub adds_releases_one : u < l.depth
         → held_after l st old.held.items ≡ parted old.held.items (word_of l u) (2 ^ place_of l u)
-        → Releases (λ t. t ≡ u) old new
-    adds_releases_one below is = released_as old new (one_tag l) (λ t. t ≡ u) (alone_named old.shape.value low u)
-        (named_alone old.shape.value low u) (releases old new low (shape st adds) adds.slots (word_of l u)
+        → HoldsLess (λ t. t ≡ u) old new
+    adds_releases_one below is = less_like (is_one old.shape.value low u)
+        (releases old new low (shape st adds) adds.slots (word_of l u)
         (2 ^ place_of l u)
         (word_of-below l u below) (tag_mask old.shape.value low u) (held st adds ∙ is))
 
     -- a step that brings one tag into it
     pub adds_acquires_one : u < l.depth → ¬ (Holds old u)
         → held_after l st old.held.items ≡ joined old.held.items (word_of l u) (2 ^ place_of l u)
-        → Acquires (λ t. t ≡ u) old new
+        → HoldsMore (λ t. t ≡ u) old new
     adds_acquires_one below fresh is = brings_one (shape st adds) adds.slots u below fresh (held st adds ∙ is)

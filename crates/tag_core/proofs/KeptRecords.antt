@@ -1,6 +1,6 @@
 -- A caller after a sweep of which it kept the least tag.
 use Rattle.std.specs.Prelude.{◌+◌, ◌<◌, ◌^◌, ◌∷◌, ◌≡◌, ◌≢◌, ◌≤◌}
-use Rattle.tag_core.proofs.Uses.{Acquires, ap, arith, bit_at, Caller, Carries, count_ones, FindsHeld, get_or, Holds, IsCallerOf, IsWithin, joined, Keep, Layout, layout_of, least_bit, length, length-set, List, Map, Me, own_view, place_of, place_of-tag_at, Record, record_after, record_of, Shape}
+use Rattle.tag_core.proofs.Uses.{ap, arith, bit_at, Caller, Carries, count_ones, FindsHeld, get_or, Holds, HoldsMore, IsCallerOf, IsWithin, joined, Keep, Layout, layout_of, least_bit, length, length-set, List, Map, Me, own_view, place_of, place_of-tag_at, Record, record_after, record_of, Shape}
 use Rattle.tag_core.proofs.Uses.{slot_of, Spill, Stepped, steps_of, subst, Swap, sym, tag_at, tag_at-below, trailing_zeros, View, w64, without, Word, word_bits, word_depth, word_of, word_of-tag_at, words, ℕ, ◌∙◌}
 use Rattle.tag_core.proofs.OneBit.{count_ones-pow}
 use Rattle.tag_core.proofs.Sweepings.{mask_of, rest_of, all_kept, rest_freed}
@@ -116,8 +116,8 @@ module _ {R : Type 0} (w : Caller R) (i f : ℕ) (inside : i < words w.shape.val
     pub kept_acquires : (new : Caller R) → new.shape.value ≡ w.shape.value
         → ((tag : ℕ) → Holds w tag → Holds new tag → slot_of new tag ≡ slot_of w tag)
         → FindsHeld (record_of w) i f 0 → new.held.items ≡ joined w.held.items i (least_bit f)
-        → Acquires (λ t. t ≡ tag_at (layout_of m) i (trailing_zeros w64 f)) w new
-    kept_acquires new same slots unheld is = subst (λ (z : Shape). Acquires (λ t. t ≡ tag_at z.layout i place) w new) own.1
+        → HoldsMore (λ t. t ≡ tag_at (layout_of m) i (trailing_zeros w64 f)) w new
+    kept_acquires new same slots unheld is = subst (λ (z : Shape). HoldsMore (λ t. t ≡ tag_at z.layout i place) w new) own.1
         (brings_one m w new own same slots (tag_at l i place) (tag_at-below l i place low) fresh
         (is ∙ (λ j. joined w.held.items (sym word_is j) (2 ^ sym place_is j))))
       where

@@ -1,7 +1,7 @@
 -- One step of one caller, with its slots.
 use Rattle.std.specs.Prelude.{◌*◌, ◌+◌, ◌<◌, ◌∷◌, ◌≡◌, ◌≢◌, ◌≤◌, ◌⊎◌}
-use Rattle.tag_core.proofs.Uses.{ap, arith, back-history, back_by, back_in, carried_after, Carries, dite, eq-eqb, event_of, events_of, get_elem?, got_in, HasHistory, held, held_after, held_bit, held_in, homes_after, IsKnown, IsOpening, last_post, length, List, map, MOST_WON, ne_eqb, none, one_if}
-use Rattle.tag_core.proofs.Uses.{opening_world, own_view, Place, posted, posted_in, Record, record_after, refl, set, set_here, Shape, Shown, SlotIs, some, some-injective, some-ne-none, State, Step, Stepped, subst, sum_below-none, sym, tag_bit, value_of, View, within, world_of, ℕ, ℕ_discrete, ⊎_elim}
+use Rattle.tag_core.proofs.Uses.{ap, arith, back-history, back_by, back_in, carried_after, Carries, dite, eq-eqb, event_of, events_of, get_elem?, got_in, HasHistory, held, held_after, held_bit, held_in, homes_after, IsKnown, IsOpening, last_post, length, List, map, MOST_WON, ne_eqb, one_if}
+use Rattle.tag_core.proofs.Uses.{opening_world, own_view, Place, posted, posted_in, Record, record_after, refl, set, set_here, Shape, Shown, SlotIs, some, State, Step, Stepped, subst, sum_below-none, sym, tag_bit, value_of, View, within, world_of, ℕ, ℕ_discrete, ⊎_elim}
 use Rattle.tag_core.proofs.Uses.{◌∙◌}
 use mathlib.Core.Option as maybe
 use Rattle.tag_core.proofs.Picks.{placed}

@@ -1,6 +1,6 @@
 -- A claim of one place: what it found there, and what it leaves of its caller.
 use Rattle.std.specs.Prelude.{◌%◌, ◌*◌, ◌+◌, ◌<◌, ◌^◌, ◌≡◌, ◌≢◌}
-use Rattle.tag_core.proofs.Uses.{Acquires, and_pow, ap, arith, bit_and, bit_at, bit_or, Caller, Claimed, count_ones, get_or, inl, inr, IsCallerOf, joined, layout_of, List, Map, Me, one_shl, place_of, place_of-tag_at, pow_pos, record_of, refl, set, Shape, slice_set, Stepped, subst, sym, tag_at}
+use Rattle.tag_core.proofs.Uses.{and_pow, ap, arith, bit_and, bit_at, bit_or, Caller, Claimed, count_ones, get_or, HoldsMore, inl, inr, IsCallerOf, joined, layout_of, List, Map, Me, one_shl, place_of, place_of-tag_at, pow_pos, record_of, refl, set, Shape, slice_set, Stepped, subst, sym, tag_at}
 use Rattle.tag_core.proofs.Uses.{tag_at-below, View, Word, word_bits, word_bits-le, word_depth, word_of, word_of-tag_at, words, ℕ, ◌∙◌}
 use Rattle.std.specs.Int.Bits.{or_zero_r}
 use Rattle.std.proofs.lemmas.List.{set-get_or}
@@ -62,7 +62,7 @@ module _ {R : Type 0} (w : Caller R) (me' : Me R (View R)) (i k n : ℕ) (low : 
 -- a claim that found its place clear brings the tag there, and no other
 pub won_tag : {R : Type 0} (m : Map R) (old new : Caller R) → IsCallerOf m old → (i place found : ℕ)
     → place < word_depth (layout_of m) i → bit_at found place ≡ 0 → ClaimsPlace (layout_of m) i place found old new
-    → Acquires (λ t. t ≡ tag_at (layout_of m) i place) old new
+    → HoldsMore (λ t. t ≡ tag_at (layout_of m) i place) old new
 won_tag m old new own i place found within clear claim =
     let l = layout_of m in let u : ℕ = tag_at l i place in let low = place_low m i place within in
     let short : place < word_bits l = omega arith in

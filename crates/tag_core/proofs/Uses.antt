@@ -45,7 +45,7 @@ pub use Rattle.tag_core.specs.Callers.{Adds, AddsTwo, AreUnchanged, HaveOwnNumbe
 pub use Rattle.tag_core.specs.Chain.{CountsChain, Epoch, GoesOn, HasChain, IsChain, opened, reopened}
 pub use Rattle.tag_core.specs.Gathering.{gathered, numbers, numbers_of}
 pub use Rattle.tag_core.specs.Histories.{Cells, cells_after, cells_of, event_of, events_of, FindsIn, FindsPost, History, IsLawful, last_post, opening_world, posted_by, steps_by, world_of}
-pub use Rattle.tag_core.specs.Holdings.{Acquires, IsInMask, KeepsAll, Releases}
+pub use Rattle.tag_core.specs.Holding.{HoldsLess, HoldsMore, HoldsSame, IsInMask}
 pub use Rattle.tag_core.specs.Lists.{bit_of, FindsListed, IsBy, IsOwn, lists_after}
 pub use Rattle.tag_core.specs.Meeting.{AreApart, HasHistory, ShareHistory}
 pub use Rattle.tag_core.specs.Plays.{claimed, counted, enlisted, FindsHeld, fronted, gave, got_up, kept_least, looked, looked_aside, met, ordered, put_aside, settled, sighted, spilled, Stepped, swapped, told, took}

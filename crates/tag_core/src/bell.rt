@@ -3,7 +3,7 @@ ghost use Rattle.std.specs.Prelude.{◌≡◌, ℕ, ◌<◌, ◌↔◌, IsTrue, 
 ghost use Rattle.std.specs.Int.{bit_at};
 ghost use Rattle.tag_model.specs.declared.world.TheConstants.{MAX_CALLERS};
 ghost use Rattle.tag_core.specs.Callers.{IsCallerOf, IsUnchanged, record_of, Adds};
-ghost use Rattle.tag_core.specs.Holdings.{KeepsAll};
+ghost use Rattle.tag_core.specs.Holding.{HoldsSame};
 ghost use Rattle.tag_core.specs.Lists.{bit_of};
 ghost use Rattle.tag_core.specs.declared.step.Step.TheVariants.{Bell};
 ghost use Rattle.tag_core.specs.declared.bell_step.BellStep.TheVariants.{Enlist, Sight, Tell, GetUp};
@@ -40,7 +40,7 @@ impl<R> Map<R> {
         requires within { list < LISTS }
         ensures caller { IsCallerOf self.now caller.new }
         ensures step { (found : ℕ) × Adds (Bell (Enlist list (record_of caller.old).number found)) caller.old caller.new }
-        ensures kept { KeepsAll caller.old caller.new }
+        ensures kept { HoldsSame caller.old caller.new }
     {
         let bit = self.own_bit(caller);
         let table = &self.table.shared;
@@ -53,7 +53,7 @@ impl<R> Map<R> {
         requires within { list < LISTS }
         ensures caller { IsCallerOf self.now caller.new }
         ensures step { Adds (Bell (Sight list result)) caller.old caller.new }
-        ensures kept { KeepsAll caller.old caller.new }
+        ensures kept { HoldsSame caller.old caller.new }
     {
         let table = &self.table.shared;
         table.load::<Sighting>(&mut caller.seat, list_spot(list))
@@ -66,7 +66,7 @@ impl<R> Map<R> {
         requires within { list < LISTS }
         ensures caller { IsCallerOf self.now caller.new }
         ensures step { Adds (Bell (Tell list mask result)) caller.old caller.new }
-        ensures kept { KeepsAll caller.old caller.new }
+        ensures kept { HoldsSame caller.old caller.new }
     {
         let table = &self.table.shared;
         table.fetch_and::<Telling>(&mut caller.seat, list_spot(list), !mask)
@@ -79,7 +79,7 @@ impl<R> Map<R> {
         requires within { list < LISTS }
         ensures caller { IsCallerOf self.now caller.new }
         ensures step { Adds (Bell (GetUp list (record_of caller.old).number result)) caller.old caller.new }
-        ensures kept { KeepsAll caller.old caller.new }
+        ensures kept { HoldsSame caller.old caller.new }
     {
         let bit = self.own_bit(caller);
         let table = &self.table.shared;

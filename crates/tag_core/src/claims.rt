@@ -5,7 +5,7 @@ ghost use Rattle.tag_layout.specs.Layout.{words, word_depth, word_of, place_of, 
 ghost use Rattle.tag_core.specs.Steps.{without};
 ghost use Rattle.tag_core.specs.Callers.{layout_of, IsCallerOf, record_of, Holds, Adds};
 ghost use Rattle.tag_core.specs.Claims.{ClaimsPlace};
-ghost use Rattle.tag_core.specs.Holdings.{IsInMask, Acquires, KeepsAll};
+ghost use Rattle.tag_core.specs.Holding.{IsInMask, HoldsMore, HoldsSame};
 ghost use Rattle.tag_core.specs.declared.step.Step.TheVariants.{Word};
 ghost use Rattle.tag_core.specs.declared.word_step.WordStep.TheVariants.{Claimed};
 
@@ -37,7 +37,7 @@ impl<R> Map<R> {
         ensures held { IfOk result (λ c. (tag : ℕ) → Holds caller.old tag → word_of (layout_of self.now) tag ≡ word
             → bit_at c.found (place_of (layout_of self.now) tag) ≡ 1) }
         ensures won { IfOk result (λ c. c.won ≡ without mask c.found) }
-        ensures acquired { IfOk result (λ c. Acquires (IsInMask (layout_of self.now) word c.won) caller.old caller.new) }
+        ensures acquired { IfOk result (λ c. HoldsMore (IsInMask (layout_of self.now) word c.won) caller.old caller.new) }
         ensures step { IfOk result (λ c. Adds (Word (Claimed word mask c.found)) caller.old caller.new) }
 
         // No step is made.
@@ -48,13 +48,31 @@ impl<R> Map<R> {
         if !caller.room(asked) {
             return Err(Spent);
         }
+        Ok(self.claim_counted(caller, word, mask, asked))
+    }
+
+    /// As `claim`, with a mask that has `asked` bits, for which there is room in the caller's life: it counts no bits if
+    /// all are won.
+    #[inline(always)]
+    pub fn claim_counted(&self, caller: &mut Caller<R>, word: u32, mask: u64, asked: u32) -> Claim
+        requires caller { IsCallerOf self.now caller.old }
+        requires within { (word < words (layout_of self.now)) × IsWithin (layout_of self.now) word mask }
+        requires asked { asked ≡ count_ones mask }
+        requires room { (record_of caller.old).won + asked ≤ (record_of caller.old).shape.life }
+        ensures caller { IsCallerOf self.now caller.new }
+        ensures held { (tag : ℕ) → Holds caller.old tag → word_of (layout_of self.now) tag ≡ word
+            → bit_at result.found (place_of (layout_of self.now) tag) ≡ 1 }
+        ensures won { result.won ≡ without mask result.found }
+        ensures acquired { HoldsMore (IsInMask (layout_of self.now) word result.won) caller.old caller.new }
+        ensures step { Adds (Word (Claimed word mask result.found)) caller.old caller.new }
+    {
         let table = &self.table.shared;
         let found = table.fetch_or::<Claiming>(&mut caller.seat, word_spot(word), mask);
         let won = mask & !found;
         let held = caller.held[word as usize] | won;
         caller.held[word as usize] = held;
         caller.won += count_part(won, mask, asked) as u64;
-        Ok(Claim { won, found })
+        Claim { won, found }
     }
 
     /// Claims one place, for which there is room in the caller's life. `Ok`: the place was clear, and the caller now holds
@@ -68,10 +86,10 @@ impl<R> Map<R> {
         ensures won { IfOk result (λ _. (found : ℕ) × (bit_at found place ≡ 0)
             × ClaimsPlace (layout_of self.now) word place found caller.old caller.new) }
         ensures acquired { IfOk result (λ _.
-            Acquires (λ t. t ≡ tag_at (layout_of self.now) word place) caller.old caller.new) }
+            HoldsMore (λ t. t ≡ tag_at (layout_of self.now) word place) caller.old caller.new) }
         ensures lost { IfErr result (λ found. (bit_at found place ≡ 1)
             × ClaimsPlace (layout_of self.now) word place found caller.old caller.new) }
-        ensures kept { OnErr result (KeepsAll caller.old caller.new) }
+        ensures kept { OnErr result (HoldsSame caller.old caller.new) }
     {
         let table = &self.table.shared;
         let bit = 1u64 << place;

@@ -3,7 +3,7 @@ ghost use Rattle.std.specs.Prelude.{◌≡◌, ℕ, ◌^◌, ◌<◌, IsTrue};
 ghost use Rattle.tag_layout.specs.Layout.{words, word_of, place_of, IsWithin};
 ghost use Rattle.tag_model.specs.Event.{is_in_mask};
 ghost use Rattle.tag_core.specs.Callers.{layout_of, IsCallerOf, Holds, Adds};
-ghost use Rattle.tag_core.specs.Holdings.{IsInMask, Releases};
+ghost use Rattle.tag_core.specs.Holding.{IsInMask, HoldsLess};
 ghost use Rattle.tag_core.specs.declared.step.Step.TheVariants.{Word};
 ghost use Rattle.tag_core.specs.declared.word_step.WordStep.TheVariants.{Give, Put};
 
@@ -21,7 +21,7 @@ impl<R> Map<R> {
             → IsTrue (is_in_mask (layout_of self.now) word mask tag) → Holds caller.old tag }
         ensures caller { IsCallerOf self.now caller.new }
         ensures step { (found : ℕ) × Adds (Word (Give word mask found)) caller.old caller.new }
-        ensures released { Releases (IsInMask (layout_of self.now) word mask) caller.old caller.new }
+        ensures released { HoldsLess (IsInMask (layout_of self.now) word mask) caller.old caller.new }
     {
         let table = &self.table.shared;
         // The caller holds all of these tags, so each of their bits is 1 there: a difference clears them in one instruction.
@@ -41,7 +41,7 @@ impl<R> Map<R> {
         ensures caller { IsCallerOf self.now caller.new }
         ensures step { (found : ℕ)
             × Adds (Word (Put (word_of (layout_of self.now) tag) (2 ^ place_of (layout_of self.now) tag) found)) caller.old caller.new }
-        ensures released { Releases (λ t. t ≡ tag) caller.old caller.new }
+        ensures released { HoldsLess (λ t. t ≡ tag) caller.old caller.new }
     {
         let word = caller.layout.word_of(tag);
         let bit = 1u64 << caller.layout.place_of(tag);

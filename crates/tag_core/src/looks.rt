@@ -4,7 +4,7 @@ ghost use Rattle.tag_model.specs.declared.world.TheConstants.{MAX_CALLERS};
 ghost use Rattle.std.specs.Int.{bit_at};
 ghost use Rattle.tag_layout.specs.Layout.{words, word_of, place_of};
 ghost use Rattle.tag_core.specs.Callers.{layout_of, IsCallerOf, record_of, Holds, Adds};
-ghost use Rattle.tag_core.specs.Holdings.{KeepsAll};
+ghost use Rattle.tag_core.specs.Holding.{HoldsSame};
 ghost use Rattle.tag_core.specs.declared.step.Step.TheVariants.{Word};
 ghost use Rattle.tag_core.specs.declared.word_step.WordStep.TheVariants.{Look, LookAside};
 
@@ -37,7 +37,7 @@ impl<R> Map<R> {
         requires within { word < words (layout_of self.now) }
         ensures caller { IsCallerOf self.now caller.new }
         ensures step { Adds (Word (Look word result)) caller.old caller.new }
-        ensures kept { KeepsAll caller.old caller.new }
+        ensures kept { HoldsSame caller.old caller.new }
         ensures held { (tag : ℕ) → Holds caller.old tag → word_of (layout_of self.now) tag ≡ word
             → bit_at result (place_of (layout_of self.now) tag) ≡ 1 }
     {
@@ -52,7 +52,7 @@ impl<R> Map<R> {
         requires within { word < words (layout_of self.now) }
         ensures caller { IsCallerOf self.now caller.new }
         ensures step { Adds (Word (LookAside word result)) caller.old caller.new }
-        ensures kept { KeepsAll caller.old caller.new }
+        ensures kept { HoldsSame caller.old caller.new }
         ensures held { (tag : ℕ) → Holds caller.old tag → word_of (layout_of self.now) tag ≡ word
             → bit_at result (place_of (layout_of self.now) tag) ≡ 0 }
     {

@@ -2,7 +2,7 @@
 ghost use Rattle.std.specs.Prelude.{◌≡◌, ℕ, ◌<◌, IsTrue, IsFalse, Some, None};
 ghost use mathlib.Core.Option.{some};
 ghost use Rattle.tag_core.specs.Callers.{layout_of, IsCallerOf, Holds, slot_of, Adds};
-ghost use Rattle.tag_core.specs.Holdings.{Releases, Acquires, KeepsAll};
+ghost use Rattle.tag_core.specs.Holding.{HoldsLess, HoldsMore, HoldsSame};
 ghost use Rattle.tag_core.specs.declared.step.Step.TheVariants.{Post, Take};
 
 use crate::caller::Caller;
@@ -16,7 +16,7 @@ impl<R> Map<R> {
         requires held { Holds caller.old tag }
         ensures caller { IsCallerOf self.now caller.new }
         ensures step { (value : R) × (slot_of caller.old tag ≡ some value) × Adds (Post tag value) caller.old caller.new }
-        ensures released { Releases (λ t. t ≡ tag) caller.old caller.new }
+        ensures released { HoldsLess (λ t. t ≡ tag) caller.old caller.new }
     {
         let word = caller.layout.word_of(tag) as usize;
         let bit = 1u64 << caller.layout.place_of(tag);
@@ -35,9 +35,9 @@ impl<R> Map<R> {
         ensures caller { IsCallerOf self.now caller.new }
         ensures won { IsTrue result
             → (value : R) × (slot_of caller.new tag ≡ some value) × Adds (Take tag 1 (Some value)) caller.old caller.new }
-        ensures acquired { IsTrue result → Acquires (λ t. t ≡ tag) caller.old caller.new }
+        ensures acquired { IsTrue result → HoldsMore (λ t. t ≡ tag) caller.old caller.new }
         ensures missed { IsFalse result → Adds (Take tag 0 None) caller.old caller.new }
-        ensures kept { IsFalse result → KeepsAll caller.old caller.new }
+        ensures kept { IsFalse result → HoldsSame caller.old caller.new }
     {
         let word = caller.layout.word_of(tag) as usize;
         let bit = 1u64 << caller.layout.place_of(tag);

@@ -2,7 +2,7 @@
 ghost use Rattle.std.specs.Prelude.{◌≡◌, ◌≢◌, ◌∷◌, ℕ};
 ghost use mathlib.Core.Option.{some};
 ghost use Rattle.atomic_table.specs.Table.{rest};
-ghost use Rattle.tag_core.specs.Holdings.{KeepsAll};
+ghost use Rattle.tag_core.specs.Holding.{HoldsSame};
 ghost use Rattle.tag_core.specs.Callers.{IsCallerOf, SameMap, record_of, Holds, slot_of};
 
 use crate::caller::Caller;
@@ -54,7 +54,7 @@ impl<R: Copy> Map<R> {
         requires held { Holds caller.old tag }
         ensures caller { IsCallerOf self.now caller.new }
         ensures value { slot_of caller.old tag ≡ some result }
-        ensures kept { KeepsAll caller.old caller.new }
+        ensures kept { HoldsSame caller.old caller.new }
         ensures unchanged { (record_of caller.new ≡ record_of caller.old) × SameMap caller.old caller.new }
     {
         let spot = caller.state_spot(tag);

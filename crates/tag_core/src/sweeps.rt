@@ -2,7 +2,7 @@
 ghost use Rattle.std.specs.Prelude.{◌≡◌, ◌≢◌, ℕ, ◌+◌, ◌<◌, ◌≤◌, IfSome, IfNone};
 ghost use Rattle.tag_layout.specs.Layout.{words, word_depth, tag_at};
 ghost use Rattle.tag_core.specs.Callers.{layout_of, IsCallerOf, record_of, Adds, AddsTwo};
-ghost use Rattle.tag_core.specs.Holdings.{KeepsAll, Acquires};
+ghost use Rattle.tag_core.specs.Holding.{HoldsSame, HoldsMore};
 ghost use Rattle.tag_core.specs.Keeping.{KeepsLeast};
 ghost use Rattle.tag_core.specs.declared.step.Step.TheVariants.{Word};
 ghost use Rattle.tag_core.specs.declared.word_step.WordStep.TheVariants.{Swap, Spill};
@@ -24,7 +24,7 @@ impl<R> Map<R> {
         ensures none { result ≡ 0 → Adds (Word (Swap word 0)) caller.old caller.new }
         ensures some { result ≢ 0 → (found : ℕ)
             × AddsTwo (Word (Swap word result)) (Word (Spill word result found)) caller.old caller.new }
-        ensures kept { KeepsAll caller.old caller.new }
+        ensures kept { HoldsSame caller.old caller.new }
     {
         let table = &self.table.shared;
         let mask = table.swap::<Swapping>(&mut caller.seat, aside_spot(word), 0);
@@ -45,12 +45,12 @@ impl<R> Map<R> {
         requires room { (record_of caller.old).won + 1 ≤ (record_of caller.old).shape.life }
         ensures caller { IsCallerOf self.now caller.new }
         ensures none { IfNone result (Adds (Word (Swap word 0)) caller.old caller.new) }
-        ensures unmoved { IfNone result (KeepsAll caller.old caller.new) }
+        ensures unmoved { IfNone result (HoldsSame caller.old caller.new) }
         ensures some { IfSome result (λ kept.
             KeepsLeast (layout_of self.now) word kept.place kept.rest caller.old caller.new) }
         ensures place { IfSome result (λ kept. kept.place < word_depth (layout_of self.now) word) }
         ensures acquired { IfSome result (λ kept. let tag = tag_at (layout_of self.now) word kept.place in
-            Acquires (λ t. t ≡ tag) caller.old caller.new) }
+            HoldsMore (λ t. t ≡ tag) caller.old caller.new) }
     {
         let table = &self.table.shared;
         let mask = table.swap::<Keeping>(&mut caller.seat, aside_spot(word), 0);

@@ -2,7 +2,7 @@
 ghost use Rattle.std.specs.Prelude.{◌≡◌, ℕ, ◌<◌, ◌↔◌, IsTrue, slice_index_or};
 ghost use Rattle.tag_layout.specs.Layout.{words, IsWithin};
 ghost use Rattle.tag_core.specs.Callers.{record_of, Holds};
-ghost use Rattle.tag_core.specs.Holdings.{IsInMask};
+ghost use Rattle.tag_core.specs.Holding.{IsInMask};
 
 use crate::caller::Caller;
 

@@ -4,6 +4,7 @@ pub mod Entries
 pub mod Runs
 pub mod Totals
 pub mod Kept
+pub mod Holding
 pub mod Laws
 pub use Rattle.tag_layout.specs.Layout
 pub use Rattle.tag_layout.specs.Bits

@@ -12,7 +12,7 @@ use Rattle.tag_search.proofs.BegunFacts.{GaveNone, begun_frees_none, begun_same}
 use Rattle.tag_search.proofs.FreedFacts.{freed_same, none_left, left_since}
 use Rattle.tag_search.proofs.MapGets.{won_got, rest_got}
 use Rattle.tag_search.proofs.VainGets.{none_found}
-use Rattle.tag_queue.specs.Begun.{GetsFreed, TriesFirst}
+use Rattle.tag_queue.specs.Begun.{GetsAndReports, TriesFirst}
 use Rattle.tag_queue.proofs.Getting.{few_steps}
 
 -- a caller that makes a first try gives nothing back
@@ -45,7 +45,7 @@ module _ {R : Type 0} (queue : Queue R) (old new : Agent R) where
   pub won_gets : (tag : ℕ) → IsAgentOf queue old → HasRoom old 1
       → Makes (caller_of old) (caller_of new) (IsWonAtOnce (layout_of queue) (hint_of old) tag)
       → HintFollows (layout_of queue).depth (hint_of old) (hint_of new) (Some tag) → SameCounts old new
-      → GetsFreed queue (record { answer = Some tag; left = 0 }) old new
+      → GetsAndReports queue (record { answer = Some tag; left = 0 }) old new
   won_gets tag own room won hint same =
       let got = won_got queue.map (caller_of old) (caller_of new) own.0 (hint_of old) tag won in
       record {
@@ -67,7 +67,7 @@ module _ {R : Type 0} (queue : Queue R) (old new : Agent R) where
       → Makes (caller_of middle) (caller_of new) (IsRestOfGet (layout_of queue) (hint_of middle) rest found.answer)
       → HintFollows (layout_of queue).depth (hint_of middle) (hint_of new) found.answer
       → found.left ≡ left_free (caller_of middle) (caller_of new) → SameCounts middle new
-      → GetsFreed queue found old new
+      → GetsAndReports queue found old new
   rest_gets middle rest found tried finished hint left same =
       let l = layout_of queue in let a = caller_of old in let b = caller_of middle in let c = caller_of new in
       let from = hint_of old in
@@ -97,6 +97,6 @@ module _ {R : Type 0} (queue : Queue R) (old new : Agent R) where
   pub wins : (answer : Result ℕ Unfinished) → IsAgentOf queue old → HasRoom old 1
       → IfOk answer (λ tag. Makes (caller_of old) (caller_of new) (IsWonAtOnce (layout_of queue) (hint_of old) tag))
       → IfOk answer (λ tag. HintFollows (layout_of queue).depth (hint_of old) (hint_of new) (Some tag))
-      → SameCounts old new → IfOk answer (λ tag. GetsFreed queue (record { answer = Some tag; left = 0 }) old new)
+      → SameCounts old new → IfOk answer (λ tag. GetsAndReports queue (record { answer = Some tag; left = 0 }) old new)
   wins (Ok tag) own room won hint same = won_gets tag own room won hint same
   wins (Err rest) own room won hint same = tt

@@ -2,7 +2,7 @@
 use Rattle.std.specs.Prelude.{◌%◌, ◌++◌, ◌+◌, ◌/◌, ◌<◌, ◌^◌, ◌∷◌, ◌≡◌, ◌≢◌, ◌≤◌}
 use Rattle.tag_queue.proofs.Uses.{[], Adds, AllPairs, among, among_else, among_here, among_one, among_small, ap, AreRuns, arith, bit_at, bit_at-lt, bit_at-pow_other, bit_at-zero, bit_at_or, bit_or, Caller, Contains, Contains-append_cases, Contains-append_left, Contains-append_right, Contains-push}
 use Rattle.tag_queue.proofs.Uses.{Contains-push_cases, count_ones, count_ones-pow, dite, EndsElsewhere, eq-eqb, get_or, get_or-take, get_or_default_zero, Give, GivesAll, IsInMask, Layout, length, length-append, length-take, List, Map, max, ne_eqb, one_among, one_if, only, only_among, only_is, or_lt}
-use Rattle.tag_queue.proofs.Uses.{place_of, pow_below, Record, record_after, record_after_runs, record_of, refl, Releases, Run, Shape, subst, sum_below-add, sum_below-bits, sym, take, Word, word_of, ℕ, ℕ_discrete, ⊎_elim, ◌∙◌}
+use Rattle.tag_queue.proofs.Uses.{HoldsLess, place_of, pow_below, Record, record_after, record_after_runs, record_of, refl, Run, Shape, subst, sum_below-add, sum_below-bits, sym, take, Word, word_of, ℕ, ℕ_discrete, ⊎_elim, ◌∙◌}
 use Rattle.std.proofs.Common.{◌↔◌}
 
 -- setting one more bit adds one to the number of set bits, in a word of any width
@@ -109,7 +109,7 @@ module _ {R : Type 0} (map : Map R) (old now next : Caller R) where
   abbrev pub gives_more : (done run : List ℕ) (word mask found : ℕ) → 1 ≤ length run
       → IsMaskOf map.shape map.small.1 run word mask → (given : GivesAll map.shape.layout done old now)
       → EndsElsewhere word given.runs
-      → Adds (Word (Give word mask found)) now next → Releases (IsInMask map.shape.layout word mask) now next
+      → Adds (Word (Give word mask found)) now next → HoldsLess (IsInMask map.shape.layout word mask) now next
       → GivesAll map.shape.layout (done ++ run) old next
   gives_more done run word mask found some is given turns adds less =
       let in_run : (t : ℕ) → IsInMask map.shape.layout word mask t

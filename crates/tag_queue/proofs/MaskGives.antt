@@ -1,7 +1,7 @@
 -- How far the tags of a mask are freed, word by word.
 use Rattle.std.specs.Prelude.{◌*◌, ◌++◌, ◌+◌, ◌<◌, ◌^◌, ◌∷◌, ◌≡◌, ◌≢◌, ◌≤◌}
 use Rattle.tag_queue.proofs.Uses.{[], Adds, All, among_one, ap, append-nil, arith, bit_at, Caller, count_ones, count_ones-zero, EndsElsewhere, Give, GivesAll, Holds, is_in_mask, IsCallerOf, IsInMask, IsLastIn, IsTrue, IsWithin, Layout, length, length-append, List, Map, nil_from_length, one_among}
-use Rattle.tag_queue.proofs.Uses.{Record, record_of, Releases, Run, subst, sum_below-bits, sum_below-same, sym, tag_at, tags_from, Word, word_bits, word_depth, word_of, words_over, zero_from_ones, ℕ, ◌∙◌}
+use Rattle.tag_queue.proofs.Uses.{HoldsLess, Record, record_of, Run, subst, sum_below-bits, sum_below-same, sym, tag_at, tags_from, Word, word_bits, word_depth, word_of, words_over, zero_from_ones, ℕ, ◌∙◌}
 use Rattle.std.proofs.Math.Pow.{pow_mono}
 use Rattle.tag_queue.specs.Masks.{tags_in, mask_bit}
 use Rattle.tag_queue.proofs.Giving.{IsMaskOf, gives_more, gives_none, steps_after}
@@ -119,7 +119,7 @@ module _ {R : Type 0} (map : Map R) (first mask word part : ℕ) (old now : Call
   -- any other takes one
   pub one_here : part ≢ 0 → (next : Caller R) (found : ℕ) → IsCallerOf map next
       → Adds (Word (Give word part found)) now next
-      → Releases (IsInMask map.shape.layout word part) now next
+      → HoldsLess (IsInMask map.shape.layout word part) now next
       → GivenTo map first (before map.shape.layout first mask (word + 1)) (word + 1) old next
   one_here some next found own adds less =
       subst (λ (tags : List ℕ). GivenTo map first tags (word + 1) old next) more record {

@@ -1,6 +1,6 @@
 -- A mask whose tags are all in one word: how it stands there, and that one step frees its tags.
 use Rattle.std.specs.Prelude.{◌%◌, ◌*◌, ◌+◌, ◌-◌, ◌<◌, ◌^◌, ◌≡◌, ◌≢◌, ◌≤◌}
-use Rattle.tag_queue.proofs.Uses.{Adds, All, ap, arith, bit_at, bit_at-zero, bit_at_above, Caller, cases_lt, count_ones, div-add-mod', Give, GivesAll, Holds, IsCallerOf, IsInMask, IsLastIn, IsWithin, Layout, Map, mod_below, place_of, pow_pos, record_of, Releases, Shape, subst, sym, tag_at, Word}
+use Rattle.tag_queue.proofs.Uses.{Adds, All, ap, arith, bit_at, bit_at-zero, bit_at_above, Caller, cases_lt, count_ones, div-add-mod', Give, GivesAll, Holds, HoldsLess, IsCallerOf, IsInMask, IsLastIn, IsWithin, Layout, Map, mod_below, place_of, pow_pos, record_of, Shape, subst, sym, tag_at, Word}
 use Rattle.tag_queue.proofs.Uses.{word_bits, word_depth, word_of, ℕ, ⊎_elim, ◌∙◌}
 use Rattle.tag_search.proofs.TakenPlaces.{below_of_bits}
 use Rattle.tag_queue.specs.Masks.{tags_in, mask_bit}
@@ -85,7 +85,7 @@ module _ {R : Type 0} (map : Map R) (caller : Caller R) (own : IsCallerOf map ca
 module _ {R : Type 0} (map : Map R) (old new : Caller R) (own : IsCallerOf map old) (own' : IsCallerOf map new)
     (first mask last word here found : ℕ) (fits : mask < 2 ^ 64) (is : IsLastIn first mask last)
     (at : IsPlaced map.shape.layout first mask last word here) (adds : Adds (Word (Give word here found)) old new)
-    (less : Releases (IsInMask map.shape.layout word here) old new) where
+    (less : HoldsLess (IsInMask map.shape.layout word here) old new) where
   some : here ≢ 0
   some zero = let bit = same_bit map.shape.layout first mask word here at.bits last at.ends ∙ is.one in
       let none = ap (λ (x : ℕ). bit_at x (place_of map.shape.layout last)) zero

@@ -1,6 +1,6 @@
 -- What searches and sleeps keep: where an agent waits, which tags it holds, its room, and where its next search begins.
 use Rattle.std.specs.Prelude.{◌+◌, ◌^◌, ◌∷◌, ◌≡◌, ◌≢◌, ◌≤◌}
-use Rattle.tag_queue.proofs.Uses.{[], Acquires, Agent, ap, AreSleeps, Caller, caller_of, GetsPlainAndLooks, Hint, hint_of, inl, inr, IsSleep, IsUnchanged, KeepsAll, Layout, List, ListsSelf, None, Option, place_of, Record, record_after, record_after_all, record_of, refl, Releases, SeesTo, SLEEPERS}
+use Rattle.tag_queue.proofs.Uses.{[], Agent, ap, AreSleeps, Caller, caller_of, GetsPlainAndLooks, Hint, hint_of, inl, inr, IsSleep, IsUnchanged, Layout, List, ListsSelf, None, Option, place_of, Record, record_after, record_after_all, record_of, refl, SeesTo, SLEEPERS}
 use Rattle.tag_queue.proofs.Uses.{Some, subst, suc, sym, teller_of, Told, Wins, WinsListed, Word, WordStep, zero, zero-mod, ℕ, ⊎_elim, ◌∙◌}
 use Rattle.tag_bell.specs.Callers.{IsUp, WaitsAsBefore}
 use Rattle.tag_bell.specs.Waiting as steps
@@ -9,6 +9,7 @@ use Rattle.tag_search.specs.Hints.{reduced}
 use Rattle.tag_search.specs.Shared as search
 use Rattle.tag_search.specs.Vain.{MaySleep}
 use Rattle.tag_queue.specs.Holding.{HoldsSame, HoldsMore}
+use Rattle.tag_model.proofs.HoldingFacts.{more_then_same, same_itself, same_then_more, same_then_same}
 use Rattle.tag_queue.proofs.Looking.{searched_plain, counted_none}
 
 -- a call that leaves its agent unchanged leaves it nothing to see to, if it had nothing
@@ -39,36 +40,6 @@ begins_whole : (l : Layout) (at : ℕ) → at ≡ 0 → place_of l (reduced l.de
 begins_whole l at e = ap (λ (n : ℕ). place_of l (reduced l.depth n)) e ∙ ap (λ (n : ℕ). place_of l n) (zero_stays l.depth)
     ∙ zero-mod (2 ^ l.shift)
 
-module _ {R : Type 0} where
-  keeps_then : (a b c : Caller R) → KeepsAll a b → KeepsAll b c → KeepsAll a c
-  keeps_then a b c first next = record {
-    kept = λ tag has. let was = first.kept tag has in let now = next.kept tag was.0 in (now.0, now.1 ∙ was.1);
-    none_else = λ tag has. first.none_else tag (next.none_else tag has);
-  }
-
-  keeps_then_gains : (named : ℕ → Type 0) (a b c : Caller R) → KeepsAll a b → Acquires named b c → Acquires named a c
-  keeps_then_gains named a b c keeps gains = record {
-    fresh = λ tag is has. gains.fresh tag is (keeps.kept tag has).0;
-    joined = gains.joined;
-    kept = λ tag has. let was = keeps.kept tag has in let now = gains.kept tag was.0 in (now.0, now.1 ∙ was.1);
-    none_else = λ tag has. ⊎_elim (λ before. inl (keeps.none_else tag before)) (λ is. inr is) (gains.none_else tag has);
-  }
-
-  pub gains_then_keeps : (named : ℕ → Type 0) (a b c : Caller R) → Acquires named a b → KeepsAll b c → Acquires named a c
-  gains_then_keeps named a b c gains keeps = record {
-    fresh = gains.fresh;
-    joined = λ tag is. (keeps.kept tag (gains.joined tag is)).0;
-    kept = λ tag has. let was = gains.kept tag has in let now = keeps.kept tag was.0 in (now.0, now.1 ∙ was.1);
-    none_else = λ tag has. gains.none_else tag (keeps.none_else tag has);
-  }
-
-  pub releases_then_keeps : (named : ℕ → Type 0) (a b c : Caller R) → Releases named a b → KeepsAll b c → Releases named a c
-  releases_then_keeps named a b c releases keeps = record {
-    gone = λ tag is has. releases.gone tag is (keeps.none_else tag has);
-    kept = λ tag no has. let was = releases.kept tag no has in let now = keeps.kept tag was.0 in (now.0, now.1 ∙ was.1);
-    none_else = λ tag has. releases.none_else tag (keeps.none_else tag has);
-  }
-
 module _ {R : Type 0} (l : Layout) (answer : Option ℕ) (old new : Agent R) (made : GetsPlainAndLooks l answer old new) where
   -- a get lists nobody
   pub waits_there : (list : ℕ) → WaitsAsBefore list (caller_of old) (caller_of new)
@@ -93,7 +64,7 @@ module _ {R : Type 0} (l : Layout) (old new : Agent R) (made : GetsPlainAndLooks
 module _ {R : Type 0} (l : Layout) where
   -- a sleep lists the agent on no other list, and no sleep changes what it holds
   sleep_keeps : (old new : Agent R) → IsSleep l old new → HoldsSame old new
-  sleep_keeps old new sleep = keeps_then (caller_of old) (caller_of sleep.listed) (caller_of new) sleep.lists.stays.holds
+  sleep_keeps old new sleep = same_then_same sleep.lists.stays.holds
       (finds_none l sleep.listed new sleep.none)
 
   sleep_waits : (old new : Agent R) → IsSleep l old new → (other : ℕ) → other ≢ SLEEPERS
@@ -103,8 +74,8 @@ module _ {R : Type 0} (l : Layout) where
 
   sleeps_keep : (sleeps : ℕ) (old new : Agent R) → AreSleeps sleeps l old new → HoldsSame old new
   sleeps_keep zero old new same = subst (λ (z : Agent R). HoldsSame old z) (sym same)
-      (record { kept = λ tag has. (has, refl); none_else = λ tag has. has })
-  sleeps_keep (suc sleeps) old new slept = keeps_then (caller_of old) (caller_of slept.0) (caller_of new)
+      (same_itself (caller_of old))
+  sleeps_keep (suc sleeps) old new slept = same_then_same
       (sleeps_keep sleeps old slept.0 slept.1) (sleep_keeps slept.0 new slept.2)
 
   sleeps_wait : (sleeps : ℕ) (old new : Agent R) → AreSleeps sleeps l old new → (other : ℕ) → other ≢ SLEEPERS
@@ -117,11 +88,8 @@ module _ {R : Type 0} (l : Layout) where
     -- what an agent gains that waits among the sleepers, and where it waits then
     gains_listed : WinsListed l tag old new → HoldsMore (λ other. other ≡ tag) old new
     gains_listed w =
-        let named : ℕ → Type 0 = λ other. other ≡ tag in let last = caller_of w.last in let won = caller_of w.won in
-        keeps_then_gains named (caller_of old) last (caller_of new) (sleeps_keep w.sleeps old w.last w.slept)
-        (keeps_then_gains named last (caller_of w.listed) (caller_of new) w.lists.stays.holds
-        (gains_then_keeps named (caller_of w.listed) won (caller_of new)
-        (searched_plain l (Some tag) w.listed w.won w.wins).gains.acquires w.gets_up.stays.holds))
+        same_then_more (sleeps_keep w.sleeps old w.last w.slept) (same_then_more w.lists.stays.holds
+        (more_then_same (searched_plain l (Some tag) w.listed w.won w.wins).gains.acquires w.gets_up.stays.holds))
 
     waits_listed : WinsListed l tag old new → (other : ℕ) → other ≢ SLEEPERS
         → WaitsAsBefore other (caller_of old) (caller_of new)
@@ -132,7 +100,7 @@ module _ {R : Type 0} (l : Layout) where
     -- the same of one that wins at once or waits
     pub gains_it : Wins l tag old new → HoldsMore (λ other. other ≡ tag) old new
     gains_it (inl made) = (searched_plain l (Some tag) old new made).gains.acquires
-    gains_it (inr s) = keeps_then_gains (λ other. other ≡ tag) (caller_of old) (caller_of s.tried) (caller_of new)
+    gains_it (inr s) = same_then_more
         (finds_none l old s.tried s.none) (gains_listed tag s.tried new s.wins)
 
     pub waits_so : Wins l tag old new → (other : ℕ) → other ≢ SLEEPERS → WaitsAsBefore other (caller_of old) (caller_of new)

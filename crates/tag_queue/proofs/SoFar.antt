@@ -1,7 +1,7 @@
 -- How far a list of tags is freed, tag by tag.
 use Rattle.std.specs.Prelude.{◌++◌, ◌+◌, ◌<◌, ◌^◌, ◌∷◌, ◌≡◌, ◌≢◌, ◌≤◌, ◌⊎◌}
 use Rattle.tag_queue.proofs.Uses.{[], Adds, among_one, ap, append_assoc, AreHeldOnce, arith, bit_or, Caller, Contains, Contains-append_left, Contains-append_right, Contains-push_cases, count_ones, count_ones-pow, count_ones-zero, EndsElsewhere, get_or, Give, GivesAll, Holds, inl, inr, is_in_mask}
-use Rattle.tag_queue.proofs.Uses.{IsCallerOf, IsInMask, IsTrue, IsWithin, length, length-append, List, Map, or_lt, place_of, place_small, pow_below, pow_pos, Record, record_of, refl, Releases, small_word, subst, suc, sym, take, take_more, Word, word_depth, word_of, words, zero, ℕ, ⊎_elim}
+use Rattle.tag_queue.proofs.Uses.{HoldsLess, IsCallerOf, IsInMask, IsTrue, IsWithin, length, length-append, List, Map, or_lt, place_of, place_small, pow_below, pow_pos, Record, record_of, refl, small_word, subst, suc, sym, take, take_more, Word, word_depth, word_of, words, zero, ℕ, ⊎_elim}
 use Rattle.tag_queue.proofs.Uses.{◌∙◌}
 use Rattle.tag_queue.proofs.Giving.{IsMaskOf, ones_more, not_before, none_in, mask_of_none, mask_of_one, mask_of_more, bit_of_other, gives_more, gives_none}
 
@@ -60,7 +60,7 @@ module _ {R : Type 0} (map : Map R) (tags : List ℕ) (i : ℕ) (old now : Calle
 
   -- once the last run is freed, all tags so far are
   module _ (next : Caller R) (found : ℕ) (adds : Adds (Word (Give word mask found)) now next)
-      (less : Releases (IsInMask map.shape.layout word mask) now next) (some : 1 ≤ length so.run) where
+      (less : HoldsLess (IsInMask map.shape.layout word mask) now next) (some : 1 ≤ length so.run) where
     abbrev all_gives : GivesAll map.shape.layout (so.done ++ so.run) old next
     all_gives = gives_more map old now next so.done so.run word mask found some so.mask_is
         so.given so.elsewhere adds less
@@ -129,7 +129,7 @@ module _ {R : Type 0} (map : Map R) (tags : List ℕ) (i : ℕ) (old now : Calle
 
     -- a tag of another word begins the next run, once the last one is freed
     pub begins_run : (next : Caller R) (found : ℕ) → IsCallerOf map next → Adds (Word (Give word mask found)) now next
-        → Releases (IsInMask map.shape.layout word mask) now next
+        → HoldsLess (IsInMask map.shape.layout word mask) now next
         → word ≢ word_of map.shape.layout (get_or tags i 0)
         → SoFar map tags (i + 1) old next (word_of map.shape.layout (get_or tags i 0))
         (2 ^ place_of map.shape.layout (get_or tags i 0))

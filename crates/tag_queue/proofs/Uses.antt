@@ -42,7 +42,7 @@ pub use Rattle.tag_core.proofs.Settlings.{unchanged-records}
 pub use Rattle.tag_core.proofs.TagBits.{among_else, among_here, among_small, only_among, only_is, place_small, small_word}
 pub use Rattle.tag_core.specs.Callers.{Adds, Holds, IsCallerOf, record_of}
 pub use Rattle.tag_core.specs.Gathering.{gathered, numbers}
-pub use Rattle.tag_core.specs.Holdings.{Acquires, IsInMask, KeepsAll, Releases}
+pub use Rattle.tag_core.specs.Holding.{HoldsLess, HoldsMore, HoldsSame, IsInMask}
 pub use Rattle.tag_core.specs.Opening.{AreNew, IsNew}
 pub use Rattle.tag_core.specs.Records.{record_after, tag_bit, tags_from}
 pub use Rattle.tag_core.specs.Reopening.{AreReopened, GoesOnFrom, IsNext, LeadsOn, reopened_record}

@@ -1,6 +1,6 @@
 -- How a list of tags is freed in one call.
 use Rattle.std.specs.Prelude.{◌++◌, ◌-◌, ◌<◌, ◌↔◌, ◌∷◌, ◌≡◌, ◌≢◌, ◌≤◌}
-use Rattle.tag_queue.specs.Uses.{[], All, AllPairs, Caller, ClearFollows, Contains, Give, IsTrue, Layout, length, List, Record, record_after, Releases, slice_index, Word, ℕ}
+use Rattle.tag_queue.specs.Uses.{[], All, AllPairs, Caller, ClearFollows, Contains, Give, HoldsLess, IsTrue, Layout, length, List, Record, record_after, slice_index, Word, ℕ}
 use Rattle.tag_model.specs.Event.{is_in_mask}
 use Rattle.tag_core.specs.Callers as core
 use Rattle.tag_queue.specs.declared.agent.Agent.{Agent}
@@ -52,7 +52,7 @@ record_after_runs (run ∷ runs) r = record_after (Word (Give run.word run.mask 
 
 -- the caller no longer holds the tags in the list: one step freed each run of it, and there was no other step
 pub record GivesAll {R : Type 0} (l : Layout) (tags : List ℕ) (old new : Caller R) : Type 0 where
-  pub less : Releases (Contains tags) old new
+  pub less : HoldsLess (Contains tags) old new
   pub runs : List Run
   pub cut : AreRuns l tags runs
   pub known : core.record_of new ≡ record_after_runs runs (core.record_of old)

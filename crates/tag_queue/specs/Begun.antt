@@ -11,7 +11,7 @@ use Rattle.tag_queue.specs.Agents.{layout_of, caller_of, hint_of, step_count, Ha
 use Rattle.tag_queue.specs.Gets.{GetsPlain, most_steps}
 
 -- a plain get for which there was room, with this answer, and this many tags freed and left
-pub record GetsFreed {R : Type 0} (queue : Queue R) (found : Found ℕ) (old new : Agent R) : Type 0 where
+pub record GetsAndReports {R : Type 0} (queue : Queue R) (found : Found ℕ) (old new : Agent R) : Type 0 where
   pub room : HasRoom old 1
   pub gets : GetsPlain (layout_of queue) found.answer old new
   pub left : found.left ≡ left_free (caller_of old) (caller_of new)

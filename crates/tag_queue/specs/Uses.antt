@@ -14,7 +14,7 @@ pub use Rattle.tag_search.specs.Vain.{MaySleep, TriesAll}
 pub use Rattle.tag_search.specs.declared.hint.Hint.{Hint}
 pub use Rattle.tag_core.specs.Callers.{Adds, IsCallerOf, record_of, SameMap}
 pub use Rattle.tag_core.specs.Chain.{CountsChain, GoesOn}
-pub use Rattle.tag_core.specs.Holdings.{Acquires, KeepsAll, Releases}
+pub use Rattle.tag_core.specs.Holding.{HoldsLess, HoldsMore, HoldsSame}
 pub use Rattle.tag_core.specs.Records.{record_after, tags_from}
 pub use Rattle.tag_core.specs.Settling.{AreSettled}
 pub use Rattle.tag_core.specs.declared.caller.Caller.{Caller}

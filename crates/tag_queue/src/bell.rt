@@ -12,12 +12,12 @@ ghost use Rattle.tag_queue.specs.Refusals.{bell_checks};
 use crate::agent::Agent;
 use crate::fault::QueueFault;
 use crate::queue::{Queue, Waits};
-use tag_bell::Told;
+use tag_bell::{Told, Turn};
 
 impl<R: Copy> Queue<R> {
-    /// Lists the agent among those that wait, with the next turn. Afterwards it has to try each tag, by a get that finds
-    /// none, before it may sleep. One step. `OtherWait` means that the queue's agents wait in groups.
-    pub fn list_self(&self, agent: &mut Agent<R>, list: u32) -> Result<(), QueueFault>
+    /// Lists the agent among those that wait. Afterwards it has to try each tag, by a get that finds none, before it may
+    /// sleep. One step. `OtherWait` means that the queue's agents wait in groups.
+    pub fn list_self(&self, agent: &mut Agent<R>, list: u32, turn: Turn) -> Result<(), QueueFault>
         requires agent { IsAgentOf self.now agent.old }
         requires within { list < LISTS }
         ensures agent { IsAgentOf self.now agent.new }
@@ -28,47 +28,19 @@ impl<R: Copy> Queue<R> {
         if self.waits != Waits::ByBell {
             return Err(QueueFault::OtherWait);
         }
-        self.enlist(agent, list);
+        self.enlist(agent, list, turn);
         Ok(())
     }
 
-    /// Lists the agent as `list_self` does, with the turn that it had: for one that was told and found no tag. One step. It
-    /// is refused as `list_self` is: `OtherWait`.
-    pub fn list_again(&self, agent: &mut Agent<R>, list: u32) -> Result<(), QueueFault>
-        requires agent { IsAgentOf self.now agent.old }
-        requires within { list < LISTS }
-        ensures agent { IsAgentOf self.now agent.new }
-        ensures refusals { RefusesBy (bell_checks self.now) (agent.new ≡ agent.old) result }
-        ensures lists { OnOk result (ListsSelf list agent.old agent.new) }
-        ensures bound { step_count agent.new ≤ 1 + step_count agent.old }
-    {
-        if self.waits != Waits::ByBell {
-            return Err(QueueFault::OtherWait);
-        }
-        self.enlist_again(agent, list);
-        Ok(())
-    }
-
-    /// Lists the agent, with the next turn.
-    pub(crate) fn enlist(&self, agent: &mut Agent<R>, list: u32)
+    /// Lists the agent.
+    pub(crate) fn enlist(&self, agent: &mut Agent<R>, list: u32, turn: Turn)
         requires agent { IsAgentOf self.now agent.old }
         requires within { list < LISTS }
         ensures agent { IsAgentOf self.now agent.new }
         ensures lists { ListsSelf list agent.old agent.new }
         ensures bound { step_count agent.new ≡ 1 + step_count agent.old }
     {
-        tag_bell::list_self(&self.map, &mut agent.caller, list);
-    }
-
-    /// Lists the agent, with the turn that it had.
-    pub(crate) fn enlist_again(&self, agent: &mut Agent<R>, list: u32)
-        requires agent { IsAgentOf self.now agent.old }
-        requires within { list < LISTS }
-        ensures agent { IsAgentOf self.now agent.new }
-        ensures lists { ListsSelf list agent.old agent.new }
-        ensures bound { step_count agent.new ≡ 1 + step_count agent.old }
-    {
-        tag_bell::list_again(&self.map, &mut agent.caller, list);
+        tag_bell::list_self(&self.map, &mut agent.caller, list, turn);
     }
 
     /// Ends the agent's wait, and returns whether somebody had told it, or it did not wait there. One that was told has

@@ -12,7 +12,7 @@ use crate::queue::Queue;
 use tag_search::Found;
 
 mod blocking;
-mod freed;
+mod reporting;
 mod sleeping;
 
 impl<R: Copy> Queue<R> {
@@ -28,7 +28,7 @@ impl<R: Copy> Queue<R> {
         ensures gets { IfOk result (λ answer. GetsAndLooks (GetsPlain (layout_of self.now) answer) agent.old agent.new) }
         ensures bound { step_count agent.new ≤ most_steps (layout_of self.now) + 1 + step_count agent.old }
     {
-        let Found { answer, left } = self.get_freed(agent)?;
+        let Found { answer, left } = self.get_and_report(agent)?;
         self.look_after(agent, left);
         Ok(answer)
     }
@@ -43,7 +43,7 @@ impl<R: Copy> Queue<R> {
         ensures gets { IfOk result (λ answer. GetsAndLooks (GetsShallow (layout_of self.now) depth answer) agent.old agent.new) }
         ensures bound { step_count agent.new ≤ most_steps (layout_of self.now) + 1 + step_count agent.old }
     {
-        let Found { answer, left } = self.get_shallow_freed(agent, depth)?;
+        let Found { answer, left } = self.get_shallow_and_report(agent, depth)?;
         self.look_after(agent, left);
         Ok(answer)
     }
@@ -62,7 +62,7 @@ impl<R: Copy> Queue<R> {
             → IfOk result (λ answer. GetsAndLooks (GetsBatch (layout_of self.now) n answer) agent.old agent.new) }
         ensures bound { step_count agent.new ≤ most_steps (layout_of self.now) + 1 + step_count agent.old }
     {
-        let Found { answer, left } = self.get_batch_freed(agent, n)?;
+        let Found { answer, left } = self.get_batch_and_report(agent, n)?;
         self.look_after(agent, left);
         Ok(answer)
     }

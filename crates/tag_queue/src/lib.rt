@@ -26,7 +26,7 @@ pub use gather::{QueueGatherFault, QueueTotals};
 pub use queue::{Options, Queue, Waits};
 pub use resizes::{ResizeCause, ResizeFault};
 pub use step_ledger::{GatherCause, Numbered};
-pub use tag_bell::{LISTENERS, SLEEPERS, Told, Woken};
+pub use tag_bell::{LISTENERS, SLEEPERS, Told, Turn, Woken};
 pub use tag_layout::{MAX_DEPTH, MAX_SHIFT};
 pub use tag_model::{MAX_CALLERS, MOST_WON};
 pub use tag_search::{Found, Unfinished};

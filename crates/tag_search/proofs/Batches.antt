@@ -1,7 +1,7 @@
 -- What is known in the middle of a search for several tags.
-use Rattle.std.specs.Prelude.{◌%◌, ◌*◌, ◌++◌, ◌+◌, ◌/◌, ◌<◌, ◌^◌, ◌∷◌, ◌≡◌, ◌≤◌}
-use Rattle.tag_search.proofs.Uses.{[], AllSet, ap, append_assoc, arith, batch_over, batch_passed, batch_won, Claimed, dec_lt, dite, IsBatchGet, IsBatchSearch, IsBatchVisit, IsFirstClear, IsSweptLook, Layout, length, length-append, List, Look, mod_below, no_run, None, numbers, Option, pow_pos}
-use Rattle.tag_search.proofs.Uses.{reduced, refl, run_lost, run_mask, run_taken, scan_order, Some, subst, suc, swept_look, sym, tag_at, true, word_bits-le, word_of, word_of-below, words, WordStep, zero, ℕ, ◌∙◌}
+use Rattle.std.specs.Prelude.{◌%◌, ◌*◌, ◌+◌, ◌/◌, ◌<◌, ◌^◌, ◌∷◌, ◌≡◌, ◌≤◌}
+use Rattle.tag_search.proofs.Uses.{[], AllSet, ap, arith, batch_over, batch_passed, batch_won, Claimed, dec_lt, dite, IsBatchGet, IsBatchSearch, IsBatchVisit, IsFirstClear, IsSweptLook, Layout, length, length-append, List, Look, mod_below, no_run, numbers, Option, pow_pos}
+use Rattle.tag_search.proofs.Uses.{reduced, refl, run_lost, run_mask, run_taken, scan_order, subst, suc, swept_look, sym, true, word_bits-le, word_of, word_of-below, words, WordStep, zero, ℕ, ◌∙◌}
 use Rattle.tag_search.proofs.BatchAlone.{batch_alone}
 use Rattle.tag_search.proofs.Bounds.{sweep_bound}
 use Rattle.tag_search.proofs.Orders.{length-numbers, order-split}
@@ -17,26 +17,6 @@ pub same_first_clear : (found depth a b : ℕ) → IsFirstClear found 0 depth a 
 same_first_clear found depth a b x y = dite (dec_lt b a)
     (λ (less : b < a). absurd (let t = x.first b (omega arith) less in let f = y.clear in omega arith))
     (λ (no : b < a → ⊥). omega arith)
-
--- a search that has an answer visits no further words
-pub batch_stops : (l : Layout) (n : ℕ) {is : List ℕ} {steps : List WordStep} (won : ℕ × ℕ) (answer : Option (ℕ × ℕ))
-    (more : List ℕ) → answer ≡ Some won
-    → IsBatchSearch l n is steps answer → IsBatchSearch l n (is ++ more) steps answer
-batch_stops l n won answer more e batch_over = absurd (let no : None ≡ Some won = e in cc)
-batch_stops l n won answer more e (batch_won v) = batch_won v
-batch_stops l n won answer more e (batch_passed v search) = batch_passed v (batch_stops l n won answer more e search)
-
--- a search without an answer goes on with further words
-pub batch_goes_on : (l : Layout) (n : ℕ) {is : List ℕ} {steps : List WordStep} (first : Option (ℕ × ℕ)) (more : List ℕ)
-    (rest : List WordStep) (answer : Option (ℕ × ℕ))
-    → first ≡ None → IsBatchSearch l n is steps first → IsBatchSearch l n more rest answer
-    → IsBatchSearch l n (is ++ more) (steps ++ rest) answer
-batch_goes_on l n first more rest answer e batch_over search = search
-batch_goes_on l n first more rest answer e (batch_won {i = i} {place = place} {bits = bits} v) search =
-    absurd (let no : Some (tag_at l i place, bits) ≡ None = e in cc)
-batch_goes_on l n first more rest answer e (batch_passed {i = i} {is = is} {steps = s} {rest = r} v left) search =
-    subst (λ xs. IsBatchSearch l n (i ∷ (is ++ more)) xs answer) (sym (append_assoc s r rest))
-    (batch_passed v (batch_goes_on l n first more rest answer e left search))
 
 swept_look_bound : {i found : ℕ} {steps : List WordStep} → IsSweptLook i found steps → length steps ≤ 4
 swept_look_bound {i = i} {found = found} (swept_look {sweep = sweep} s fits) = let a = sweep_bound s in

@@ -1,6 +1,6 @@
 -- After a get its caller holds the tags that it held before and those answered.
 use Rattle.std.specs.Prelude.{◌*◌, ◌+◌, ◌-◌, ◌<◌, ◌==◌, ◌^◌, ◌≡◌, ◌≤◌}
-use Rattle.tag_search.proofs.Uses.{acquired_as, Acquires, acquires, alone_named, ap, arith, bit_at, bit_at-shr, bit_at-zero, bit_at_cat_high, bit_at_cat_low, Caller, dec_lt, dite, eq-eqb, eqb-true, Holds, IfSome, inl, IsAnswer, IsInMask, IsInRun, keeps_all, Layout, mul-div_cancel, named_alone, None}
+use Rattle.tag_search.proofs.Uses.{acquires, alone_named, ap, arith, bit_at, bit_at-shr, bit_at-zero, bit_at_cat_high, bit_at_cat_low, Caller, dec_lt, dite, eq-eqb, eqb-true, Holds, HoldsMore, IfSome, inl, is_one, IsAnswer, IsInMask, IsInRun, keeps_all, Layout, more_like, mul-div_cancel, None}
 use Rattle.tag_search.proofs.Uses.{Option, place_of, place_of-tag_at, pow_pos, record_of, slot_of, Some, subst, sym, tag_at, tag_at-back, tag_at-below, word_bits, word_depth, word_of, word_of-below, word_of-tag_at, ℕ, ◌∙◌}
 use Rattle.tag_search.proofs.OneTag.{both_true, and_true}
 use Rattle.tag_search.proofs.RunFacts.{IsBelow, WonRun}
@@ -63,7 +63,7 @@ module _ {R : Type 0} (old new : Caller R) (narrow : old.shape.value.layout.shif
   pub acquires_answer : (answer : Option ℕ) → Won sizes answer (record_of old) (record_of new)
       → IfSome answer (λ tag. ¬ (Holds old tag))
       → ((tag : ℕ) → Holds old tag → Holds new tag → slot_of new tag ≡ slot_of old tag)
-      → Acquires (IsAnswer answer) old new
+      → HoldsMore (IsAnswer answer) old new
   acquires_answer None gained fresh slots = let all = keeps_all old new narrow gained.shape slots gained.held in
       record {
         fresh = λ tag is. absurd is;
@@ -74,7 +74,7 @@ module _ {R : Type 0} (old new : Caller R) (narrow : old.shape.value.layout.shif
   acquires_answer (Some answer) gained fresh slots =
       let i : ℕ = word_of sizes answer in let bit : ℕ = 2 ^ place_of sizes answer in
       let to = alone_named old.shape.value narrow answer in
-      acquired_as old new (IsInMask sizes i bit) (λ tag. tag ≡ answer) to (named_alone old.shape.value narrow answer)
+      more_like (is_one old.shape.value narrow answer)
       (acquires old new narrow gained.shape slots i bit (word_of-below sizes answer gained.fact)
       (λ tag named. subst (λ (t : ℕ). ¬ (Holds old t)) (sym (to tag named)) fresh)
       (λ tag named. subst (λ (t : ℕ). t < sizes.depth) (sym (to tag named)) gained.fact) gained.held)
@@ -83,7 +83,7 @@ module _ {R : Type 0} (old new : Caller R) (narrow : old.shape.value.layout.shif
   pub acquires_run : (answer : Option (ℕ × ℕ)) → WonRun sizes answer (record_of old) (record_of new)
       → ((tag : ℕ) → IsInRun answer tag → ¬ (Holds old tag))
       → ((tag : ℕ) → Holds old tag → Holds new tag → slot_of new tag ≡ slot_of old tag)
-      → Acquires (IsInRun answer) old new
+      → HoldsMore (IsInRun answer) old new
   acquires_run None gained fresh slots = let all = keeps_all old new narrow gained.shape slots gained.held in record {
     fresh = fresh;
     joined = λ tag is. absurd is;
@@ -95,7 +95,7 @@ module _ {R : Type 0} (old new : Caller R) (narrow : old.shape.value.layout.shif
       let to = named_in_run sizes won gained.fact in
       let first : won.0 < sizes.depth = let low = tag_at-below sizes i (place_of sizes won.0) gained.fact.0 in
       let back = tag_at-back sizes won.0 in omega arith in
-      acquired_as old new (IsInMask sizes i mask) (IsInRun (Some won)) to (run_named sizes won gained.fact)
+      more_like (λ tag. (to tag, run_named sizes won gained.fact tag))
       (acquires old new narrow gained.shape slots i mask (word_of-below sizes won.0 first)
       (λ tag named. fresh tag (to tag named))
       (λ tag named. run_below sizes won gained.fact tag (to tag named)) gained.held)

@@ -1,6 +1,6 @@
 -- How a get through the port of a map's caller changes the caller.
 use Rattle.std.specs.Prelude.{◌++◌, ◌<◌, ◌≡◌, ◌≤◌}
-use Rattle.tag_search.proofs.Uses.{Acquires, adds_on, AddsAll, AddsThrough, ap, arith, batch_words, Bool, Caller, Chooses, ChoosesRun, Gains, GainsRun, Hint, IfOk, inl, IsAlone, IsAnswer, IsBatchChoice, IsBatchGet, IsBegun, IsCallerOf, IsChoice, IsGet, IsInRun, IsRestOfGet, IsWonAtOnce, Layout}
+use Rattle.tag_search.proofs.Uses.{adds_on, AddsAll, AddsThrough, ap, arith, batch_words, Bool, Caller, Chooses, ChoosesRun, Gains, GainsRun, Hint, HoldsMore, IfOk, inl, IsAlone, IsAnswer, IsBatchChoice, IsBatchGet, IsBegun, IsCallerOf, IsChoice, IsGet, IsInRun, IsRestOfGet, IsWonAtOnce, Layout}
 use Rattle.tag_search.proofs.Uses.{layout_of, List, Makes, Map, None, Ok, Option, plain_reach, plain_visits, Ports, Reach, Record, record_of, reduced, refl, Result, SameMap, shallow_reach, shallow_visits, Shape, Shared, Some, subst, sym, Unfinished, Visit, visits, visits_from, word_bits-le}
 use Rattle.tag_search.proofs.Uses.{word_depth, word_of, words, WordStep, ℕ, ◌∙◌}
 use Rattle.tag_core.specs.declared.claims.Spent.{Spent}
@@ -32,7 +32,7 @@ module _ {R : Type 0} (map : Map R) (caller now : Caller R) (own : IsCallerOf ma
   narrow = subst (λ (k : Shape). k.layout.shift ≤ 6) (sym own.1) map.small.1
 
   -- what a get won is what it gains
-  gains : (answer : Option ℕ) → Acquires (IsAnswer answer) caller now
+  gains : (answer : Option ℕ) → HoldsMore (IsAnswer answer) caller now
       → Won sizes answer (record_of caller) (record_of now) → SameMap caller now → Gains sizes answer caller now
   gains answer acquires won same_map = record {
     acquires = acquires;
@@ -44,7 +44,7 @@ module _ {R : Type 0} (map : Map R) (caller now : Caller R) (own : IsCallerOf ma
     same_map = same_map;
   }
 
-  gains_run : (answer : Option (ℕ × ℕ)) → Acquires (IsInRun answer) caller now
+  gains_run : (answer : Option (ℕ × ℕ)) → HoldsMore (IsInRun answer) caller now
       → WonRun sizes answer (record_of caller) (record_of now) → SameMap caller now → GainsRun sizes answer caller now
   gains_run answer acquires won same_map = record {
     acquires = acquires;

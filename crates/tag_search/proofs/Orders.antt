@@ -1,5 +1,5 @@
 -- Consecutive numbers: the parts of a list of them, and facts of each.
-use Rattle.tag_search.proofs.Uses.{[], All, All-append, All-cons, All-nil, ap, arith, length, length-append, List, min, numbers, numbers_from, refl, scan_order, suc, sym, zero, ℕ, ◌∙◌}
+use Rattle.tag_search.proofs.Uses.{[], All, All-append, All-cons, All-nil, ap, arith, left_of_scan, length, length-append, List, min, numbers, numbers_from, refl, scan_order, suc, sym, zero, ℕ, ◌∙◌}
 use Rattle.std.proofs.Common.{append_assoc}
 use Rattle.std.specs.Prelude.{Bool, true, false, ◌++◌, ◌+◌, ◌-◌, ◌<◌, ◌∷◌, ◌≡◌, ◌≤◌}
 
@@ -56,6 +56,41 @@ pub order-split : (first count : ℕ) → first ≤ count → scan_order first c
     ++ numbers 0 first
 order-split first count h = let e : min first count ≡ first = omega arith in
     ap (λ (end : ℕ). numbers first count ++ numbers 0 end) e
+
+-- a scan begins with all of it left
+pub scan-begun : (count start : ℕ) → scan_order start count true ≡ left_of_scan count start 0
+scan-begun count start =
+    let e : start ≡ start + 0 = omega arith in let e' : 0 ≡ 0 - (count - start) = omega arith in
+    ap (λ (x : ℕ). numbers x count ++ numbers 0 (min start count)) e
+    ∙ ap (λ (x : ℕ). numbers (start + 0) count ++ numbers x (min start count)) e'
+
+-- the next of a scan, from the start on
+pub scan-next : (count start tried : ℕ) → tried < count - start
+    → left_of_scan count start tried ≡ (start + tried) ∷ left_of_scan count start (tried + 1)
+scan-next count start tried low =
+    let e : start + tried + 1 ≡ start + (tried + 1) = omega arith in
+    let e' : tried - (count - start) ≡ tried + 1 - (count - start) = omega arith in
+    ap (λ (xs : List ℕ). xs ++ numbers (tried - (count - start)) (min start count))
+    (numbers-cons (start + tried) count (omega arith))
+    ∙ ap (λ (x : ℕ × ℕ). (start + tried) ∷ (numbers x.0 count ++ numbers x.1 (min start count))) (λ z. (e z, e' z))
+
+-- the next of a scan, before the start
+pub scan-next-before : (count start tried : ℕ) → start ≤ count → count - start ≤ tried → tried < count
+    → left_of_scan count start tried ≡ (tried - (count - start)) ∷ left_of_scan count start (tried + 1)
+scan-next-before count start tried h k low =
+    let at : ℕ = tried - (count - start) in let end : ℕ = min start count in
+    let e : at + 1 ≡ tried + 1 - (count - start) = omega arith in
+    ap (λ (xs : List ℕ). xs ++ numbers at end) (numbers-none (start + tried) count (omega arith))
+    ∙ numbers-cons at end (omega arith) ∙ ap (λ (x : ℕ). at ∷ numbers x end) e
+    ∙ ap (λ (xs : List ℕ). at ∷ (xs ++ numbers (tried + 1 - (count - start)) end))
+    (sym (numbers-none (start + (tried + 1)) count (omega arith)))
+
+-- nothing is left of a scan of all numbers
+pub scan-over : (count start tried : ℕ) → count ≤ tried → left_of_scan count start tried ≡ []
+scan-over count start tried h =
+    ap (λ (xs : List ℕ). xs ++ numbers (tried - (count - start)) (min start count))
+    (numbers-none (start + tried) count (omega arith))
+    ∙ numbers-none (tried - (count - start)) (min start count) (omega arith)
 
 -- a scan has no place twice, so at most as many as its limit
 pub length-scan_order : (start limit : ℕ) (wrap : Bool) → length (scan_order start limit wrap) ≤ limit

@@ -1,7 +1,7 @@
 -- A batch get over a shared map adds the tags that it won to its caller's held set, and keeps the rest.
 use Rattle.std.specs.Prelude.{◌%◌, ◌*◌, ◌+◌, ◌-◌, ◌<◌, ◌^◌, ◌∷◌, ◌≡◌, ◌≤◌}
 use Rattle.tag_search.proofs.Uses.{[], and_le_l, and_mod, and_zero_l, ap, arith, batch_over, batch_passed, batch_won, bit_and, bit_at, bit_at-shr, bit_at_above, cases_lt, Claimed, count_of_run, count_ones, count_ones-zero, div-mul-le_self, held_with_run, IfSome, IsBatchSearch, IsBatchVisit}
-use Rattle.tag_search.proofs.Uses.{IsSweptLook, joined, Layout, List, Look, mod-eq-sub-div-mul, mul-mod_left, no_run, None, ones, ones_cat, Option, place_of, place_of-tag_at, pow_pos, Record, record_after, record_after_all, refl, run_lost, run_mask, run_taken, run_won, Some, subst, swept_look, sym}
+use Rattle.tag_search.proofs.Uses.{IsSweptLook, joined, Layout, List, Look, mod-eq-sub-div-mul, mul-mod_left, no_run, None, ones_cat, Option, place_of, place_of-tag_at, pow_pos, Record, record_after, record_after_all, refl, run_lost, run_mask, run_taken, run_won, Some, subst, swept_look, sym}
 use Rattle.tag_search.proofs.Uses.{tag_at, without, Word, word_bits, word_depth, word_of, word_of-tag_at, WordStep, ℕ, ⊎_elim, ◌∙◌}
 use Rattle.tag_search.proofs.Runs.{run_below}
 use Rattle.tag_search.proofs.SharedFacts.{Took, TookNone, took_more, took_none, took_look, sweep_took, took_lost}

@@ -1,6 +1,6 @@
 -- The steps that calls on a shared map add, in the form of the port's clauses.
 use Rattle.std.specs.Prelude.{◌+◌, ◌<◌, ◌^◌, ◌∷◌, ◌≡◌, ◌≢◌}
-use Rattle.tag_search.proofs.Uses.{[], Acquires, Adds, adds_on, AddsAll, AddsThrough, AddsTwo, ap, arith, bit_at, bit_at-lt, bit_at_or, bit_is, bit_or, Caller, Claimed, count_ones, count_ones-zero, dite, Err, FindsHeldBy, FindsWord, freed_by, get_or, get_or-set_other, get_or-set_same, HasRoom}
+use Rattle.tag_search.proofs.Uses.{[], Adds, adds_on, AddsAll, AddsThrough, AddsTwo, ap, arith, bit_at, bit_at-lt, bit_at_or, bit_is, bit_or, Caller, Claimed, count_ones, count_ones-zero, dite, Err, FindsHeldBy, FindsWord, freed_by, get_or, get_or-set_other, get_or-set_same, HasRoom, HoldsMore}
 use Rattle.tag_search.proofs.Uses.{held_after_word, Holds, IfErr, IfOk, inl, inr, IsCallerOf, IsKeepingSweep, IsLeastKept, IsSweep, joined, Keep, KeepsLeast, kept_alone, kept_one, latest_after_all, latest_of, Layout, layout_of, length, List, LookAside, Map, minus_le, none_where_taken, Ok, place_of}
 use Rattle.tag_search.proofs.Uses.{Ports, Record, Result, SameRoom, Shape, Shared, Spill, subst, Swap, sym, tag_at, tag_at-back, tag_bit, total, without, Word, word_of, words, WordStep, ℕ, ℕ_discrete, ◌∙◌}
 use Rattle.tag_core.proofs.TagBits.{small_word}
@@ -104,7 +104,7 @@ swept i mask = swept_so (IsSweep i mask) i
 -- a sweep that kept the least tag, on a map of the caller
 module _ {R : Type 0} (m : Map R) (old new : Caller R) (own : IsCallerOf m old) (i place rest : ℕ)
     (kept : KeepsLeast (layout_of m) i place rest old new)
-    (gains : Acquires (λ t. t ≡ tag_at (layout_of m) i place) old new) where
+    (gains : HoldsMore (λ t. t ≡ tag_at (layout_of m) i place) old new) where
   -- what was swept is a word of 64 bits
   pub mask_small : kept.mask < 2 ^ 64
   mask_small = small_word m.shape m.small.1 i kept.mask kept.within

@@ -1,7 +1,7 @@
 -- A get over a shared map adds the tag that it won to its caller's held set, and keeps the rest.
 use Rattle.std.specs.Prelude.{◌++◌, ◌+◌, ◌<◌, ◌^◌, ◌∷◌, ◌≡◌, ◌≤◌}
 use Rattle.tag_search.proofs.Uses.{[], All, All-head, All-tail, AllByRecursion, ap, arith, at_once, bit_at, Claimed, count_of, count_ones, count_ones-pow, empty, FindsWord, get_or, held_with, IfSome, IsKeepingSweep, IsPass, IsRetry, IsSearch, IsSweep, IsTries, IsVisit, joined, kept_alone, kept_one}
-use Rattle.tag_search.proofs.Uses.{Layout, List, Look, loses, no_turn, None, none_left, none_where_taken, ones, Option, or_zero_r, over, pass, passed, place_of-tag_at, Record, record_after, record_after-append, record_after_all, refl, retried, set, set-get_or, Some, spilled, subst, sym, tag_at}
+use Rattle.tag_search.proofs.Uses.{Layout, List, Look, loses, no_turn, None, none_left, none_where_taken, Option, or_zero_r, over, pass, passed, place_of-tag_at, Record, record_after, record_after-append, record_after_all, refl, retried, set, set-get_or, Some, spilled, subst, sym, tag_at}
 use Rattle.tag_search.proofs.Uses.{tag_at-below, turn_kept, turn_passed, turn_won, unseen, Visit, wins, without, won, won_where_clear, Word, word_bits, word_depth, word_of-tag_at, WordStep, ℕ, ◌∙◌}
 pub use Rattle.tag_core.proofs.OneBit.{count_ones-zero}
 use Rattle.tag_search.proofs.Inside.{IsInside}

@@ -30,7 +30,7 @@ pub use Rattle.tag_search.specs.Freed.{spilled as freed_by, freed_of, held_of, l
 pub use Rattle.tag_search.specs.Gains.{count_of, count_of_run, Gains, GainsRun, held_with, held_with_run, IsAnswer, IsInRun}
 pub use Rattle.tag_search.specs.Gets.{IsGet}
 pub use Rattle.tag_search.specs.Hints.{hint_after_get, reduced}
-pub use Rattle.tag_search.specs.Order.{numbers, numbers_from, scan_order}
+pub use Rattle.tag_search.specs.Order.{left_of_scan, numbers, numbers_from, scan_order}
 pub use Rattle.tag_search.specs.Places.{places_of}
 pub use Rattle.tag_search.specs.Plain.{IsTaken, Plain, plain_words, RunsAlone}
 pub use Rattle.tag_search.specs.PlainLaws.{words_after-append}
@@ -47,12 +47,13 @@ pub use Rattle.tag_search.specs.declared.hint.Hint.{Hint}
 pub use Rattle.tag_search.specs.declared.search.Unfinished.{Unfinished}
 pub use Rattle.tag_search.specs.declared.search.Unfinished.TheVariants.{Full, Lost, NotBegun}
 pub use Rattle.tag_search.specs.declared.shared.Shared.{Shared}
-pub use Rattle.tag_core.proofs.Holdings.{acquired_as, acquires, alone_named, keeps_all, named_alone, released_as}
+pub use Rattle.tag_core.proofs.Holdings.{acquires, alone_named, is_one, keeps_all}
+pub use Rattle.tag_model.proofs.HoldingFacts.{less_like, more_like}
 pub use Rattle.tag_core.proofs.Masks.{bit_minus, minus_le}
 pub use Rattle.tag_core.proofs.OneBit.{bit_is, count_ones-pow, count_ones-zero, none_where_taken, won_where_clear}
 pub use Rattle.tag_core.specs.Callers.{Adds, AddsTwo, Holds, IsCallerOf, layout_of, record_of, SameMap, slot_of}
 pub use Rattle.tag_core.specs.Histories.{Cells, cells_after, cells_of, EachFinds, FindsIn, History, steps_by}
-pub use Rattle.tag_core.specs.Holdings.{Acquires, IsInMask}
+pub use Rattle.tag_core.specs.Holding.{HoldsMore, IsInMask}
 pub use Rattle.tag_core.specs.Keeping.{IsLeastIn, KeepsLeast}
 pub use Rattle.tag_core.specs.Records.{held_after_word, joined, record_after, tag_bit}
 pub use Rattle.tag_core.specs.Steps.{changed_at, Finds, Quiet, without, Words, words_after, words_after_all}

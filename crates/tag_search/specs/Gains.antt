@@ -1,7 +1,7 @@
 -- What a get over a shared map changes of its caller.
 use Rattle.std.specs.Prelude.{◌*◌, ◌+◌, ◌^◌, ◌≡◌}
 use Rattle.tag_search.specs.Uses.{bit_at, Caller, count_ones, joined, Layout, List, None, Option, place_of, record_of, SameMap, Some, word_of, ℕ}
-use Rattle.tag_core.specs.Holdings.{Acquires}
+use Rattle.tag_core.specs.Holding.{HoldsMore}
 
 -- the held set with the tag won, if there is one
 abbrev pub held_with : Layout → Option ℕ → List ℕ → List ℕ
@@ -20,7 +20,7 @@ IsAnswer (Some answer) tag = tag ≡ answer
 
 -- the caller acquires the tag answered, if there is one, and no other, and gave nothing back
 pub record Gains {R : Type 0} (l : Layout) (answer : Option ℕ) (old new : Caller R) : Type 0 where
-  pub acquires : Acquires (IsAnswer answer) old new
+  pub acquires : HoldsMore (IsAnswer answer) old new
   pub held : (record_of new).held ≡ held_with l answer (record_of old).held
   pub count : (record_of new).won ≡ (record_of old).won + count_of answer
   pub back : (record_of new).back ≡ (record_of old).back
@@ -45,7 +45,7 @@ count_of_run (Some won) = count_ones won.1
 
 -- as `Gains`, for the tags of a batch
 pub record GainsRun {R : Type 0} (l : Layout) (answer : Option (ℕ × ℕ)) (old new : Caller R) : Type 0 where
-  pub acquires : Acquires (IsInRun answer) old new
+  pub acquires : HoldsMore (IsInRun answer) old new
   pub held : (record_of new).held ≡ held_with_run l answer (record_of old).held
   pub count : (record_of new).won ≡ (record_of old).won + count_of_run answer
   pub back : (record_of new).back ≡ (record_of old).back

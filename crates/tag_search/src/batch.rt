@@ -3,7 +3,7 @@ ghost use Rattle.std.specs.Prelude.{◌≡◌, ◌≢◌, ℕ, ◌+◌, ◌*◌,
 ghost use Rattle.tag_core.specs.Steps.{without};
 ghost use Rattle.tag_core.specs.declared.word_step.WordStep.TheVariants.{Claimed};
 ghost use Rattle.tag_layout.specs.Layout.{words, word_depth};
-ghost use Rattle.tag_search.specs.Order.{numbers};
+ghost use Rattle.tag_search.specs.Order.{left_of_scan};
 ghost use Rattle.tag_search.specs.Batch.{batch_words, run_mask, run_won, IsSweptLook, IsBatchVisit, IsBatchSearch};
 ghost use Rattle.tag_search.specs.Added.{AddsSteps, SameRoom};
 
@@ -38,9 +38,7 @@ fn claim_run<P: Port>(port: &mut P, word: u32, place: u32, n: u32) -> Option<u64
     ensures lost { IfNone result ((found : ℕ) × (without (run_mask n place) found ≡ 0) × SameRoom P.has_room port.old port.new
         × P.adds port.old (Claimed word (run_mask n place) found ∷ []) port.new) }
 {
-    let Ok(claim) = port.claim(word, run_of(n, place)) else {
-        unreachable!()
-    };
+    let claim = port.claim(word, run_of(n, place), n);
     if claim.won == 0 {
         return None;
     }
@@ -85,35 +83,23 @@ fn visit_for_run<P: Port>(port: &mut P, layout: Layout, word: u32, n: u32) -> Op
     Some((place, bits))
 }
 
-/// Visits the words `from .. end`, until a claim wins.
+/// Returns the word that comes after `visited` others of `count` words, in cyclic order from `first`.
 #[inline]
-fn runs_between<P: Port>(
-    port: &mut P,
-    layout: Layout,
-    n: u32,
-    from: u32,
-    end: u32,
-) -> Option<(u32, u64)>
-    requires port { P.ready port.old }
-    requires sizes { P.sizes port.old ≡ layout }
-    requires words { end ≤ words layout }
-    requires room { P.has_room port.old n }
-    requires some { (1 ≤ n) × (n ≤ 64) }
-    ensures port { P.ready port.new }
-    ensures sizes { P.sizes port.new ≡ P.sizes port.old }
-    ensures room { IfNone result (SameRoom P.has_room port.old port.new) }
-    ensures tags { IfSome result (λ won. won.0 + n ≤ layout.depth) }
-    ensures search { AddsSteps P.adds port.old port.new (λ steps. IsBatchSearch layout n (numbers from end) steps result) }
+fn word_after(count: u32, first: u32, visited: u32) -> u32
+    requires first { first ≤ count }
+    requires more { visited < count }
+    ensures word { result < count }
+    ensures order { left_of_scan count first visited ≡ result ∷ left_of_scan count first (visited + 1) }
 {
-    for word in from..end {
-        if let Some((place, bits)) = visit_for_run(port, layout, word, n) {
-            return Some((layout.tag_at(word, place), bits));
-        }
+    let behind = count - first;
+    if visited < behind {
+        first + visited
+    } else {
+        visited - behind
     }
-    None
 }
 
-/// Visits all words in cyclic order from `first`, until a claim wins.
+/// Visits all words in cyclic order from `first`, until a claim wins. It is one loop, so that a visit is compiled once.
 #[inline]
 pub fn search_run<P: Port>(port: &mut P, layout: Layout, n: u32, first: u32) -> Option<(u32, u64)>
     requires port { P.ready port.old }
@@ -126,8 +112,12 @@ pub fn search_run<P: Port>(port: &mut P, layout: Layout, n: u32, first: u32) -> 
     ensures tags { IfSome result (λ won. won.0 + n ≤ layout.depth) }
     ensures search { AddsSteps P.adds port.old port.new (λ steps. IsBatchSearch layout n (batch_words layout first) steps result) }
 {
-    match runs_between(port, layout, n, first, layout.words()) {
-        Some(won) => Some(won),
-        None => runs_between(port, layout, n, 0, first),
+    let count = layout.words();
+    for visited in 0..count {
+        let word = word_after(count, first, visited);
+        if let Some((place, bits)) = visit_for_run(port, layout, word, n) {
+            return Some((layout.tag_at(word, place), bits));
+        }
     }
+    None
 }

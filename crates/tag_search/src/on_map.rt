@@ -2,7 +2,7 @@
 ghost use Rattle.std.specs.Prelude.{◌≡◌, ◌≢◌, ℕ, ◌^◌, ◌↔◌, ◌⊎◌, ◌≤◌, false, List, IsTrue, IsOk, IfOk, IfErr, IfNone, OnErr, Some, Err};
 ghost use Rattle.tag_layout.specs.Layout.{word_bits, word_of, place_of};
 ghost use Rattle.tag_core.specs.Callers.{layout_of, IsCallerOf, Holds, Adds};
-ghost use Rattle.tag_core.specs.Holdings.{Releases};
+ghost use Rattle.tag_core.specs.Holding.{HoldsLess};
 ghost use Rattle.tag_core.specs.declared.step.Step.TheVariants.{Word};
 ghost use Rattle.tag_core.specs.declared.word_step.WordStep.TheVariants.{Give, Put};
 ghost use Rattle.tag_core.specs.declared.word_step.WordStep.{WordStep};
@@ -185,7 +185,7 @@ pub fn put<R>(map: &Map<R>, caller: &mut Caller<R>, hint: &mut Hint, tag: u32)
     ensures caller { IsCallerOf map.now caller.new }
     ensures step { let l = layout_of map.now in let word = word_of l tag in let bit = 2 ^ place_of l tag in
         (found : ℕ) × Adds (Word (Put word bit found)) caller.old caller.new }
-    ensures released { Releases (λ t. t ≡ tag) caller.old caller.new }
+    ensures released { HoldsLess (λ t. t ≡ tag) caller.old caller.new }
     ensures alone { let l = layout_of map.now in let pool = pool_left caller.old in
         LeavesPool (set_aside (word_of l tag) (place_of l tag) pool) caller.old caller.new }
     ensures hint { ClearFollows tag hint.old hint.new }
@@ -202,7 +202,7 @@ pub fn give<R>(map: &Map<R>, caller: &mut Caller<R>, hint: &mut Hint, tag: u32)
     ensures caller { IsCallerOf map.now caller.new }
     ensures step { let l = layout_of map.now in let word = word_of l tag in let bit = 2 ^ place_of l tag in
         (found : ℕ) × Adds (Word (Give word bit found)) caller.old caller.new }
-    ensures released { Releases (λ t. t ≡ tag) caller.old caller.new }
+    ensures released { HoldsLess (λ t. t ≡ tag) caller.old caller.new }
     ensures alone { let l = layout_of map.now in let pool = pool_left caller.old in
         LeavesPool (free_at (word_of l tag) (2 ^ place_of l tag) pool) caller.old caller.new }
     ensures hint { ClearFollows tag hint.old hint.new }

@@ -10,7 +10,7 @@ ghost use Rattle.tag_search.specs.Writes.{WritesBits, IsIn, IsTidy};
 
 use crate::plain::PlainPort;
 use crate::port::Port;
-use tag_core::{Claim, Spent};
+use tag_core::Claim;
 use tag_layout::Layout;
 
 impl Port for PlainPort {
@@ -48,30 +48,26 @@ impl Port for PlainPort {
     }
 
     #[inline]
-    fn claim(&mut self, word: u32, mask: u64) -> Result<Claim, Spent>
+    fn claim(&mut self, word: u32, mask: u64, _asked: u32) -> Claim
         requires word { word < words self.old.layout }
         requires mask { IsWithin self.old.layout word mask }
         ensures layout { self.new.layout ≡ self.old.layout }
-        ensures found { IsOkAnd result (λ claim. claim.found ≡ slice_index self.old.word word) }
-        ensures won { IfOk result (λ claim. claim.won ≡ without mask claim.found) }
+        ensures found { result.found ≡ slice_index self.old.word word }
+        ensures won { result.won ≡ without mask result.found }
         ensures word { WritesBits self.old.word self.new.word word (IsIn mask) 1 }
         ensures aside { self.new.aside ≡ self.old.aside }
-        ensures step { IfOk result (λ claim. RunsAlone self.old (Claimed word mask claim.found ∷ []) self.new) }
+        ensures step { RunsAlone self.old (Claimed word mask result.found ∷ []) self.new }
     {
         let at = word as usize;
         let found = self.word[at];
         self.word[at] = found | mask;
-        Ok(Claim {
-            won: mask & !found,
-            found,
-        })
+        let won = mask & !found;
+        Claim { won, found }
     }
 
     #[inline]
     fn claim_one(&mut self, word: u32, place: u32) -> Result<(), u64> {
-        let Ok(claim) = self.claim(word, 1 << place) else {
-            unreachable!()
-        };
+        let claim = self.claim(word, 1 << place, 1);
         if claim.won != 0 {
             Ok(())
         } else {

@@ -8,7 +8,7 @@ ghost use Rattle.tag_core.specs.Steps.{without};
 ghost use Rattle.tag_search.specs.Search.{IsSweep, IsLeastKept};
 ghost use Rattle.tag_search.specs.Added.{AddsSteps, SameRoom};
 
-use tag_core::{Claim, Spent};
+use tag_core::Claim;
 use tag_layout::Layout;
 
 /// One caller's access to the words of a map. Between two of its calls, other callers may change the words.
@@ -44,18 +44,18 @@ pub trait Port {
         ensures room { SameRoom has_room self.old self.new }
         ensures step { adds self.old (Look word result ∷ []) self.new };
 
-    /// Takes the tags of the mask that are free at that moment. `Spent` if there is no room for all tags of the mask.
-    fn claim(&mut self, word: u32, mask: u64) -> Result<Claim, Spent>
+    /// Takes the tags of the mask that are free at that moment. The mask has `asked` bits, and there is room for so many.
+    fn claim(&mut self, word: u32, mask: u64, asked: u32) -> Claim
         requires port { ready self.old }
         requires word { word < words (sizes self.old) }
         requires mask { IsWithin (sizes self.old) word mask }
+        requires asked { asked ≡ count_ones mask }
+        requires room { has_room self.old asked }
         ensures port { ready self.new }
         ensures sizes { sizes self.new ≡ sizes self.old }
-        ensures room { IsOk result ↔ has_room self.old (count_ones mask) }
-        ensures won { IfOk result (λ claim. claim.won ≡ without mask claim.found) }
-        ensures uses_room { IfOk result (λ claim. (n : ℕ) → has_room self.new n ↔ has_room self.old (count_ones claim.won + n)) }
-        ensures step { IfOk result (λ claim. adds self.old (Claimed word mask claim.found ∷ []) self.new) }
-        ensures err { OnErr result (self.new ≡ self.old) };
+        ensures won { result.won ≡ without mask result.found }
+        ensures uses_room { (n : ℕ) → has_room self.new n ↔ has_room self.old (count_ones result.won + n) }
+        ensures step { adds self.old (Claimed word mask result.found ∷ []) self.new };
 
     /// Claims one place, for which there is room. If it was taken, returns the word as the claim found it.
     fn claim_one(&mut self, word: u32, place: u32) -> Result<(), u64>

@@ -3,7 +3,7 @@ ghost use Rattle.std.specs.Prelude.{◌≡◌, ℕ, ◌+◌, ◌-◌, ◌≤◌}
 ghost use Rattle.tag_search.specs.Freed.{held_of};
 
 use crate::port::Port;
-use tag_core::{Caller, Claim, Map, Spent};
+use tag_core::{Caller, Claim, Map};
 use tag_layout::Layout;
 
 /// One caller's access to the words of a map that it shares with other callers.
@@ -87,9 +87,8 @@ impl<R> Port for Shared<'_, R> {
     }
 
     #[inline]
-    fn claim(&mut self, word: u32, mask: u64) -> Result<Claim, Spent> {
-        let claim = self.map.claim(self.caller, word, mask)?;
-        Ok(claim)
+    fn claim(&mut self, word: u32, mask: u64, asked: u32) -> Claim {
+        self.map.claim_counted(self.caller, word, mask, asked)
     }
 
     #[inline]

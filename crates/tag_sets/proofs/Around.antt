@@ -9,7 +9,7 @@ use Rattle.wake_book.specs.declared.groups.Waiter.{Waiter}
 use Rattle.wake_book.specs.Book as book
 use Rattle.wake_book.specs.Groups as groups
 use Rattle.tag_queue.specs.Agents as queue
-use Rattle.tag_sets.proofs.Uniting.{twice_same}
+use Rattle.tag_model.proofs.HoldingFacts.{same_itself, same_then_same}
 
 -- the pairs found so far, up to this word, by these looks; the hand holds the same tags as before
 pub record SoFar {R : Type 0} (kind : Kind) (word : ℕ) (found : List (ℕ × ℕ)) (old now : Hand R) : Type 0 where
@@ -67,7 +67,7 @@ module _ {R : Type 0} where
       other = refl;
       split = refl;
     };
-    same = record { kept = λ tag h. (h, refl); none_else = λ tag h. h };
+    same = same_itself hand;
   }
 
   -- one more word is looked at
@@ -82,7 +82,7 @@ module _ {R : Type 0} where
         (let n = s.count in let e : word ≡ 0 + length found = omega arith in e)
         ∙ sym (looks-append 0 found (pair ∷ [])))
         (changes-then kind (looks_from 0 found) (looks_from word (pair ∷ [])) old mid new s.looks next);
-    same = twice_same old mid new s.same same;
+    same = same_then_same s.same same;
   }
 
   looks-keep : (word : ℕ) (found : List (ℕ × ℕ)) (r : Record R)

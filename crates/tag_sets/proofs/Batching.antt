@@ -9,7 +9,8 @@ use Rattle.tag_sets.proofs.Numbering.{ordinary_above}
 use Rattle.tag_queue.specs.Refusals as queue_refusals
 use Rattle.std.specs.Result.{IfErr}
 use Rattle.tag_sets.proofs.Told.{Alike, refused_alike, passes_alike}
-use Rattle.tag_sets.proofs.Lifting.{InSet, less, less_like}
+use Rattle.tag_sets.proofs.Lifting.{less}
+use Rattle.tag_model.proofs.HoldingFacts.{less_like}
 use Rattle.tag_sets.proofs.Getting.{ordinary_like}
 
 module _ (reserved : ℕ) (list : List ℕ) (above : All (λ tag. reserved ≤ tag) list) where
@@ -83,7 +84,7 @@ module _ {R : Type 0} (tags : Tags R) (hand : Hand R) (own : IsHandOf tags hand)
       let numbers = numbers_of (reserved_of tags) list in
       let given = subst (λ (xs : List ℕ). queue_batches.GivesBack (layout_of tags Ordinary) xs hand.ordinary agent)
       is g in record {
-        less = less_like (InSet hand Ordinary (Contains numbers)) (Contains list) hand new
+        less = less_like
             (ordinary_like hand (reserved_of tags) (Contains numbers) (Contains list) own.2
             (contains_there (reserved_of tags) list above) (contains_back (reserved_of tags) list above))
             (less hand new Ordinary refl refl (Contains numbers) given.gives.less);

@@ -11,13 +11,13 @@ use Rattle.tag_sets.proofs.Getting.{number_low, gets_of}
 
 module _ {R : Type 0} (tags : Tags R) (hand : Hand R) (agent : Agent R) (own : IsHandOf tags hand) where
   -- the number found is one of the ordinary set
-  pub found_low : (number left : ℕ) → begun.GetsFreed tags.ordinary (record { answer = Some number; left = left })
+  pub found_low : (number left : ℕ) → begun.GetsAndReports tags.ordinary (record { answer = Some number; left = left })
       hand.ordinary agent → number < (layout_of tags Ordinary).depth
   found_low number left got = number_low tags hand agent own number got.gets
 
   -- what the ordinary agent gets the hand gets
   pub does_get : (number answer : Option ℕ) (left : ℕ) → answer ≡ whole (reserved_of tags) number
-      → begun.GetsFreed tags.ordinary (record { answer = number; left = left }) hand.ordinary agent
+      → begun.GetsAndReports tags.ordinary (record { answer = number; left = left }) hand.ordinary agent
       → DoesGet tags (Ok (record { answer = answer; left = left })) hand (record hand { ordinary = agent })
   does_get number answer left is got = record {
     refusals = record { first = tt; passes = (got.room, tt); same = tt };
@@ -37,19 +37,19 @@ module _ {R : Type 0} (tags : Tags R) (before hand : Hand R) (agent : Agent R) (
   }
 
   pub finished_low : (number left : ℕ)
-      → begun.GetsFreed tags.ordinary (record { answer = Some number; left = left }) before.ordinary agent
+      → begun.GetsAndReports tags.ordinary (record { answer = Some number; left = left }) before.ordinary agent
       → number < (layout_of tags Ordinary).depth
   finished_low = found_low tags before agent tried.hand
 
   pub finishes_get : (number answer : Option ℕ) (left : ℕ) → answer ≡ whole (reserved_of tags) number
-      → begun.GetsFreed tags.ordinary (record { answer = number; left = left }) before.ordinary agent
+      → begun.GetsAndReports tags.ordinary (record { answer = number; left = left }) before.ordinary agent
       → DoesGet tags (Ok (record { answer = answer; left = left })) before (record hand { ordinary = agent })
   finishes_get number answer left is got =
       subst (λ (h : Hand R). DoesGet tags (Ok (record { answer = answer; left = left })) before h) same_hand
       (does_get tags before agent tried.hand number answer left is got)
 
   -- and its agents stay those of one hand
-  pub finished_hand : (found : Found ℕ) → begun.GetsFreed tags.ordinary found before.ordinary agent
+  pub finished_hand : (found : Found ℕ) → begun.GetsAndReports tags.ordinary found before.ordinary agent
       → queue.IsAgentOf tags.ordinary agent → IsHandOf tags hand → IsHandOf tags (record hand { ordinary = agent })
   finished_hand found got is own = (
     own.0,

@@ -1,6 +1,6 @@
 -- What a get of an agent is for its hand.
 use Rattle.std.specs.Prelude.{◌+◌, ◌<◌, ◌↔◌, ◌≡◌, ◌≤◌}
-use Rattle.tag_sets.proofs.Uses.{Acquires, Agent, ap, arith, BlockingGets, Caller, Gets, GetsReserved, Hand, HoldsMore, IfSome, inl, inr, IsAnswer, IsHandOf, IsInRun, IsOrdinaryTag, KeepsAll, Layout, layout_of, List, None, number_in_set, Option, Ordinary, Queue, refl, Reserved, reserved_of, Shape}
+use Rattle.tag_sets.proofs.Uses.{Agent, ap, arith, BlockingGets, Caller, Gets, GetsReserved, Hand, HoldsMore, IfSome, IsAnswer, IsHandOf, IsInRun, IsOrdinaryTag, Layout, layout_of, List, None, number_in_set, Option, Ordinary, Queue, refl, Reserved, reserved_of, Shape}
 use Rattle.tag_sets.proofs.Uses.{Some, split_of, subst, suc, sym, Tags, whole, whole_run, word_depth, WordStep, zero, ℕ, ⊎_elim, ◌∙◌}
 use Rattle.tag_core.specs.Callers as core
 use Rattle.tag_search.specs.declared.hint.Hint.{Hint}
@@ -11,7 +11,9 @@ use Rattle.tag_queue.specs.Gets as queue_gets
 use Rattle.tag_queue.specs.Blocking as queue_blocking
 use Rattle.tag_sets.specs.Gets.{GetsShallow, GetsBatch}
 use Rattle.tag_sets.proofs.Numbering.{reserved_at, reserved_below, ordinary_at, ordinary_above}
-use Rattle.tag_sets.proofs.Lifting.{InSet, more, more_like}
+use Rattle.tag_sets.proofs.Lifting.{InSet, more}
+use Rattle.tag_model.proofs.HoldingFacts.{more_like, same_itself, same_then_more}
+use Rattle.tag_core.specs.Holding as callers
 
 visit_within : {i depth n : ℕ} {steps : List WordStep} {answer : Option (ℕ × ℕ)} → IsBatchVisit i depth n steps answer
     → IfSome answer (λ won. won.0 < depth)
@@ -72,23 +74,13 @@ module _ {R : Type 0} where
         let e : b.0 ≡ number_in_set (split_of hand) tag = omega (arith, split) in (o.kind, subst named e b.2)),
   )
 
-  -- a caller that keeps its tags and then acquires some has acquired those in all
-  keeps_then : (named : ℕ → Type 0) (a b c : Caller R) → KeepsAll a b → Acquires named b c → Acquires named a c
-  keeps_then named a b c k m = record {
-    fresh = λ tag n h. m.fresh tag n (k.kept tag h).0;
-    joined = m.joined;
-    kept = λ tag h. let x = k.kept tag h in let y = m.kept tag x.0 in (y.0, y.1 ∙ x.1);
-    none_else = λ tag h. ⊎_elim (λ (o : core.Holds b tag). inl (k.none_else tag o)) (λ (n : named tag). inr n)
-        (m.none_else tag h);
-  }
-
   -- searches that find no tag keep all tags
   none_keeps : (tries : ℕ) (l : Layout) (a : Caller R) (hint : Hint) (b : Caller R) (after : Hint)
       → queue_blocking.FindNone tries l a hint b after
-      → KeepsAll a b × (b.shape.value ≡ a.shape.value)
+      → callers.HoldsSame a b × (b.shape.value ≡ a.shape.value)
   none_keeps zero l a hint b after same =
-      subst (λ (x : Caller R). KeepsAll a x × (x.shape.value ≡ a.shape.value)) (sym same.0)
-      (record { kept = λ tag h. (h, refl); none_else = λ tag h. h }, refl)
+      subst (λ (x : Caller R). callers.HoldsSame a x × (x.shape.value ≡ a.shape.value)) (sym same.0)
+      (same_itself a, refl)
   none_keeps (suc tries) l a hint b after f =
       let before = none_keeps tries l a hint f.0 f.1 f.2 in let g = f.3.gains in (
         record {
@@ -115,9 +107,9 @@ module _ {R : Type 0} where
     -- the hand gains the ordinary tags that its agent gains
     more_ordinary : (named Q : ℕ → Type 0) → ((n : ℕ) → named n → Q (reserved_of tags + n))
         → ((tag : ℕ) → Q tag → (n : ℕ) × (tag ≡ reserved_of tags + n) × named n)
-        → Acquires named (queue.caller_of hand.ordinary) (queue.caller_of agent)
+        → callers.HoldsMore named (queue.caller_of hand.ordinary) (queue.caller_of agent)
         → HoldsMore Q hand (record hand { ordinary = agent })
-    more_ordinary named Q there back m = more_like (InSet hand Ordinary named) Q hand (record hand { ordinary = agent })
+    more_ordinary named Q there back m = more_like
         (ordinary_like hand (reserved_of tags) named Q own.2 there back)
         (more hand (record hand { ordinary = agent }) Ordinary refl refl named m)
 
@@ -206,7 +198,7 @@ module _ {R : Type 0} where
         (won.acquires.joined number refl).0 in record {
           more = more_ordinary (λ n. n ≡ number) (λ tag. tag ≡ reserved_of tags + number)
               (λ n e. ap (λ (x : ℕ). reserved_of tags + x) e)
-              (λ tag e. (number, e, refl)) (keeps_then (λ n. n ≡ number) _ _ _ kept.0 won.acquires);
+              (λ tag e. (number, e, refl)) (same_then_more kept.0 won.acquires);
           ordinary = (omega arith, omega arith);
           number = number;
           tag_is = refl;
@@ -220,8 +212,7 @@ module _ {R : Type 0} where
         let low : (n : ℕ) → gains.IsAnswer answer n → n < reserved_of tags = λ n a.
         subst (λ (r : ℕ). n < r) tags.reserved_is
         (gains_within tags.reserved hand.reserved agent _ answer own.0 g.searches.gains n a) in record {
-          more = more_like (InSet hand Reserved (gains.IsAnswer answer)) (IsAnswer answer) hand
-              (record hand { reserved = agent })
+          more = more_like
               (λ tag. (
                 (λ s. let r = reserved_at (split_of hand) tag s.0 in like_answer answer _ tag r.number s.1),
                 (λ a. let less = low tag (to_gains answer tag a) in

@@ -18,25 +18,6 @@ module _ {R : Type 0} where
   same_slot a b m n agents numbers = ap (λ (x : ℕ). queue.slot_of a x) numbers
       ∙ ap (λ (x : Agent R). queue.slot_of x n) agents
 
-  -- fewer or more tags, described by two equivalent conditions
-  pub less_like : (P Q : ℕ → Type 0) (old new : Hand R) → ((tag : ℕ) → P tag ↔ Q tag) → HoldsLess P old new
-      → HoldsLess Q old new
-  less_like P Q old new like h = record {
-    gone = λ tag q. h.gone tag ((like tag).1 q);
-    kept = λ tag n. h.kept tag (λ p. n ((like tag).0 p));
-    none_else = h.none_else;
-  }
-
-  pub more_like : (P Q : ℕ → Type 0) (old new : Hand R) → ((tag : ℕ) → P tag ↔ Q tag) → HoldsMore P old new
-      → HoldsMore Q old new
-  more_like P Q old new like h = record {
-    fresh = λ tag q. h.fresh tag ((like tag).1 q);
-    joined = λ tag q. h.joined tag ((like tag).1 q);
-    kept = h.kept;
-    none_else = λ tag n. ⊎_elim (λ (o : Holds old tag). inl o) (λ (p : P tag). inr ((like tag).0 p))
-        (h.none_else tag n);
-  }
-
   -- the tag with this set and this number there is the only one
   pub one_like : (hand : Hand R) (kind : Kind) (number tag : ℕ) → kind ≡ kind_of (split_of hand) tag
       → number ≡ number_in_set (split_of hand) tag

@@ -14,7 +14,8 @@ use Rattle.std.specs.Result.{IfErr}
 use Rattle.tag_queue.specs.Refusals as queue_refusals
 use Rattle.tag_sets.proofs.Numbering.{ordinary_at, reserved_at}
 use Rattle.tag_sets.proofs.Told.{Alike, refused_alike}
-use Rattle.tag_sets.proofs.Lifting.{less, more, same, same_but, none_new, less_like, more_like, one_like}
+use Rattle.tag_sets.proofs.Lifting.{less, more, same, same_but, none_new, one_like}
+use Rattle.tag_model.proofs.HoldingFacts.{less_like, more_like}
 
 -- the tag is in this set and has this number there
 pub record IsAt {R : Type 0} (hand : Hand R) (tag : ℕ) (kind : Kind) (number : ℕ) : Type 0 where
@@ -139,7 +140,7 @@ module _ {R : Type 0} where
       posts_at p = record {
         value = p.value;
         slot = sym slot_before ∙ p.slot;
-        less = less_like _ _ old new (one_like old kind number tag at.kind_is at.number_is)
+        less = less_like (one_like old kind number tag at.kind_is at.number_is)
             (less old new kind other split (λ m. m ≡ number) p.less);
         set = changes_at (λ j m. queue_slots.Posts m) p;
       }
@@ -147,7 +148,7 @@ module _ {R : Type 0} where
       pub clears_at : (tags : Tags R) → queue_clears.Puts (layout_of tags kind) number (agent_of old kind)
           (agent_of new kind) → Clears tags tag old new
       clears_at tags p = record {
-        less = less_like _ _ old new (one_like old kind number tag at.kind_is at.number_is)
+        less = less_like (one_like old kind number tag at.kind_is at.number_is)
             (less old new kind other split (λ m. m ≡ number) p.less);
         set = changes_at (λ j m. queue_clears.Puts (layout_of tags j) m) p;
       }
@@ -156,7 +157,7 @@ module _ {R : Type 0} where
       takes_at t = record {
         value = t.value;
         slot = sym slot_now ∙ t.slot;
-        more = more_like _ _ old new (one_like old kind number tag at.kind_is at.number_is)
+        more = more_like (one_like old kind number tag at.kind_is at.number_is)
             (more old new kind other split (λ m. m ≡ number) t.more);
         set = changes_at (λ j m. queue_slots.Takes m) t;
       }

@@ -1,21 +1,14 @@
 -- What the ordinary agent of a hand gains while it waits by the bell, the hand gains, and what a clear loses stays lost.
 use Rattle.std.specs.Prelude.{◌+◌, ◌<◌, ◌≡◌}
-use Rattle.tag_sets.proofs.Uses.{Agent, ap, arith, GetsSleeping, Hand, HoldsLess, HoldsSame, IsHandOf, layout_of, Ordinary, refl, reserved_of, Shape, subst, Tags, ℕ, ◌∙◌}
+use Rattle.tag_sets.proofs.Uses.{Agent, ap, arith, GetsSleeping, Hand, IsHandOf, layout_of, Ordinary, refl, reserved_of, Shape, subst, Tags, ℕ}
 use Rattle.tag_bell.specs.declared.sleeping.Woken.{Woken}
 use Rattle.tag_queue.specs.Agents as queue
 use Rattle.tag_queue.specs.Sleeping as queue_sleeping
 use Rattle.tag_sets.proofs.Getting.{ordinary_like}
-use Rattle.tag_sets.proofs.Lifting.{InSet, more, more_like}
+use Rattle.tag_sets.proofs.Lifting.{more}
+use Rattle.tag_model.proofs.HoldingFacts.{more_like}
 
 module _ {R : Type 0} where
-  -- a hand that keeps its tags after it lost some has lost these
-  pub less_then_same : (named : ℕ → Type 0) (a b c : Hand R) → HoldsLess named a b → HoldsSame b c → HoldsLess named a c
-  less_then_same named a b c less same = record {
-    gone = λ tag is has. less.gone tag is (same.none_else tag has);
-    kept = λ tag no has. let was = less.kept tag no has in let now = same.kept tag was.0 in (now.0, now.1 ∙ was.1);
-    none_else = λ tag has. less.none_else tag (same.none_else tag has);
-  }
-
   -- the tag that the agent gains is an ordinary one, and the hand gains it
   pub sleeping_of : (tags : Tags R) (hand : Hand R) (agent : Agent R) → IsHandOf tags hand → queue.IsAgentOf tags.ordinary agent
       → (number : ℕ) (woken : Woken) → queue_sleeping.GetsSleeping (layout_of tags Ordinary) number woken hand.ordinary agent
@@ -25,7 +18,7 @@ module _ {R : Type 0} where
       let named : ℕ → Type 0 = λ n. n ≡ number in let Q : ℕ → Type 0 = λ tag. tag ≡ reserved_of tags + number in
       let low : number < (layout_of tags Ordinary).depth =
       subst (λ (s : Shape). number < s.layout.depth) still.0.1 (gets.more.joined number refl).0 in record {
-        more = more_like (InSet hand Ordinary named) Q hand new
+        more = more_like
             (ordinary_like hand (reserved_of tags) named Q own.2
             (λ n e. ap (λ (x : ℕ). reserved_of tags + x) e) (λ tag e. (number, e, refl)))
             (more hand new Ordinary refl refl named gets.more);

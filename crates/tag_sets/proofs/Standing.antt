@@ -1,6 +1,6 @@
 -- What an agent does as it enters or leaves its wait group is what its hand does.
 use Rattle.std.specs.Prelude.{◌≡◌}
-use Rattle.tag_sets.proofs.Uses.{Agent, ap, Caller, Err, Hand, IfNone, IfOk, IfSome, KeepsAll, None, Ok, OnErr, Option, Ordinary, Queue, QueueFault, refl, Result, Some, subst, sym, ℕ, ◌∙◌}
+use Rattle.tag_sets.proofs.Uses.{Agent, ap, Caller, Err, Hand, IfNone, IfOk, IfSome, None, Ok, OnErr, Option, Ordinary, Queue, QueueFault, refl, Result, Some, subst, sym, ℕ, ◌∙◌}
 use Rattle.wake_book.specs.declared.waiting.Left.{Left}
 use Rattle.wake_book.specs.Groups as groups
 use Rattle.tag_queue.specs.Agents as queue
@@ -9,6 +9,8 @@ use Rattle.tag_queue.specs.Holding as queue_holding
 use Rattle.tag_queue.specs.Waits as queue_waits
 use Rattle.tag_sets.specs.Waits.{Enters, Leaves, StandsOn, AgentLeaves}
 use Rattle.tag_sets.proofs.Lifting.{same}
+use Rattle.tag_model.proofs.HoldingFacts.{same_itself}
+use Rattle.tag_core.specs.Holding as callers
 
 -- an agent has its number, whether or not a clear is refused
 pub same_number : {A R : Type 0} (woken_in : A → ℕ) (set : Queue R) (n : ℕ) (old new : Agent R) (r : Result A QueueFault)
@@ -24,8 +26,8 @@ number_stays old new same = sym new.numbers.2 ∙ ap groups.number_of same ∙ o
 
 module _ {R : Type 0} (hand : Hand R) (agent : Agent R) where
   pub same_tags : queue.caller_of agent ≡ queue.caller_of hand.ordinary → queue_holding.HoldsSame hand.ordinary agent
-  same_tags e = subst (λ (c : Caller R). KeepsAll (queue.caller_of hand.ordinary) c) (sym e)
-      (record { kept = λ tag h. (h, refl); none_else = λ tag h. h })
+  same_tags e = subst (λ (c : Caller R). callers.HoldsSame (queue.caller_of hand.ordinary) c) (sym e)
+      (same_itself (queue.caller_of hand.ordinary))
 
   pub enters_of : (group : ℕ) → queue_waits.Enters group hand.ordinary agent
       → Enters group hand (record hand { ordinary = agent })

@@ -1,23 +1,17 @@
 -- A hand is unchanged if both its agents are, and two hands are apart if their agents are in both sets.
 use Rattle.std.specs.Prelude.{◌≡◌}
-use Rattle.tag_sets.proofs.Uses.{Agent, agent_of, Hand, Holds, HoldsSame, IsUnchanged, Kind, kind_of, number_in_set, Ordinary, record_of, refl, Reserved, ShareHistories, split_of, subst, sym, Tags, ℕ, ◌∙◌}
+use Rattle.tag_sets.proofs.Uses.{Agent, agent_of, Hand, Holds, IsUnchanged, Kind, kind_of, number_in_set, Ordinary, record_of, refl, Reserved, ShareHistories, split_of, subst, sym, Tags, ℕ}
 use Rattle.tag_core.specs.Meeting.{ShareHistory}
 use Rattle.tag_queue.specs.Agents as queue
 use Rattle.tag_queue.specs.Holding as queue_holding
 use Rattle.tag_sets.proofs.Lifting.{same}
+use Rattle.tag_model.proofs.HoldingFacts.{same_then_same}
 
 module _ {R : Type 0} where
   agent_same : (old new : Agent R) → queue.IsUnchanged old new → queue_holding.HoldsSame old new
   agent_same old new u = record {
     kept = λ tag h. ((u.holds tag).1 h, u.caller.slots tag);
     none_else = λ tag h. (u.holds tag).0 h;
-  }
-
-  -- holding the same tags is transitive
-  pub twice_same : (a b c : Hand R) → HoldsSame a b → HoldsSame b c → HoldsSame a c
-  twice_same a b c s t = record {
-    kept = λ tag h. let x = s.kept tag h in let y = t.kept tag x.0 in (y.0, y.1 ∙ x.1);
-    none_else = λ tag h. s.none_else tag (t.none_else tag h);
   }
 
   each_set : (hand : Hand R) (reserved ordinary : Agent R) → queue.IsUnchanged hand.reserved reserved
@@ -33,7 +27,7 @@ module _ {R : Type 0} where
   unchanged hand reserved ordinary r o =
       let mid = record hand { reserved = reserved } in
       let new = record hand { reserved = reserved; ordinary = ordinary } in record {
-        same = twice_same hand mid new (same hand mid Reserved refl refl (agent_same hand.reserved reserved r))
+        same = same_then_same (same hand mid Reserved refl refl (agent_same hand.reserved reserved r))
             (same mid new Ordinary refl refl (agent_same hand.ordinary ordinary o));
         sets = each_set hand reserved ordinary r o;
         split = refl;

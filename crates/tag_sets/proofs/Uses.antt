@@ -30,7 +30,6 @@ pub use Rattle.tag_model.specs.declared.world.TheConstants.{MOST_WON}
 pub use Rattle.tag_core.proofs.Entries.{all_at, entry, entry_of_map, entry_or}
 pub use Rattle.tag_core.proofs.Passing.{zeros}
 pub use Rattle.tag_core.specs.Callers.{record_of}
-pub use Rattle.tag_core.specs.Holdings.{Acquires, KeepsAll}
 pub use Rattle.tag_core.specs.Records.{record_after, tag_bit, tags_from}
 pub use Rattle.tag_core.specs.declared.caller.Caller.{Caller}
 pub use Rattle.tag_core.specs.declared.record.Record.{Record}

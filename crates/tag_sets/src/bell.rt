@@ -13,12 +13,12 @@ ghost use Rattle.tag_sets.specs.Refusals.{bell_checks};
 use crate::fault::TagFault;
 use crate::hand::Hand;
 use crate::tags::Tags;
-use tag_queue::Told;
+use tag_queue::{Told, Turn};
 
 impl<R: Copy> Tags<R> {
-    /// Lists the hand among those that wait, with the next turn. Afterwards it has to try each tag, by a get that finds
-    /// none, before it may sleep. One step. `OtherWait` means that hands wait in groups.
-    pub fn list_self(&self, hand: &mut Hand<R>, list: u32) -> Result<(), TagFault>
+    /// Lists the hand among those that wait. Afterwards it has to try each tag, by a get that finds none, before it may
+    /// sleep. One step. `OtherWait` means that hands wait in groups.
+    pub fn list_self(&self, hand: &mut Hand<R>, list: u32, turn: Turn) -> Result<(), TagFault>
         requires hand { IsHandOf self.now hand.old }
         requires within { list < LISTS }
         ensures hand { IsHandOf self.now hand.new }
@@ -27,21 +27,7 @@ impl<R: Copy> Tags<R> {
         ensures same { HoldsSame hand.old hand.new }
         ensures bound { step_count hand.new ≤ 1 + step_count hand.old }
     {
-        Ok(self.ordinary.list_self(&mut hand.ordinary, list)?)
-    }
-
-    /// Lists the hand as `list_self` does, with the turn that it had: for one that was told and found no tag. One step. It
-    /// is refused as `list_self` is: `OtherWait`.
-    pub fn list_again(&self, hand: &mut Hand<R>, list: u32) -> Result<(), TagFault>
-        requires hand { IsHandOf self.now hand.old }
-        requires within { list < LISTS }
-        ensures hand { IsHandOf self.now hand.new }
-        ensures refusals { RefusesBy (bell_checks self.now) (hand.new ≡ hand.old) result }
-        ensures lists { OnOk result (Changes Ordinary (ListsSelf list) hand.old hand.new) }
-        ensures same { HoldsSame hand.old hand.new }
-        ensures bound { step_count hand.new ≤ 1 + step_count hand.old }
-    {
-        Ok(self.ordinary.list_again(&mut hand.ordinary, list)?)
+        Ok(self.ordinary.list_self(&mut hand.ordinary, list, turn)?)
     }
 
     /// Ends the hand's wait, and returns whether somebody had told it, or it did not wait there. One that was told has to

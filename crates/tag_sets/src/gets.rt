@@ -16,7 +16,7 @@ use crate::tags::Tags;
 use std::sync::Wait;
 use tag_queue::Found;
 
-mod freed;
+mod reporting;
 
 impl<R: Copy> Tags<R> {
     /// Takes a free ordinary tag, which this hand alone holds until it clears or posts the tag. `None` means that each
@@ -31,7 +31,7 @@ impl<R: Copy> Tags<R> {
         ensures gets { IfOk result (λ answer. GetsAndLooks (Gets self.now answer) hand.old hand.new) }
         ensures bound { step_count hand.new ≤ most_steps self.now + 1 + step_count hand.old }
     {
-        let Found { answer, left } = self.get_freed(hand)?;
+        let Found { answer, left } = self.get_and_report(hand)?;
         self.look_after(hand, left);
         Ok(answer)
     }
@@ -47,7 +47,7 @@ impl<R: Copy> Tags<R> {
             return Err(TagFault::NoReserved);
         }
         // Nobody waits for a reserved tag, so nobody can sleep beside those that the sweeps freed.
-        let found = self.reserved.get_freed(&mut hand.reserved)?;
+        let found = self.reserved.get_and_report(&mut hand.reserved)?;
         Ok(found.answer)
     }
 
@@ -61,7 +61,7 @@ impl<R: Copy> Tags<R> {
         ensures gets { IfOk result (λ answer. GetsAndLooks (GetsShallow self.now depth answer) hand.old hand.new) }
         ensures bound { step_count hand.new ≤ most_steps self.now + 1 + step_count hand.old }
     {
-        let Found { answer, left } = self.get_shallow_freed(hand, depth)?;
+        let Found { answer, left } = self.get_shallow_and_report(hand, depth)?;
         self.look_after(hand, left);
         Ok(answer)
     }
@@ -80,7 +80,7 @@ impl<R: Copy> Tags<R> {
             → IfOk result (λ answer. GetsAndLooks (GetsBatch self.now n answer) hand.old hand.new) }
         ensures bound { step_count hand.new ≤ most_steps self.now + 1 + step_count hand.old }
     {
-        let Found { answer, left } = self.get_batch_freed(hand, n)?;
+        let Found { answer, left } = self.get_batch_and_report(hand, n)?;
         self.look_after(hand, left);
         Ok(answer)
     }

@@ -31,7 +31,7 @@ pub use shown::Shown;
 pub use step_ledger::{GatherCause, Numbered};
 pub use tag_queue::{
     Found, LISTENERS, MAX_BATCH, MAX_CALLERS, MAX_CAP, MAX_DEPTH, MAX_SHIFT, MOST_WON, Options,
-    QueueTotals, ResizeCause, SLEEPERS, Unfinished, Waits, Wakes, Woken,
+    QueueTotals, ResizeCause, SLEEPERS, Turn, Unfinished, Waits, Wakes, Woken,
 };
 pub use tags::Tags;
 pub use wake_book::{Count, Grants, Left, Report, Ring, Waking};

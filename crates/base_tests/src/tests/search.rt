@@ -27,7 +27,7 @@ fn take(port: &mut PlainPort, taken: &[(u32, u64)], aside: &[u32]) {
     for (word, mask) in taken {
         let layout = port.layout();
         if *word < layout.words() && *mask <= layout.usable(*word) {
-            let _ = port.claim(*word, *mask);
+            port.claim(*word, *mask, mask.count_ones());
         }
     }
     for tag in aside {

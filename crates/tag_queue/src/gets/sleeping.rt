@@ -10,7 +10,7 @@ use crate::agent::Agent;
 use crate::fault::QueueFault;
 use crate::queue::{Queue, Waits};
 use std::sync::Wait;
-use tag_bell::{SLEEPERS, Woken};
+use tag_bell::{SLEEPERS, Turn, Woken};
 use wake_book::Groups;
 
 impl<R: Copy> Queue<R> {
@@ -64,14 +64,14 @@ impl<R: Copy> Queue<R> {
         ensures agent { IsAgentOf self.now agent.new }
         ensures wins { WinsListed (layout_of self.now) result agent.old agent.new }
     {
-        self.enlist(agent, SLEEPERS);
+        self.enlist(agent, SLEEPERS, Turn::Next);
         for _ in rt.forever() {
             if let Some(tag) = self.try_get(agent) {
                 self.get_up(agent, SLEEPERS);
                 return tag;
             }
             self.sleep(rt, agent);
-            self.enlist_again(agent, SLEEPERS);
+            self.enlist(agent, SLEEPERS, Turn::Same);
         }
         unreachable!()
     }

@@ -58,7 +58,7 @@ fn take(pair: &mut Pair, tag: u32) {
         let word = layout.word_of(tag);
         let mask = 1 << layout.place_of(tag);
         if mask <= layout.usable(word) {
-            let _ = pair.port.claim(word, mask);
+            pair.port.claim(word, mask, mask.count_ones());
             mark(&mut pair.marks.free, tag, false);
         }
     }

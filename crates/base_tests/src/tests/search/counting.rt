@@ -3,7 +3,7 @@ ghost use Rattle.std.specs.Prelude.{ℕ, ◌<◌};
 
 use std::alloc::Global;
 use std::test::Fail;
-use tag_core::{Claim, Spent};
+use tag_core::Claim;
 use tag_layout::Layout;
 use tag_search::{PlainPort, Port};
 
@@ -44,9 +44,9 @@ impl Port for Counting {
         self.port.look(word)
     }
 
-    fn claim(&mut self, word: u32, mask: u64) -> Result<Claim, Spent> {
+    fn claim(&mut self, word: u32, mask: u64, asked: u32) -> Claim {
         self.steps = self.steps.wrapping_add(1);
-        self.port.claim(word, mask)
+        self.port.claim(word, mask, asked)
     }
 
     fn claim_one(&mut self, word: u32, place: u32) -> Result<(), u64> {

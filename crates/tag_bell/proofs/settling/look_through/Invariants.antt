@@ -1,6 +1,6 @@
 -- No spot of a word before this one is left to see to.
 use Rattle.std.specs.Prelude.{◌*◌, ◌<◌}
-use Rattle.tag_bell.proofs.Uses.{IsCallerOf, KeepsAll, nobody, OwesNoneWhere, Tells, WaitsAsBefore, ℕ}
+use Rattle.tag_bell.proofs.Uses.{HoldsSame, IsCallerOf, nobody, OwesNoneWhere, Tells, WaitsAsBefore, ℕ}
 use Rattle.tag_bell.proofs.settling.look_through.Given as goal
 
 abbrev pub invariant-loop-word : goal.invariant-loop-word
@@ -9,5 +9,5 @@ invariant-loop-word g l = record {
   before : (list : ℕ) → OwesNoneWhere (λ i. i < l.word) list l.caller;
   told : Tells (2 * l.word) nobody l.fn.caller l.caller;
   waits : (list : ℕ) → WaitsAsBefore list l.fn.caller l.caller;
-  kept : KeepsAll l.fn.caller l.caller;
+  kept : HoldsSame l.fn.caller l.caller;
 }

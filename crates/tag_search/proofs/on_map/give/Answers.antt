@@ -1,6 +1,6 @@
 -- The mask is the bit of the held tag alone, and the step is added to the caller's own list.
 use Rattle.std.specs.Prelude.{◌<◌, ◌^◌, ◌≡◌}
-use Rattle.tag_search.proofs.Uses.{alone_named, Holds, IsInMask, layout_of, named_alone, place_of, place_of-below, released_as, Shape, subst, sym, word_of, word_of-below, ℕ}
+use Rattle.tag_search.proofs.Uses.{alone_named, Holds, is_one, layout_of, less_like, place_of, place_of-below, Shape, subst, sym, word_of, word_of-below, ℕ}
 use Rattle.std.proofs.Math.Pow.{pow-lt}
 use Rattle.tag_search.proofs.AloneCallers.{own_give, place_small}
 use Rattle.tag_search.proofs.on_map.give.Goals as goal
@@ -28,7 +28,5 @@ returns-clause-alone g c =
 
 pub returns-clause-released : goal.returns-clause-released
 returns-clause-released g c =
-    let m = c.args.map.now in let l = layout_of m in let tag = c.args.tag in
-    released_as c.args.caller.now c.give.new.caller (IsInMask l (word_of l tag) (2 ^ place_of l tag)) (λ t. t ≡ tag)
-    (alone_named m.shape m.small.1 tag) (named_alone m.shape m.small.1 tag)
+    let m = c.args.map.now in let tag = c.args.tag in less_like (is_one m.shape m.small.1 tag)
     (rw (c.word_of.ensures.value, c.bit_of.ensures.value, c.layout-layout.ensures) at c.give.ensures.released)

@@ -15,7 +15,7 @@ use std::thread;
 use std::thread::Threads;
 use tag_cache::{Cache, Keeping};
 use tag_model::Totals;
-use tag_sets::{Hand, Ring, SLEEPERS, TagFault, Tags};
+use tag_sets::{Hand, Ring, SLEEPERS, TagFault, Tags, Turn};
 
 const THREADS: u32 = 8;
 
@@ -176,7 +176,7 @@ fn list_some(tags: &Tags<u64>, hands: &mut Vec<Hand<u64>>, sleepers: u32) -> Res
 {
     for _ in 0..sleepers {
         let mut hand = next_hand(tags, hands)?;
-        tags.list_self(&mut hand, SLEEPERS)?;
+        tags.list_self(&mut hand, SLEEPERS, Turn::Next)?;
     }
     Ok(())
 }
@@ -237,7 +237,10 @@ fn caches_whose_hands_wait_in_groups_do_not_wait_by_the_bell(rt: HostRuntime) ->
         cache.get_sleeping(&rt, &tags).err(),
         Some(TagFault::OtherWait)
     );
-    assert_eq!(rt; cache.list_self(&tags, SLEEPERS), Err(TagFault::OtherWait));
+    assert_eq!(rt;
+        cache.list_self(&tags, SLEEPERS, Turn::Next),
+        Err(TagFault::OtherWait)
+    );
     cache.get(&tags)?;
     assert_eq!(rt;
         cache.clear_and_wake(&tags, 0).err(),

@@ -5,7 +5,7 @@ use crate::tests::queue::stages::{expect, expect_totals};
 use crate::tests::steps::Step::Calls;
 use crate::tests::totals::{all_totals, options, totals};
 use std::test::*;
-use tag_queue::{Options, Queue, QueueFault, SLEEPERS};
+use tag_queue::{Options, Queue, QueueFault, SLEEPERS, Turn};
 use tag_sets::TagFault::{NoSuchTag, NotWaiting, OtherWait, Waiting};
 use wake_book::Left as Leave;
 
@@ -106,11 +106,11 @@ fn agents_that_wait_in_groups_do_not_wait_by_the_bell(rt: HostRuntime) -> Result
         Some(QueueFault::OtherWait)
     );
     assert_eq!(rt;
-        queue.list_self(&mut agent, SLEEPERS),
+        queue.list_self(&mut agent, SLEEPERS, Turn::Next),
         Err(QueueFault::OtherWait)
     );
     assert_eq!(rt;
-        queue.list_again(&mut agent, SLEEPERS),
+        queue.list_self(&mut agent, SLEEPERS, Turn::Same),
         Err(QueueFault::OtherWait)
     );
     assert_eq!(rt;

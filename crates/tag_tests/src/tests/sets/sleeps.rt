@@ -9,7 +9,7 @@ use std::test::*;
 use std::thread;
 use std::thread::Threads;
 use tag_model::Totals;
-use tag_sets::{Hand, Ring, SLEEPERS, TagFault, Tags};
+use tag_sets::{Hand, Ring, SLEEPERS, TagFault, Tags, Turn};
 
 const THREADS: u32 = 8;
 
@@ -80,8 +80,8 @@ fn tell_one_after_another(tags: &Tags<u64>, hands: &mut Vec<Hand<u64>>) -> Resul
     let mut first = next_hand(tags, hands)?;
     tags.get(&mut first)?;
     tags.get(&mut second)?;
-    tags.list_self(&mut third, SLEEPERS)?;
-    tags.list_self(&mut fourth, SLEEPERS)?;
+    tags.list_self(&mut third, SLEEPERS, Turn::Next)?;
+    tags.list_self(&mut fourth, SLEEPERS, Turn::Next)?;
     let by_first = tags.clear_and_wake(&mut first, 0)?.told().sleepers;
     tags.clear::<Ring>(&mut second, 1)?;
     tags.get_up(&mut third, SLEEPERS);
@@ -116,11 +116,11 @@ fn hands_that_wait_in_groups_do_not_wait_by_the_bell(rt: HostRuntime) -> Result<
         Some(TagFault::OtherWait)
     );
     assert_eq!(rt;
-        tags.list_self(&mut hand, SLEEPERS),
+        tags.list_self(&mut hand, SLEEPERS, Turn::Next),
         Err(TagFault::OtherWait)
     );
     assert_eq!(rt;
-        tags.list_again(&mut hand, SLEEPERS),
+        tags.list_self(&mut hand, SLEEPERS, Turn::Same),
         Err(TagFault::OtherWait)
     );
     assert_eq!(rt;

@@ -7,24 +7,26 @@ use Rattle.tag_board.proofs.board.Board.get.Goals as goal
 pub invariant_of-self : goal.invariant_of-self
 invariant_of-self c =
     let b = c.args.self.now in let at = sits (omega arith) c.index_mut.ensures.value in let old = c.index_mut.result.now in
-    let new = c.get_freed.new.hand in let e = c.get_freed.ensures.does in let r = c.get_freed.result in
-    seated b at new c.get_freed.ensures.hand (kept old new r (ok_map r e.gets
+    let new = c.get_and_report.new.hand in let e = c.get_and_report.ensures.does in let r = c.get_and_report.result in
+    seated b at new c.get_and_report.ensures.hand (kept old new r (ok_map r e.gets
     (λ found g. (get_gains b.tags old new b.hands.items found.answer g).effect.number))
     e.refusals.same)
 
 pub tell_free-requires-clause-held : goal.tell_free-requires-clause-held
 tell_free-requires-clause-held c =
     let b = c.args.self.now in let at = sits c.requires c.index_mut.ensures.value in let old = c.index_mut.result.now in
-    let new = c.get_freed.new.hand in let a : Option ℕ = c.in_ok-answer.field-0.answer in
+    let new = c.get_and_report.new.hand in let a : Option ℕ = c.in_ok-answer.field-0.answer in
     let g = get_gains b.tags old new b.hands.items a c.in_ok-answer.ensures.does.gets in
     holds_gained b at new (is_answer a) _ g.names g.more
 
 pub returns : goal.returns
 returns c =
     let b = c.args.self.now in let at = sits c.requires c.index_mut.ensures.value in let old = c.index_mut.result.now in
-    let new = c.get_freed.new.hand in let a : Option ℕ = c.in_ok-answer.field-0.answer in let e = c.in_ok-answer.ensures.does in
+    let new = c.get_and_report.new.hand in let a : Option ℕ = c.in_ok-answer.field-0.answer in
+    let e = c.in_ok-answer.ensures.does in
     let i : ℕ = c.args.caller in
     subst (λ (x : Board). Gets Ordinary i (state_of b) (Ok a) (state_of x)) (sym c.tell_free.ensures.same) (
       (room_here b.tags at (own_here b.tags at b.own) Ordinary 1 e.refusals.passes.0, tt),
-      wins b at new c.get_freed.ensures.hand (get_gains b.tags old new b.hands.items a e.gets) c.tell_free.ensures.alone,
+      wins b at new c.get_and_report.ensures.hand (get_gains b.tags old new b.hands.items a e.gets)
+          c.tell_free.ensures.alone,
     )

@@ -7,14 +7,15 @@ use Rattle.tag_board.proofs.board.Board.get_batch.Goals as goal
 pub invariant_of-self : goal.invariant_of-self
 invariant_of-self c =
     let b = c.args.self.now in let at = sits (omega arith) c.index_mut.ensures.value in let old = c.index_mut.result.now in
-    let new = c.get_batch_freed.new.hand in let e = c.get_batch_freed.ensures.does in let r = c.get_batch_freed.result in
-    seated b at new c.get_batch_freed.ensures.hand (kept old new r
+    let new = c.get_batch_and_report.new.hand in let e = c.get_batch_and_report.ensures.does in
+    let r = c.get_batch_and_report.result in
+    seated b at new c.get_batch_and_report.ensures.hand (kept old new r
     (batch_number b.tags old new _ r e) e.refusals.same)
 
 pub tell_run_free-requires-clause-held : goal.tell_run_free-requires-clause-held
 tell_run_free-requires-clause-held c =
     let b = c.args.self.now in let at = sits c.requires c.index_mut.ensures.value in let old = c.index_mut.result.now in
-    let new = c.get_batch_freed.new.hand in let a : Option (ℕ × ℕ) = c.in_ok-answer.field-0.answer in
+    let new = c.get_batch_and_report.new.hand in let a : Option (ℕ × ℕ) = c.in_ok-answer.field-0.answer in
     let e = c.in_ok-answer.ensures.does in
     let g = batch_gains b.tags old new b.hands.items _ a
     (e.round_robin e.refusals.passes.0) e.gets in
@@ -23,7 +24,7 @@ tell_run_free-requires-clause-held c =
 pub returns : goal.returns
 returns c =
     let b = c.args.self.now in let at = sits c.requires c.index_mut.ensures.value in let old = c.index_mut.result.now in
-    let new = c.get_batch_freed.new.hand in let a : Option (ℕ × ℕ) = c.in_ok-answer.field-0.answer in
+    let new = c.get_batch_and_report.new.hand in let a : Option (ℕ × ℕ) = c.in_ok-answer.field-0.answer in
     let e = c.in_ok-answer.ensures.does in let i : ℕ = c.args.caller in let n : ℕ = c.args.n in
     let own = own_here b.tags at b.own in let round = round_here b.tags at own in let may = e.refusals.passes in
     let around = e.round_robin may.0 in
@@ -31,7 +32,7 @@ returns c =
       (may.0, ((λ straight. room_here b.tags at own Ordinary n (may.1.0 (sym round ∙ straight))), tt)),
       (
         (λ t. (around (sym round ∙ t)).0),
-        wins b at new c.get_batch_freed.ensures.hand (batch_gains b.tags old new b.hands.items n a around e.gets)
+        wins b at new c.get_batch_and_report.ensures.hand (batch_gains b.tags old new b.hands.items n a around e.gets)
             c.tell_run_free.ensures.alone,
       ),
     )

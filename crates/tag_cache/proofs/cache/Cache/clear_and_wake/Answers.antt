@@ -2,7 +2,8 @@
 -- reserved tag.
 use Rattle.std.specs.Prelude.{◌+◌, ◌≡◌}
 use Rattle.tag_cache.proofs.Uses.{ByBell, count_of, Kind, kind_of, Ordinary, refl, Reserved, reserved_of, rules, subst, sym, waits_of, WakesFor, ℕ, ◌∙◌}
-use Rattle.tag_cache.proofs.Looking.{holds_less_then_same, knows_less_then_same}
+use Rattle.tag_cache.proofs.Looking.{knows_less_then_same}
+use Rattle.tag_model.proofs.HoldingFacts.{less_then_same}
 use Rattle.tag_cache.proofs.Tallying.{tallies_on}
 use Rattle.tag_cache.proofs.Uncounted.{cleared_and_woken}
 use Rattle.tag_cache.proofs.cache.Cache.clear_and_wake.Goals as goal
@@ -15,7 +16,7 @@ returns-in-Ordinary-clause-does g c =
     let by : waits_of tags ≡ ByBell = c.in_ok-find_bell.ensures.passes.0 in
     let k : Ordinary ≡ kind_of (reserved_of tags) tag = sym c.in-Ordinary.is ∙ c.in_ok-kind.ensures.kind in record {
       refusals = search rules;
-      less = holds_less_then_same (λ other. other ≡ tag) old cleared new does.less sees.same;
+      less = less_then_same does.less sees.same;
       wakes = cleared_and_woken tags by tag c.in_ok-clear.field-0 c.wake.result old cleared new c.requires.2 does.way
           does.tells.1
           (subst (λ (kind : Kind). WakesFor kind (count_of old + 1) tags c.wake.result cleared new) k

@@ -1,7 +1,8 @@
 -- Exactly the kept tags went back, so the user's stay, and telling makes no step.
 use Rattle.std.specs.Prelude.{◌≤◌}
 use Rattle.tag_cache.proofs.Uses.{GivesKept, subst, sym, ℕ, ◌∙◌}
-use Rattle.tag_cache.proofs.Carrying.{same_then_same, terms_twice}
+use Rattle.tag_model.proofs.HoldingFacts.{same_then_same}
+use Rattle.tag_cache.proofs.Carrying.{terms_twice}
 use Rattle.tag_cache.proofs.Giving.{flushed, flush_tallies}
 use Rattle.tag_cache.proofs.Looking.{same_window, window_twice}
 use Rattle.tag_cache.proofs.Told.{HasTold, kept_told, none_still}
@@ -14,7 +15,7 @@ returns-clause-does g c = let tags = c.args.tags.now in let old = c.args.self.no
     let woken : ℕ = c.give_back_kept-grants.result.woken in let e = c.give_back_kept-grants.ensures in
     let t = c.tell.ensures in let told : HasTold woken mid new =
     record { none = t.none; hand = t.hand; same = t.same } in record {
-      same = same_then_same old mid new (flushed tags old mid woken e.gives e.none) t.same.held;
+      same = same_then_same (flushed tags old mid woken e.gives e.none) t.same.held;
       none = none_still woken mid new told e.none;
       gives = subst (λ (n : ℕ). GivesKept tags n old old.hand new.hand) (sym t.woken)
           (kept_told woken mid new told tags old e.gives);

@@ -1,7 +1,7 @@
 -- The kept tags went back, and telling those who wait changes nothing that the user holds.
 use Rattle.tag_cache.proofs.Uses.{Changes, max, Ordinary, rules, subst, sym, Waiter, waiter_of, ℕ}
 use Rattle.tag_queue.specs.Bell as queue
-use Rattle.tag_cache.proofs.Carrying.{same_then_same}
+use Rattle.tag_model.proofs.HoldingFacts.{same_then_same}
 use Rattle.tag_cache.proofs.Ringing.{sees_rests, sees_waiter}
 use Rattle.tag_cache.proofs.Steady.{owns_rests, same_tags}
 use Rattle.tag_cache.proofs.Tallying.{tallies_on}
@@ -25,7 +25,7 @@ returns-clause-tells g c = subst (λ (w : Waiter). g.W.Waking.tells c.flush-answ
 
 pub returns-clause-same : goal.returns-clause-same
 returns-clause-same g c = let mid = c.flush-answer.new.self in
-    same_then_same c.args.self.now mid _ c.flush-answer.ensures.does.same
+    same_then_same c.flush-answer.ensures.does.same
     (same_tags mid _ (search rules) (search rules)
     (sees_rests _ 6 c.see_to.result _ _ c.see_to.ensures.same c.see_to.ensures.sees_to)).held
 

@@ -1,6 +1,7 @@
 -- After the flush nothing is kept, and the hand is still in no wait group; telling makes no step.
 use Rattle.tag_cache.proofs.Uses.{IsSome, rules, standing_of, ◌∙◌}
-use Rattle.tag_cache.proofs.Carrying.{not_true, same_then_same, none_after}
+use Rattle.tag_model.proofs.HoldingFacts.{same_then_same}
+use Rattle.tag_cache.proofs.Carrying.{not_true, none_after}
 use Rattle.tag_cache.proofs.Granting.{then_enters}
 use Rattle.tag_cache.proofs.Looking.{window_twice}
 use Rattle.tag_cache.proofs.Standing.{in_none, stands_after}
@@ -30,7 +31,7 @@ returns-clause-does g c = record {
       (then_enters flush.result c.enter-group.result c.args.self.now.hand flush.new.self.hand c.enter-group.new.self.hand
       flush.ensures.does.tells c.enter-group.ensures.enters c.enter-group.ensures.silent);
   same = let flush = c.flush-grants in let entered = c.enter-group.new.self in
-      same_then_same c.args.self.now entered c.tell.new.self (same_then_same c.args.self.now flush.new.self entered
+      same_then_same (same_then_same
       flush.ensures.does.same c.enter-group.ensures.same.held) c.tell.ensures.same.held;
   tally = search rules;
   terms = search rules;

@@ -1,6 +1,7 @@
 -- Looking at the lists changes nothing; then the kept tags stay, or all go back.
 use Rattle.tag_cache.proofs.Uses.{Bool, inl, inr, LooksForWaiters, rules, subst, Waiter, waiter_of, ◌∙◌}
-use Rattle.tag_cache.proofs.Carrying.{same_then_same, terms_twice}
+use Rattle.tag_model.proofs.HoldingFacts.{same_then_same}
+use Rattle.tag_cache.proofs.Carrying.{terms_twice}
 use Rattle.tag_cache.proofs.Looking.{window_twice}
 use Rattle.tag_cache.proofs.Passing.{grants_none}
 use Rattle.tag_cache.proofs.Ringing.{looks_rests, looks_waiter}
@@ -52,7 +53,7 @@ returns-clause-does g c = let old = c.args.self.now in let looked = c.finds_wait
       done = t.gives.tells.changed.done;
       tells = subst (λ (w : Waiter). g.W.Waking.tells c.give_back_and_tell.result.1 w (waiter_of new.hand))
           (looks_waiter c.finds_waiters.result old.hand looked e.looks) t.tells;
-      same = same_then_same old _ new rest.held t.same;
+      same = same_then_same rest.held t.same;
       tally = tallies_on 0 0 old _ new rest.tally t.tally;
       terms = terms_twice rest.kept.terms t.terms;
       reused = t.reused ∙ rest.kept.reused;

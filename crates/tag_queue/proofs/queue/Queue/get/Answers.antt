@@ -4,8 +4,8 @@ use Rattle.tag_queue.proofs.queue.Queue.get.Goals as goal
 
 pub returns-clause-gets : goal.returns-clause-gets
 returns-clause-gets g c = record {
-  searched = c.get_freed.new.agent;
+  searched = c.get_and_report.new.agent;
   gets = c.in_ok-answer.ensures.gets;
-  looks = subst (λ (n : ℕ). LooksAfter n c.get_freed.new.agent c.look_after.new.agent) c.in_ok-answer.ensures.left
+  looks = subst (λ (n : ℕ). LooksAfter n c.get_and_report.new.agent c.look_after.new.agent) c.in_ok-answer.ensures.left
       c.look_after.ensures.looks;
 }

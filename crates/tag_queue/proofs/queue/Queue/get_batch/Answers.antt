@@ -4,8 +4,8 @@ use Rattle.tag_queue.proofs.queue.Queue.get_batch.Goals as goal
 
 pub returns-clause-gets : goal.returns-clause-gets
 returns-clause-gets g c = λ free. record {
-  searched = c.get_batch_freed.new.agent;
+  searched = c.get_batch_and_report.new.agent;
   gets = c.in_ok-answer.ensures.gets free;
-  looks = subst (λ (n : ℕ). LooksAfter n c.get_batch_freed.new.agent c.look_after.new.agent)
+  looks = subst (λ (n : ℕ). LooksAfter n c.get_batch_and_report.new.agent c.look_after.new.agent)
       c.in_ok-answer.ensures.left c.look_after.ensures.looks;
 }

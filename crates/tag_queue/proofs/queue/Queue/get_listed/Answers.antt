@@ -45,9 +45,9 @@ pub loop-preserved : goal.loop-preserved
 loop-preserved g c =
     let l = layout_of c.args.self.now in let inv = c.loop.invariant in let old = c.loop.agent in
     let tried = c.try_get.new.agent in let none = c.in_default.ensures.gets in
-    let new = c.enlist_again.new.agent in let lists = c.enlist_again.ensures.lists in record {
+    let new = c.enlist-in-loop.new.agent in let lists = c.enlist-in-loop.ensures.lists in record {
       turns = (tt, tt);
-      agent = c.enlist_again.ensures.agent;
+      agent = c.enlist-in-loop.ensures.agent;
       room = listed_room tried new lists
           (search_keeps_room l _ _ _ _ (searched_plain l None old tried none) inv.room);
       begins = listed_begins tried new lists (begins_again l old tried none);

@@ -1,7 +1,7 @@
 -- Once the agent has a tag, it sees to all others.
-use Rattle.std.specs.Prelude.{◌≡◌}
-use Rattle.tag_queue.proofs.Uses.{caller_of, layout_of, rules, SLEEPERS, ◌∙◌}
-use Rattle.tag_queue.proofs.Sleeping.{gains_then_keeps, gains_it, waits_so, up_again, counts_none}
+use Rattle.tag_queue.proofs.Uses.{layout_of, rules, SLEEPERS, ◌∙◌}
+use Rattle.tag_model.proofs.HoldingFacts.{more_then_same}
+use Rattle.tag_queue.proofs.Sleeping.{gains_it, waits_so, up_again, counts_none}
 use Rattle.tag_queue.proofs.queue.Queue.get_sleeping.Goals as goal
 
 pub returns-clause-refusals : goal.returns-clause-refusals
@@ -14,13 +14,12 @@ returns-clause-refusals g c = record {
 pub returns-clause-gets : goal.returns-clause-gets
 returns-clause-gets g c =
     let l = layout_of c.args.self.now in let tag = c.win-tag.result in let old = c.args.agent.now in
-    let won = c.win-tag.new.agent in let new = c.wake_next.new.agent in let wins = c.win-tag.ensures.wins in
+    let won = c.win-tag.new.agent in let wins = c.win-tag.ensures.wins in
     let wakes = c.wake_next.ensures.wakes in record {
       won = won;
       wins = wins;
       wakes = wakes;
-      more = gains_then_keeps (λ other. other ≡ tag) (caller_of old) (caller_of won) (caller_of new)
-          (gains_it l tag old won wins) wakes.holds;
+      more = more_then_same (gains_it l tag old won wins) wakes.holds;
       up = λ up. wakes.waits SLEEPERS ∙ up_again l tag old won wins up;
       others = λ other ne. wakes.waits other ∙ waits_so l tag old won wins other ne;
       counts = wakes.same.1.0 ∙ counts_none l tag old won wins;

@@ -6,15 +6,15 @@ use Rattle.tag_search.proofs.shared.SharedPort.claim.Goals as goal
 
 pub returns-clause-step : goal.returns-clause-step
 returns-clause-step g c =
-    let w = c.args.self.now.caller.now in let found = c.in_ok-claim.claim.found in
+    let w = c.args.self.now.caller.now in let found = c.claim_counted.result.found in
     let fits : found < 2 ^ 64 = omega arith in
     let near : c.args.word < length w.held.items = rw w.wide (rw c.requires.port.1 c.requires.word) in
     let found_held : FindsHeldBy w (Claimed c.args.word c.args.mask found) = λ tag has is.
     let shape = c.requires.port.1 in
     ap (λ (k : Shape). bit_at found (place_of k.layout tag)) shape
-    ∙ c.in_ok-claim.ensures.held tag has (ap (λ (k : Shape). word_of k.layout tag) (sym shape) ∙ is) in
+    ∙ c.claim_counted.ensures.held tag has (ap (λ (k : Shape). word_of k.layout tag) (sym shape) ∙ is) in
     record {
-      added = adds_claim c.args.word c.args.mask found w _ near fits found_held c.in_ok-claim.ensures.step;
+      added = adds_claim c.args.word c.args.mask found w _ near fits found_held c.claim_counted.ensures.step;
       map = refl;
       lent = refl;
       freed = λ fits. omega arith;

@@ -4,8 +4,8 @@ use Rattle.std.specs.Prelude.{◌-◌, ◌≡◌, ◌≤◌}
 use Rattle.tag_sets.proofs.Uses.{arith, Kind, kind_of, number_in_set, Ordinary, refl, Reserved, reserved_of, rules, subst, WakesFor}
 use Rattle.tag_sets.proofs.Lifting.{same}
 use Rattle.tag_sets.proofs.Numbering.{ordinary_above}
-use Rattle.tag_sets.proofs.Passing.{placed, clears_at, refused_at, waking_refused_at}
-use Rattle.tag_sets.proofs.Sleeping.{less_then_same}
+use Rattle.tag_sets.proofs.Passing.{placed, clears_at}
+use Rattle.tag_model.proofs.HoldingFacts.{less_then_same}
 use Rattle.tag_sets.proofs.tags.Tags.clear_and_wake.Goals as goal
 
 pub returns-then-tag-self-clause-wakes : goal.returns-then-tag-self-clause-wakes
@@ -38,6 +38,6 @@ returns-clause-wakes g c = let tags = c.args.self.now in let hand = c.args.hand.
       counts = elim [ Ordinary ↦ does.counts | Reserved ↦ (refl, refl) ];
       wakes = subst (λ (kind : Kind). WakesFor kind c.in_ok-clear_and_wake.field-0 cleared new) k
           (record { changed = does.wakes; other = refl; split = refl });
-      less = less_then_same (λ other. other ≡ tag) hand cleared new clears.less
+      less = less_then_same clears.less
           (same cleared new Ordinary refl refl does.wakes.holds);
     }

@@ -4,8 +4,8 @@ use Rattle.tag_sets.proofs.tags.Tags.get.Goals as goal
 
 pub returns-clause-gets : goal.returns-clause-gets
 returns-clause-gets g c = record {
-  searched = c.get_freed.new.hand;
+  searched = c.get_and_report.new.hand;
   gets = c.in_ok-answer.ensures.does.gets;
-  looks = subst (λ (n : ℕ). LooksAfter n c.get_freed.new.hand c.look_after.new.hand) c.in_ok-answer.ensures.does.left
+  looks = subst (λ (n : ℕ). LooksAfter n c.get_and_report.new.hand c.look_after.new.hand) c.in_ok-answer.ensures.does.left
       c.look_after.ensures.looks;
 }

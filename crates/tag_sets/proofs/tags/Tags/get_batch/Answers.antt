@@ -5,15 +5,15 @@ use Rattle.tag_sets.proofs.tags.Tags.get_batch.Goals as goal
 
 pub returns-clause-gets : goal.returns-clause-gets
 returns-clause-gets g c = λ plain. record {
-  searched = c.get_batch_freed.new.hand;
+  searched = c.get_batch_and_report.new.hand;
   gets = c.in_ok-answer.ensures.does.gets plain;
-  looks = subst (λ (n : ℕ). LooksAfter n c.get_batch_freed.new.hand c.look_after.new.hand)
+  looks = subst (λ (n : ℕ). LooksAfter n c.get_batch_and_report.new.hand c.look_after.new.hand)
       c.in_ok-answer.ensures.does.left c.look_after.ensures.looks;
 }
 
 pub returns-clause-round_robin : goal.returns-clause-round_robin
 returns-clause-round_robin g c = λ fits round.
-    let hand = c.args.hand.now in let searched = c.get_batch_freed.new.hand in
+    let hand = c.args.hand.now in let searched = c.get_batch_and_report.new.hand in
     let batch = c.in_ok-answer.ensures.does.round_robin fits round in
     let same : searched ≡ hand = batch.1 in
     let none : left_free hand hand ≡ 0 = omega arith in

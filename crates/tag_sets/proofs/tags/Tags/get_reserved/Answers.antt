@@ -4,6 +4,6 @@ use Rattle.tag_sets.proofs.Getting.{reserved_gets}
 use Rattle.tag_sets.proofs.tags.Tags.get_reserved.Goals as goal
 
 pub returns-clause-does : goal.returns-clause-does
-returns-clause-does g c = let gets = reserved_gets c.args.self.now c.args.hand.now c.get_freed.new.agent c.requires.hand
+returns-clause-does g c = let gets = reserved_gets c.args.self.now c.args.hand.now c.get_and_report.new.agent c.requires.hand
     c.in_ok-found.found.answer c.in_ok-found.ensures.gets in
     search rules
