@@ -93,6 +93,25 @@ def wrong_promises(read):
             yield f"README.md: {name} has no clause {label}"
 
 
+def sections(text):
+    """The parts of a page below its headings of the second level, by heading."""
+    return dict(it.partition("\n")[::2] for it in re.split(r"^## ", text, flags=re.M)[1:])
+
+
+def promised_by_none(read):
+    """The rows of docs/PROOFS.md that name, among the clauses of a promise, a call of that crate for which none has any."""
+    promises, contracts = sections(read("docs/PROOFS.md")), sections(read(CONTRACTS))
+    for crate in crates(read):
+        without = {}
+        for name, labels in re.findall(r"^\| `([^`]+)` \| (.*?) \|", contracts.get(crate, ""), re.M):
+            without.setdefault(name.rpartition("::")[2], []).append(labels == "(none)")
+        for line in promises.get(crate, "").split("\n"):
+            cited = line.rpartition(" | ")[2] if line.startswith("| ") else ""
+            for name in re.findall(r"`(?:\w+::)?(\w+)`", cited):
+                if all(without.get(name, [False])):
+                    yield f"docs/PROOFS.md: {crate}: {name} promises nothing: {line[:60]}"
+
+
 def wrong_ground(read):
     """What docs/TRUST.md and others say the proofs rest on, and the assembly's first lines and library.sh do not."""
     trust, heads = read("docs/TRUST.md"), [read(it)[:2000] for it in ASSEMBLY]
@@ -121,6 +140,7 @@ def wrong_claims(files, read):
                 yield from wrong_commands(name, read(name), files, read)
     yield from unnamed_crates(read)
     yield from wrong_promises(read)
+    yield from promised_by_none(read)
     yield from wrong_ground(read)
     lines = read("README.md").count("\n")
     if lines > MOST_LINES:

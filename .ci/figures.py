@@ -1,5 +1,6 @@
-"""Checks the figures that pages tell in words against docs/figures.toml, and those against where they are from; and that README.md has
-no other number in its prose, and the rows of its table as docs/PERFORMANCE.md has them.
+"""Checks the figures that pages, those of crates too, tell in words against docs/figures.toml, and those against where they are from;
+that README.md has no other number in its prose, and no page another number of calls or exports; and that README.md has the rows of its
+table as docs/PERFORMANCE.md has them.
 """
 import fnmatch
 import re
@@ -8,6 +9,8 @@ import tomllib
 LIST = "docs/figures.toml"
 PERFORMANCE = "docs/PERFORMANCE.md"
 NUMBER = r"(\d[\d,]*(?:\.\d+)?|[a-z]+(?: million)?)"
+# What any page may count only in a listed sentence.
+CALLS = re.compile(r"(?<![\w.,])\d[\d,]* (?:\w+ )?(?:calls|exports)\b")
 DIGITS = re.compile(r"(?<![\w.])\d[\d,.]*\d|(?<![\w.])\d")
 
 
@@ -35,6 +38,12 @@ def from_table(how, text):
     return [f"{min(found):.2f}", f"{max(found):.2f}"]
 
 
+def lines_that_match(how, files, read):
+    """How many lines of files of such names match an expression."""
+    name, expression = how
+    return sum(len(re.findall(expression, read(it), re.M)) for it in fnmatch.filter(files, name))
+
+
 def from_file(figure, read):
     name, *expressions = figure["found"]
     groups = [group for it in expressions for found in [re.search(it, flat(read(name) or ""))] for group in (found.groups() if found else ["nothing"])]
@@ -48,6 +57,10 @@ def wrong_source(figure, files, read):
         count = len(fnmatch.filter(files, figure["count"]))
         if abs(count - int(told)) > figure["about"]:
             yield f"{LIST}: {told}: there are {count} of {figure['count']}"
+    elif "lines" in figure:
+        count = lines_that_match(figure["lines"], files, read)
+        if count != int(told):
+            yield f"{LIST}: {told}: {figure['lines'][0]} has {count} lines {figure['lines'][1]}"
     elif "found" in figure:
         found = from_file(figure, read)
         if found != figure["value"]:
@@ -89,6 +102,16 @@ def unlisted(text, listed):
         yield f"README.md: {LIST} has no such figure: {prose[max(0, it.start() - 30) : it.end() + 20].strip()}"
 
 
+def unlisted_calls(texts, listed):
+    """Numbers of calls and exports that no listed sentence has, such as how many a crate has."""
+    sentences = [sentence(said) for figure in listed["figure"] for said in figure["said"]]
+    for name, text in texts.items():
+        for it in CALLS.finditer(text):
+            around = text[max(0, it.start() - 100) : it.end() + 100]
+            if not any(it[0] in found[0] for known in sentences for found in known.finditer(around)):
+                yield f"{name}: {LIST} has no such figure: {it[0]}"
+
+
 def wrong_rows(read):
     """The rows of README.md's table that are not those of PERFORMANCE.md."""
     rows = {(it["workload"], it["threads"]): it for it in table(read(PERFORMANCE))}
@@ -101,10 +124,11 @@ def wrong_rows(read):
 
 def wrong_figures(files, read):
     listed = tomllib.loads(read(LIST))
-    names = [it for it in files if it == "c/tags.h" or (it.endswith(".md") and not it.startswith(("crates/", "CHANGELOG")))]
+    names = [it for it in files if it == "c/tags.h" or (it.endswith(".md") and not it.startswith("CHANGELOG"))]
     texts = {it: flat(read(it)) for it in names}
     for figure in listed["figure"]:
         yield from wrong_source(figure, files, read)
         yield from wrong_sentences(figure, texts)
     yield from unlisted(read("README.md"), listed)
+    yield from unlisted_calls({it: text for it, text in texts.items() if it.endswith(".md")}, listed)
     yield from wrong_rows(read)

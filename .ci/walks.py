@@ -74,7 +74,7 @@ def has_label(functions, label, read):
     for it in functions:
         text = read(it.path) or ""
         calls = read(re.sub(r"/src/.*", "/specs/Calls.antt", it.path)) or ""
-        if re.search(rf"\bensures\*? {label} ", text) or re.search(rf"^  pub {label} :", calls, re.M):
+        if re.search(rf"\bensures\*? {label} ", text) or re.search(rf"^ {{2,4}}pub {label} :", calls, re.M):
             return True
     return False
 

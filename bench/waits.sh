@@ -1,6 +1,7 @@
 #!/usr/bin/env bash
 # waits.sh [SECONDS [REPETITIONS]]: threads that wait for few tags: a pool, without caches and with caches of 8, beside a list behind a
-# mutex, with a condition variable and with a semaphore: two tables.
+# mutex, with a condition variable and with a semaphore: two tables. Where there is cargo, the same in Rust: a pool, one with caches of 8,
+# and a list behind a mutex with a condition variable.
 # A cell has the median. c/library.sh build comes first; gcc is on the path, and the machine has nothing else to do.
 set -euo pipefail
 here=$(cd "$(dirname "$0")" && pwd)
@@ -13,10 +14,16 @@ gcc -std=c99 -O2 -Wall -Wextra "$here/waits.c" -o "$program" "$here/../c/out/lib
 
 # The middle line of the repetitions, by rounds a second.
 median() {
-  for _ in $(seq "$repetitions"); do "$program" "$@"; done | sort -n | sed -n "$(((repetitions + 1) / 2))p"
+  local made=$program
+  case "$1" in rust*) made=$here/../rust/target/release/examples/waits ;; esac
+  for _ in $(seq "$repetitions"); do "$made" "$@"; done | sort -n | sed -n "$(((repetitions + 1) / 2))p"
 }
 
 contenders="tags cached list semaphore"
+if command -v cargo > /dev/null; then
+  contenders="$contenders rust rust-cached rust-list"
+  (cd "$here/../rust" && cargo build --quiet --offline --release -p tags --example waits)
+fi
 
 table() {
   local us=$1 row threads tags contender cells

@@ -10,9 +10,9 @@
  * needs no tag any more, because it has one or gives up, it sees to all tags.
  *
  * What is C and not proved is how one that was told learns of it. Each hand has a place, with a
- * number that is a futex. Who sleeps loads the number, asks whether it was told, and sleeps while
- * the number is the same. Who tells it changes the number, then wakes it. A listener has a notice
- * in its place, which one of those who tell it takes.
+ * lock and a bed. Who sleeps asks with the lock whether it was told, and gives the lock up as it
+ * falls asleep. Whoever told it takes the lock afterwards to see whether it sleeps, and then signals
+ * its bed. A listener has a notice in its place, which one of those who tell it takes.
  *
  * And so that a call need not ask the library whether anybody waits, all who do are counted, before
  * they list themselves. Who makes tags free loads the count afterwards. Both are sequentially
@@ -30,9 +30,25 @@
 #include <limits.h>
 #include <stdlib.h>
 #include <sys/syscall.h>
+#include <time.h>
 #include <unistd.h>
 
-char tags_library_order[TAGS_MAX_TOTAL + 1];
+char tags_library_order[TAGS_MAX_TOTAL + 2];
+
+static void make_place(struct tags_place *place)
+{
+	place->notice = TAGS_NO_NOTICE;
+	pthread_mutex_init(&place->lock, NULL);
+	tags_library_make_bed(&place->beds[0], CLOCK_MONOTONIC);
+	tags_library_make_bed(&place->beds[1], CLOCK_REALTIME);
+}
+
+static void free_place(struct tags_place *place)
+{
+	pthread_cond_destroy(&place->beds[1]);
+	pthread_cond_destroy(&place->beds[0]);
+	pthread_mutex_destroy(&place->lock);
+}
 
 struct bell *tags_library_make_bell(uint32_t hands)
 {
@@ -41,16 +57,16 @@ struct bell *tags_library_make_bell(uint32_t hands)
 	if (!bell)
 		return NULL;
 	pthread_mutex_init(&bell->lock, NULL);
-	/* binds syscall() now, in a program that binds when it calls: see blocking.c */
-	syscall(SYS_getpid);
 	bell->hands = hands;
 	for (uint32_t i = 0; i < hands; i++)
-		bell->places[i].notice = TAGS_NO_NOTICE;
+		make_place(&bell->places[i]);
 	return bell;
 }
 
 void tags_library_free_bell(struct bell *bell)
 {
+	for (uint32_t i = 0; i < bell->hands; i++)
+		free_place(&bell->places[i]);
 	pthread_mutex_destroy(&bell->lock);
 	free(bell);
 }
@@ -81,11 +97,16 @@ bool tags_library_strike(struct tags_hand *hand, bool listens)
 	return was_told;
 }
 
-/* Wakes the thread that sleeps in a place, if there is one. */
+/* Wakes the thread that sleeps in a place, if there is one: without the lock, which it would wait for. */
 static void wake_sleeper(struct tags_place *place)
 {
-	tags_add(&place->rings, 1);
-	syscall(SYS_futex, &place->rings, TAGS_FUTEX_WAKE, 1, NULL, NULL, 0);
+	pthread_cond_t *bed;
+
+	pthread_mutex_lock(&place->lock);
+	bed = place->bed;
+	pthread_mutex_unlock(&place->lock);
+	if (bed)
+		pthread_cond_signal(bed);
 }
 
 /*
@@ -124,7 +145,7 @@ void tags_library_outwait(const struct tags_place *place)
 	int saved = errno;
 
 	while (tags_load(&place->running) > 0)
-		syscall(SYS_futex, &place->running, TAGS_FUTEX_WAIT, 1, NULL, NULL, TAGS_FUTEX_ANY);
+		syscall(SYS_futex, &place->running, TAGS_FUTEX_WAIT, 1, NULL, NULL, 0);
 	TAGS_DETAIL_SEES(TAGS_MAX_TOTAL);
 	errno = saved;
 }
@@ -164,8 +185,8 @@ static bool are_enough_waking(const struct bell *bell)
 }
 
 /*
- * Adds hands that were told. Sleepers are waking from now on: one that wakes by itself before it is
- * rung may wait again and be told again, and is to be rung once then.
+ * Adds hands that were told. From now on the sleepers among them count as waking. One of them may
+ * wake by itself before it is rung, wait again and be told again; a mask then rings it only once.
  */
 static void note(struct bell *bell, const struct tags_told *told, struct tags_told *due)
 {
@@ -182,18 +203,22 @@ static uint64_t smaller(uint64_t a, uint64_t b)
 }
 
 /*
- * One with a cache gives back what it keeps, whoever waits: the library does that if a hand is
- * listed, but drains are in none of its lists, nor for a moment a hand that was told and found no tag.
+ * In a pool with caches the hand first gives back what it keeps, if anybody waits. The library does
+ * so if it finds a hand listed. But its lists contain no drain, and for a moment they don't contain
+ * a hand that was told and found no tag.
  */
 static void tell(struct tags_hand *hand, uint32_t freed, struct tags_told *due)
 {
 	struct bell *bell = tags_bell_of(hand->waits);
+	const bool drains = bell->is_cached && tags_load(&bell->draining) > 0;
 	struct tags_told told = { 0, 0 };
 
 	if (!bell->is_cached && are_enough_waking(bell))
 		return;
+	if (drains)
+		tags_library_flush(hand);
 	tags_library_see_to(hand, freed, &told);
-	if (bell->is_cached && (told.sleepers | told.listeners) == 0) {
+	if (bell->is_cached && !drains && (told.sleepers | told.listeners) == 0) {
 		tags_library_flush(hand);
 		tags_library_see_to(hand, freed, &told);
 	}
@@ -203,21 +228,22 @@ static void tell(struct tags_hand *hand, uint32_t freed, struct tags_told *due)
 /* A hand that keeps none and gave none back, as by a post, has nothing to see to. */
 void tags_library_see(struct tags_hand *hand, uint64_t freed, struct tags_told *due)
 {
-	const struct bell *bell = tags_bell_of(hand->waits);
+	struct bell *bell = tags_bell_of(hand->waits);
 
 	if (freed == 0 && !bell->is_cached)
 		return;
 	tell(hand, (uint32_t)smaller(freed, bell->depth), due);
-	tags_library_open_gate(hand->waits);
+	tags_library_tags_are_back(bell);
 }
 
 void tags_library_see_all(struct tags_hand *hand, struct tags_told *due)
 {
+	struct bell *bell = tags_bell_of(hand->waits);
 	struct tags_told told = { 0, 0 };
 
 	tags_library_see_to_all(hand, &told);
-	note(tags_bell_of(hand->waits), &told, due);
-	tags_library_open_gate(hand->waits);
+	note(bell, &told, due);
+	tags_library_tags_are_back(bell);
 }
 
 bool tags_library_wake(struct tags_waits *waits, const struct tags_told *due)
@@ -267,9 +293,10 @@ void tags_library_settle(struct tags_hand *hand)
  * Stops
  */
 
-/* The count of stops is odd while waits are stopped. */
+/* The count of stops is odd while waits are stopped. Whoever loads it sees what was done before. */
 static void set_stopped(struct bell *bell, uint32_t is_stopped)
 {
+	TAGS_DETAIL_SHOWS(TAGS_MAX_TOTAL + 1);
 	pthread_mutex_lock(&bell->lock);
 	if (tags_load(&bell->waits.stops) % 2 != is_stopped)
 		tags_add(&bell->waits.stops, 1);
@@ -286,7 +313,7 @@ void tags_library_stop(struct tags_waits *waits)
 		wake_sleeper(&bell->places[i]);
 		notify_listener(bell, &bell->places[i]);
 	}
-	tags_library_open_gate(waits);
+	tags_library_end_joins(bell, TAGS_STOPPED);
 	errno = saved;
 }
 

@@ -12,13 +12,17 @@
 #include <pthread.h>
 #include <stdbool.h>
 #include <stddef.h>
+#include <time.h>
 
-/*
- * Of <linux/futex.h>, which some C libraries don't find: its operations on memory that no other
- * process has, of which the wait names the bits of its waker.
- */
-enum { TAGS_FUTEX_WAKE = 1 | 128, TAGS_FUTEX_WAIT = 9 | 128, TAGS_FUTEX_REALTIME = 256 };
-#define TAGS_FUTEX_ANY UINT32_MAX
+/* Of <linux/futex.h>, which some C libraries don't find: its operations on memory that no other process has. */
+enum { TAGS_FUTEX_WAIT = 0 | 128, TAGS_FUTEX_WAKE = 1 | 128 };
+
+/* When a wait ends, by CLOCK_MONOTONIC or CLOCK_REALTIME: never if @end is NULL. */
+struct tags_limit {
+	int32_t clock;
+	const struct timespec *end;
+};
+#define TAGS_NO_LIMIT ((const struct tags_limit){ CLOCK_MONOTONIC, NULL })
 
 /* How to notify a hand: by an eventfd, or by a function; -1 and NULL if not at all. */
 struct tags_notice {
@@ -30,10 +34,37 @@ struct tags_notice {
 };
 #define TAGS_NO_NOTICE (struct tags_notice){ -1, NULL, NULL, false }
 
+/* What a look answers while what a thread waits for is not there. */
+enum { TAGS_NOT_YET = 1 };
+
+enum tags_awaited { TAGS_A_HAND, TAGS_ALL_BACK };
+
+/* Who waits at the gate of a pool: gates.c. */
+struct tags_waiter {
+	/* which pool's, by where its bell is; for what; and what ends the wait, unless it answers TAGS_NOT_YET */
+	struct bell *bell;
+	enum tags_awaited what;
+	int32_t (*look)(struct tags_waiter *it);
+	const struct tags_limit *limit;
+	/* of its look: for a hand; for all tags, with the nanoseconds that it rests before the next one */
+	struct tags_pool *pool;
+	struct tags_hand *hand;
+	uint32_t flags;
+	int32_t rest;
+	/* with the gate's lock: it is to look again; it has looked, and sleeps; what ended its wait, or TAGS_OK */
+	bool is_told;
+	bool is_asleep;
+	int32_t end;
+	pthread_cond_t bed;
+	struct tags_waiter *next;
+};
+
 /* The place of a hand in the bell. */
 struct tags_place {
-	/* where its thread sleeps: another number whenever the hand is told, or waits are stopped */
-	uint32_t rings;
+	/* on which of the beds its thread sleeps, or NULL: there is one for each clock */
+	pthread_mutex_t lock;
+	pthread_cond_t *bed;
+	pthread_cond_t beds[2];
 	/* 1 while the function of the notice runs */
 	uint32_t running;
 	/* with the bell's lock */
@@ -55,6 +86,9 @@ struct bell {
 	/* keeps @waits, which each clear loads, out of a cache line of what malloc() put before */
 	char apart[64];
 	struct tags_waits waits;
+	/* those who drain the pool; 1 if a call that gives tags back is to tell one of them: drains.c */
+	uint32_t draining;
+	uint32_t is_armed;
 	/* the ordinary tags, the reserved ones, and whether hands keep tags */
 	uint32_t depth;
 	uint32_t reserved;
@@ -93,6 +127,11 @@ static inline void tags_subtract(uint32_t *word, uint32_t number)
 	__atomic_fetch_sub(word, number, __ATOMIC_SEQ_CST);
 }
 
+static inline uint32_t tags_swap(uint32_t *word, uint32_t number)
+{
+	return __atomic_exchange_n(word, number, __ATOMIC_SEQ_CST);
+}
+
 static inline struct bell *tags_bell_of(struct tags_waits *waits)
 {
 	return (struct bell *)(void *)((char *)waits - offsetof(struct bell, waits));
@@ -110,6 +149,7 @@ static inline bool tags_is_ended(const struct tags_hand *hand)
 {
 	const uint32_t stops = tags_load(&hand->waits->stops);
 
+	TAGS_DETAIL_SEES(TAGS_MAX_TOTAL + 1);
 	return stops % 2 == 1 || stops != hand->place->stops;
 }
 
@@ -127,6 +167,14 @@ int32_t tags_library_is_told(struct tags_hand *hand, uint32_t listens);
 int32_t tags_library_get_up(struct tags_hand *hand, uint32_t listens);
 int32_t tags_library_see_to(struct tags_hand *hand, uint32_t freed, struct tags_told *told);
 int32_t tags_library_see_to_all(struct tags_hand *hand, struct tags_told *told);
+
+/* Whether a clock and a time are what they may be, and whether the time has passed. */
+bool tags_library_is_sound(const struct tags_limit *limit);
+bool tags_library_is_past(const struct tags_limit *limit);
+/* Makes what a thread sleeps on with limits by this clock. */
+void tags_library_make_bed(pthread_cond_t *bed, int32_t clock);
+/* Sleeps until a signal or the limit, without the lock. Returns whether the sleep may go on. A cancel has the lock again. */
+bool tags_library_sleep(pthread_cond_t *bed, pthread_mutex_t *lock, const struct tags_limit *limit);
 
 /* Makes a bell for this many hands, or returns NULL. */
 struct bell *tags_library_make_bell(uint32_t hands);
@@ -149,11 +197,30 @@ void tags_library_outwait(const struct tags_place *place);
 /* Calls that use a pool's handle at once take turns. */
 void tags_library_lock_handle(const struct tags_pool *pool);
 void tags_library_unlock_handle(const struct tags_pool *pool);
-/* Of a pool's handle, with its lock: its bell, or NULL if it has none, and its count of stops. */
+/* Of a pool's handle, with its lock: its bell, or NULL if it has none, and whether waits are stopped. */
 struct tags_waits *tags_library_waits_of(const struct tags_pool *pool);
-uint32_t tags_library_count_stops(const struct tags_pool *pool);
-/* Something of a pool came back: who waits at its gate looks again. */
-void tags_library_open_gate(const struct tags_waits *waits);
+bool tags_library_is_stopped(const struct tags_pool *pool);
+/* Whether anybody is at the gate of the pool that is open in a handle. Other pools may share that. */
+bool tags_library_is_crowded(const struct tags_pool *pool);
+/* Comes to the gate of the pool that is open in a handle, which a close ends. Returns whether there is one. */
+bool tags_library_come_to_gate(const struct tags_pool *pool, struct tags_waiter *it);
+
+/* Whether anybody is at a pool's gate. */
+bool tags_library_has_waiters(const struct bell *bell);
+/*
+ * Comes to the gate of @it->bell; waits there, and leaves it. The latter returns what a look or a
+ * stop or a close answered, or TAGS_TIMED_OUT.
+ */
+void tags_library_come(struct tags_waiter *it);
+int32_t tags_library_wait_at_gate(struct tags_waiter *it);
+/* Tells the first one that waits there for this and was not told yet. The pool may be closed by then. */
+void tags_library_tell_first(const struct bell *bell, enum tags_awaited what);
+/* Ends all waits there for a hand. */
+void tags_library_end_joins(const struct bell *bell, int32_t status);
+/* Tags are back: a drain that is to be told is. */
+void tags_library_tags_are_back(struct bell *bell);
+/* The drain that was to be told is not any more. Returns whether there was one. */
+bool tags_library_disarm(struct bell *bell);
 
 #pragma GCC visibility pop
 
@@ -165,6 +232,8 @@ void tags_library_open_gate(const struct tags_waits *waits);
  */
 void tags_library_see(struct tags_hand *hand, uint64_t freed, struct tags_told *due);
 bool tags_library_wake(struct tags_waits *waits, const struct tags_told *due);
+/* How many wait, as tags_waiting() tells. */
+uint32_t tags_library_count_waiting(struct tags_waits *waits);
 /* Ends all waits, and lets no other begin; lets them begin again. */
 void tags_library_stop(struct tags_waits *waits);
 void tags_library_resume(struct tags_waits *waits);

@@ -1,216 +1,232 @@
 /*
- * Waits for a hand, and for all tags to be back: for the start and the end of a program, and for
- * a resize. Whoever waits looks again whenever something came back; there are no turns.
+ * Gates, where threads wait for a hand of a pool (joins.c), or for all of its tags to be back
+ * (drains.c).
  *
- * Who waits counts itself, then looks. Who gives something back does so, and then loads the
- * count. All four are sequentially consistent, so either the look finds what came back, or the
- * load finds the sleeper; then the gate's number changes, which ends its sleep or lets none begin.
+ * Who waits is in a queue, in the order in which the waits began, and looks before it sleeps. Whoever
+ * gives something back tells the first one that waits for that and was not told yet; so it looks
+ * again. If it finds nothing, as another thread was faster, it sleeps on at its turn. If it was told
+ * and has no use for that, it tells the next one. So while somebody sleeps who was not told, as many
+ * are on their way as there are vacant hands. Whoever comes then need not look: it sleeps behind them.
  *
- * Gates belong to no pool: a hand that has left must not touch its pool, which may be closed.
+ * Who waits counts itself, then looks. Who gives something back does so, and then loads the count.
+ * All four are sequentially consistent, so either the look finds what came back, or the load finds
+ * who waits.
+ *
+ * Gates are in no pool: a hand that has left must not touch its pool, which may be closed by then.
+ * Whoever waits for a hand comes to the gate with the lock of the pool's handle, as long as the pool
+ * is open; and a close ends all waits there with that lock. So nobody waits at the gate of a pool
+ * that is gone, though another one may be open in its handle. A hand that left just before may tell
+ * one that waits for a hand of a later pool at the same address, which finds none.
  */
 #define _GNU_SOURCE
 #include "bell.h"
 
-#include <limits.h>
-#include <sys/syscall.h>
-#include <time.h>
-#include <unistd.h>
-
+/* One that several pools may share. */
 struct gate {
-	uint32_t number;
-	uint32_t sleepers;
+	pthread_mutex_t lock;
+	uint32_t waiters;
+	struct tags_waiter *first;
 };
 
-static struct gate gates[16];
+#define GATE { PTHREAD_MUTEX_INITIALIZER, 0, NULL }
+#define FOUR_GATES GATE, GATE, GATE, GATE
 
-/* The gate of a pool, which others may share. */
-static struct gate *gate_of(const struct tags_waits *waits)
+static struct gate gates[16] = { FOUR_GATES, FOUR_GATES, FOUR_GATES, FOUR_GATES };
+
+static struct gate *gate_of(const struct bell *bell)
 {
-	const uintptr_t at = (uintptr_t)waits / 64;
+	const uintptr_t at = (uintptr_t)bell / 64;
 
 	return &gates[(at ^ at >> 4 ^ at >> 8) % 16];
 }
 
-void tags_library_open_gate(const struct tags_waits *waits)
+/* In a forked child the threads that wait or have a lock are gone. */
+static void renew_gates(void)
 {
-	struct gate *gate = gate_of(waits);
-	int saved = errno;
-
-	if (tags_load(&gate->sleepers) == 0)
-		return;
-	tags_add(&gate->number, 1);
-	syscall(SYS_futex, &gate->number, TAGS_FUTEX_WAKE, INT_MAX, NULL, NULL, 0);
-	errno = saved;
+	for (size_t i = 0; i < sizeof(gates) / sizeof(*gates); i++) {
+		pthread_mutex_init(&gates[i].lock, NULL);
+		tags_store(&gates[i].waiters, 0);
+		gates[i].first = NULL;
+	}
 }
 
-static void leave_gate(void *gate)
+__attribute__((constructor)) static void watch_forks(void)
 {
-	tags_subtract(&((struct gate *)gate)->sleepers, 1);
+	pthread_atfork(NULL, NULL, renew_gates);
 }
 
 /*
- * Sleeps until the gate's number is another one. Returns whether the limit has passed. Cancels
- * act on the system call alone, as in blocking.c.
+ * The queue, with the gate's lock
  */
-static bool sleep_at(struct gate *gate, uint32_t number, int32_t clock, const struct timespec *end)
-{
-	const bool is_real = end && clock == CLOCK_REALTIME;
-	const int how = TAGS_FUTEX_WAIT | (is_real ? TAGS_FUTEX_REALTIME : 0);
-	long status;
-	int type;
 
-	pthread_cleanup_push(leave_gate, gate);
-	pthread_setcanceltype(PTHREAD_CANCEL_ASYNCHRONOUS, &type);
-	status = syscall(SYS_futex, &gate->number, how, number, end, NULL, TAGS_FUTEX_ANY);
-	pthread_setcanceltype(type, &type);
-	pthread_cleanup_pop(0);
-	return status != 0 && errno == ETIMEDOUT;
+static void enter(struct gate *gate, struct tags_waiter *it)
+{
+	struct tags_waiter **last = &gate->first;
+
+	while (*last)
+		last = &(*last)->next;
+	*last = it;
+	tags_add(&gate->waiters, 1);
 }
 
-/* What a look answers while there is nothing yet. */
-enum { NOT_YET = 1 };
+static bool waits_for(const struct tags_waiter *it, const struct bell *bell, enum tags_awaited what)
+{
+	return it->bell == bell && it->what == what;
+}
 
-/* Something that a thread waits for. */
-struct awaited {
-	int32_t (*look)(const struct awaited *it);
-	struct tags_pool *pool;
-	struct tags_hand *hand;
-	uint32_t flags;
-	/* the pool's count of stops when the wait began */
-	uint32_t stops;
-};
+static bool can_be_told(const struct tags_waiter *it)
+{
+	return !it->is_told && it->end == TAGS_OK;
+}
+
+static void tell_first(const struct gate *gate, const struct bell *bell, enum tags_awaited what)
+{
+	struct tags_waiter *it = gate->first;
+
+	while (it && !(waits_for(it, bell, what) && can_be_told(it)))
+		it = it->next;
+	if (!it)
+		return;
+	it->is_told = true;
+	pthread_cond_signal(&it->bed);
+}
+
+/* Whether somebody sleeps for the same. */
+static bool has_sleeper(const struct gate *gate, const struct tags_waiter *comer)
+{
+	for (const struct tags_waiter *it = gate->first; it; it = it->next)
+		if (waits_for(it, comer->bell, comer->what) && it->is_asleep && can_be_told(it))
+			return true;
+	return false;
+}
+
+/* Drains that sleep rely on the first one, so the next one takes its place. */
+static void leave(struct gate *gate, struct tags_waiter *it)
+{
+	struct tags_waiter **at = &gate->first;
+
+	while (*at != it)
+		at = &(*at)->next;
+	*at = it->next;
+	tags_subtract(&gate->waiters, 1);
+	if (it->what == TAGS_ALL_BACK)
+		tags_library_disarm(it->bell);
+	if (it->what == TAGS_ALL_BACK || it->is_told)
+		tell_first(gate, it->bell, it->what);
+	pthread_mutex_unlock(&gate->lock);
+	pthread_cond_destroy(&it->bed);
+}
+
+/* What is left of the wait of a thread that was cancelled in its sleep. */
+static void abandon(void *argument)
+{
+	struct tags_waiter *it = argument;
+
+	leave(gate_of(it->bell), it);
+}
+
+bool tags_library_has_waiters(const struct bell *bell)
+{
+	return tags_load(&gate_of(bell)->waiters) > 0;
+}
+
+void tags_library_tell_first(const struct bell *bell, enum tags_awaited what)
+{
+	struct gate *gate = gate_of(bell);
+
+	if (!tags_library_has_waiters(bell))
+		return;
+	pthread_mutex_lock(&gate->lock);
+	tell_first(gate, bell, what);
+	pthread_mutex_unlock(&gate->lock);
+}
+
+void tags_library_end_joins(const struct bell *bell, int32_t status)
+{
+	struct gate *gate = gate_of(bell);
+
+	if (!tags_library_has_waiters(bell))
+		return;
+	pthread_mutex_lock(&gate->lock);
+	for (struct tags_waiter *it = gate->first; it; it = it->next) {
+		if (!waits_for(it, bell, TAGS_A_HAND) || it->end != TAGS_OK)
+			continue;
+		it->end = status;
+		pthread_cond_signal(&it->bed);
+	}
+	pthread_mutex_unlock(&gate->lock);
+}
+
+/*
+ * A wait
+ */
+
+/* Gives the lock up for the look. Whoever is told amid that looks again. */
+static int32_t look_again(struct gate *gate, struct tags_waiter *it)
+{
+	int32_t status;
+
+	it->is_told = false;
+	pthread_mutex_unlock(&gate->lock);
+	status = it->look(it);
+	pthread_mutex_lock(&gate->lock);
+	return status;
+}
+
+/* Until it was told, or its wait was ended, or until the limit. */
+static void sleep_at(struct gate *gate, struct tags_waiter *it)
+{
+	it->is_asleep = true;
+	pthread_cleanup_push(abandon, it);
+	while (can_be_told(it) && tags_library_sleep(&it->bed, &gate->lock, it->limit))
+		;
+	pthread_cleanup_pop(0);
+	it->is_asleep = false;
+}
 
 /* Looks again and again, and once more after the limit. */
-static int32_t wait_at(struct gate *gate, const struct awaited *it, int32_t clock,
-		       const struct timespec *end)
+static int32_t look_until(struct gate *gate, struct tags_waiter *it)
 {
-	bool is_late = false;
+	while (it->end == TAGS_OK) {
+		const int32_t status = look_again(gate, it);
+
+		if (status != TAGS_NOT_YET)
+			return status;
+		if (tags_library_is_past(it->limit))
+			return TAGS_TIMED_OUT;
+		sleep_at(gate, it);
+	}
+	return it->end;
+}
+
+/* Whether what it was told of may still be there. */
+static bool was_refused(int32_t status)
+{
+	return status != TAGS_OK && status != TAGS_TIMED_OUT && status != TAGS_STOPPED;
+}
+
+void tags_library_come(struct tags_waiter *it)
+{
+	struct gate *gate = gate_of(it->bell);
+
+	tags_library_make_bed(&it->bed, it->limit->clock);
+	pthread_mutex_lock(&gate->lock);
+	enter(gate, it);
+	pthread_mutex_unlock(&gate->lock);
+}
+
+int32_t tags_library_wait_at_gate(struct tags_waiter *it)
+{
+	struct gate *gate = gate_of(it->bell);
 	int saved = errno;
 	int32_t status;
 
-	tags_add(&gate->sleepers, 1);
-	for (;;) {
-		const uint32_t number = tags_load(&gate->number);
-
-		status = it->look(it);
-		if (status != NOT_YET)
-			break;
-		status = TAGS_TIMED_OUT;
-		if (is_late)
-			break;
-		is_late = sleep_at(gate, number, clock, end);
-	}
-	leave_gate(gate);
+	pthread_mutex_lock(&gate->lock);
+	if (has_sleeper(gate, it) && !tags_library_is_past(it->limit))
+		sleep_at(gate, it);
+	status = look_until(gate, it);
+	it->is_told |= was_refused(status);
+	leave(gate, it);
 	errno = saved;
 	return status;
-}
-
-static bool is_sound(int32_t clock, const struct timespec *end)
-{
-	return (clock == CLOCK_MONOTONIC || clock == CLOCK_REALTIME) && end->tv_nsec >= 0 &&
-	       end->tv_nsec < 1000000000;
-}
-
-/*
- * A hand
- */
-
-static int32_t look_for_hand(const struct awaited *it)
-{
-	const int32_t status = tags_join(it->pool, it->hand, it->flags);
-	uint32_t stops;
-
-	if (status != TAGS_NO_HAND)
-		return status;
-	stops = tags_library_count_stops(it->pool);
-	return stops % 2 == 1 || stops != it->stops ? (int32_t)TAGS_STOPPED : (int32_t)NOT_YET;
-}
-
-static int32_t join_until(struct tags_pool *pool, struct tags_hand *hand, uint32_t flags,
-			  int32_t clock, const struct timespec *end)
-{
-	struct awaited it = { look_for_hand, pool, hand, flags, 0 };
-	const int32_t status = tags_join(pool, hand, flags);
-
-	if (status != TAGS_NO_HAND)
-		return status;
-	it.stops = tags_library_count_stops(pool);
-	return wait_at(gate_of(tags_library_waits_of(pool)), &it, clock, end);
-}
-
-int32_t tags_join_blocking(struct tags_pool *pool, struct tags_hand *hand, uint32_t flags)
-{
-	return join_until(pool, hand, flags, CLOCK_MONOTONIC, NULL);
-}
-
-int32_t tags_join_timed(struct tags_pool *pool, struct tags_hand *hand, uint32_t flags,
-			int32_t clock, const struct timespec *deadline)
-{
-	if (!pool || !hand || !deadline)
-		return TAGS_NULL;
-	if (!is_sound(clock, deadline))
-		return TAGS_BAD_TIME;
-	return join_until(pool, hand, flags, clock, deadline);
-}
-
-/*
- * All tags
- */
-
-static int32_t look_for_tags(const struct awaited *it)
-{
-	struct tags_sizes ordinary, reserved;
-	int32_t status = tags_pool_show(it->pool, TAGS_ORDINARY, &ordinary);
-
-	if (status == TAGS_OK)
-		status = tags_pool_show(it->pool, TAGS_RESERVED, &reserved);
-	if (status != TAGS_OK)
-		return status;
-	return ordinary.busy + reserved.busy > 0 ? (int32_t)NOT_YET : (int32_t)TAGS_OK;
-}
-
-/* The thread sanitizer is told that what was done with each tag is seen from now on. */
-static void see_all_tags(void)
-{
-	if (!__tsan_acquire)
-		return;
-	for (uint32_t tag = 0; tag < TAGS_MAX_TOTAL; tag++)
-		TAGS_DETAIL_SEES(tag);
-}
-
-static void end_drain(void *waits)
-{
-	tags_subtract(&((struct tags_waits *)waits)->waiting, 1);
-}
-
-/* Whoever gives tags back looks whether anybody waits, and then opens the gate. */
-static int32_t drain_until(struct tags_pool *pool, int32_t clock, const struct timespec *end)
-{
-	const struct awaited it = { look_for_tags, pool, NULL, 0, 0 };
-	struct tags_waits *waits = tags_library_waits_of(pool);
-	int32_t status;
-
-	if (!waits)
-		return TAGS_BAD_HANDLE;
-	tags_add(&waits->waiting, 1);
-	pthread_cleanup_push(end_drain, waits);
-	status = wait_at(gate_of(waits), &it, clock, end);
-	pthread_cleanup_pop(1);
-	if (status == TAGS_OK)
-		see_all_tags();
-	return status;
-}
-
-int32_t tags_drain(struct tags_pool *pool)
-{
-	return pool ? drain_until(pool, CLOCK_MONOTONIC, NULL) : TAGS_NULL;
-}
-
-int32_t tags_drain_timed(struct tags_pool *pool, int32_t clock, const struct timespec *deadline)
-{
-	if (!pool || !deadline)
-		return TAGS_NULL;
-	if (!is_sound(clock, deadline))
-		return TAGS_BAD_TIME;
-	return drain_until(pool, clock, deadline);
 }

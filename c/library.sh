@@ -1,9 +1,8 @@
 #!/usr/bin/env bash
 # library.sh build [--prove]: makes the library in out/ beside this file, static and shared: crates/tag_c, with what of it is C.
-# library.sh install [--prove] PREFIX: makes it, and puts it, tags.h, tags.hpp, tags.pc, CMake package files and, with python3, the
-# man pages below the prefix.
+# library.sh install [--prove] PREFIX: makes it, and puts it, tags.h and the other headers, tags.pc, CMake package files and, with
+# python3, the man pages below the prefix.
 # library.sh uninstall PREFIX: removes them.
-# library.sh crate FOLDER: makes a copy of the Rust crate that has what it makes the library of, for `cargo package`.
 # library.sh generate [FOLDER]: proves crates/tag_c and makes generated/, or FOLDER, of it, for x86-64 and 64-bit ARM, and for newer
 # processors of each.
 # library.sh dist: makes archives and Debian packages for x86-64 and 64-bit ARM, and those of tagplay, in dist/ beside this file.
@@ -21,7 +20,7 @@ AR=${AR:-${tools}ar}
 export LC_ALL=C
 
 usage() {
-  sed -n '2,14s/^# //p' "$0" >&2
+  sed -n '2,13s/^# //p' "$0" >&2
   exit 2
 }
 
@@ -37,6 +36,8 @@ fail() {
 # The version of tags.h. Each 0.x has another interface, and so a library of another name.
 version=$(sed -n 's/^#define TAGS_VERSION_MAJOR //p' "$here/tags.h").$(sed -n 's/^#define TAGS_VERSION_MINOR //p' "$here/tags.h")
 soname=libtags.so.$version
+# What is installed of the headers.
+headers=(tags.h tags_detail.h tags.hpp tags_async.hpp)
 # Beside the shared library: where the loader of glibc looks first on processors that have all of x86-64-v3.
 newer_folder=glibc-hwcaps/x86-64-v3
 
@@ -147,7 +148,8 @@ object_of() {
 # Makes the object of the crate, of its assembly or of what the kit made.
 make_crate() {
   if [[ $1 == "$here"/generated/* ]]; then
-    $CC -c "$1" -o "$making/tag_c.o"
+    # shellcheck disable=SC2086
+    $CC $apart -c "$1" -o "$making/tag_c.o"
   else
     object_of "$1" "$making/tag_c.o"
   fi
@@ -190,24 +192,36 @@ marks() {
   [[ $($CC -dumpmachine) == x86_64* ]] && $CC $mark -x c -c /dev/null -o /dev/null 2> /dev/null && echo $mark || :
 }
 
-# Links the shared library. It calls its own exports directly, and not through the table by which others find them.
+# The flag by which gcc or clang keeps jumps off the ends of blocks of 32 bytes, where the assembler can: Intel's processors from Skylake to
+# Cascade Lake decode a block with a jump there anew each time, so code would be faster or slower by where it happens to lie.
+jumps_apart() {
+  local flag=-mbranches-within-32B-boundaries way
+  [[ $($CC -dumpmachine) == x86_64* ]] || return 0
+  for way in -Wa,$flag $flag; do
+    # A wrapper such as musl-gcc may take for assembly what it refuses for C.
+    ! $CC "$way" -x c -c /dev/null -o /dev/null 2> /dev/null || { echo "$way" && return; }
+  done
+}
+
+# Links the shared library. It calls its own exports directly, and not through the table by which others find them. Once loaded it stays:
+# a thread that ends calls it (own_hands.c).
 link_to() {
   $CC -shared "$making"/*.o -o "$1" -pthread -Wl,-soname,"$soname" -Wl,--version-script="$here/tags.map" -Wl,-Bsymbolic-functions \
-    -Wl,-z,relro,-z,now,-z,defs
+    -Wl,-z,relro,-z,now,-z,defs,-z,nodelete
 }
 
 build() {
-  local file mark
+  local file mark apart
   need "$CC" "$AR" sha256sum
   choose
   mkdir -p "$out" || fail "$out can't be written: nothing was made"
   making=$(mktemp -d "$out/making.XXXXXX") || fail "$out can't be written: nothing was made"
   trap 'rm -rf "$making"' EXIT
+  mark=$(marks) apart=$(jumps_apart)
   make_crate "$code"
-  mark=$(marks)
   for file in "$here"/*.c; do
     # shellcheck disable=SC2086
-    $CC -std=c99 -O2 -fPIC -fno-plt $mark -Wall -Wextra -Wpedantic -c "$file" -o "$making/$(basename "$file" .c).o"
+    $CC -std=c99 -O2 -fPIC -fno-plt $mark $apart -Wall -Wextra -Wpedantic -c "$file" -o "$making/$(basename "$file" .c).o"
   done
   $AR rcsD "$making/libtags.a" "$making"/*.o
   link_to "$making/$soname"
@@ -241,20 +255,24 @@ folders() {
   man=${DESTDIR:-}$prefix/share/man/man3
   newer_lib=$lib/$newer_folder
   # The files of an install, and a page for each call.
-  files=("$include/tags.h" "$include/tags.hpp" "$lib/libtags.a" "$lib/$soname" "$newer_lib/$soname" "$lib/pkgconfig/tags.pc"
-    "$lib/cmake/tags/tagsConfig.cmake" "$lib/cmake/tags/tagsConfigVersion.cmake")
+  files=("$lib/libtags.a" "$lib/$soname" "$newer_lib/$soname" "$lib/pkgconfig/tags.pc" "$lib/cmake/tags/tagsConfig.cmake"
+    "$lib/cmake/tags/tagsConfigVersion.cmake")
   pages=("$man/tags.3")
-  local call
+  local header call
+  for header in "${headers[@]}"; do
+    files+=("$include/$header")
+  done
   for call in $(sed -n 's/^ \* \(tags_[a-z_]*\)() - .*/\1/p' "$here/tags.h"); do
     pages+=("$man/$call.3")
   done
 }
 
-# What a program is told of where the shared library is: nothing, if the loader looks there.
-rpath() {
+# What tags.pc links: the shared library where the loader looks for it, and elsewhere the static one, by a name that no shared one has. To
+# tell the loader another place takes an -rpath, and a static PIE in which one is left crashes before main().
+linked() {
   case "$libdir" in
-    /lib | /lib/* | /lib64 | /usr/lib | /usr/lib/* | /usr/lib64 | /usr/local/lib | /usr/local/lib/*) ;;
-    *) echo ' -Wl,-rpath,"${libdir}"' ;;
+    /lib | /lib/* | /lib64 | /usr/lib | /usr/lib/* | /usr/lib64 | /usr/local/lib | /usr/local/lib/*) echo tags ;;
+    *) echo tags-static ;;
   esac
 }
 
@@ -268,7 +286,14 @@ filled() {
   local to
   to=$(realpath -ms --relative-to="$libdir/cmake/tags" "$prefix/include")
   sed -e "s|@PREFIX@|$(quoted "$prefix")|" -e "s|@LIBDIR@|$(quoted "$libdir")|" -e "s|@VERSION@|$version|" \
-    -e "s|@RPATH@|$(quoted "$(rpath)")|" -e "s|@INCLUDE@|$(quoted "$to")|" "$1"
+    -e "s|@LINKED@|$(linked)|" -e "s|@RPATH@||" -e "s|@INCLUDE@|$(quoted "$to")|" "$1"
+}
+
+put_headers() {
+  local header
+  for header in "${headers[@]}"; do
+    cp "$here/$header" "$include/$header.new" || return
+  done
 }
 
 # The shared library for newer processors, if it was built.
@@ -281,8 +306,7 @@ put() {
   local file
   folders "$1"
   if mkdir -p "$include" "$lib/pkgconfig" "$lib/cmake/tags" &&
-    cp "$here/tags.h" "$include/tags.h.new" &&
-    cp "$here/tags.hpp" "$include/tags.hpp.new" &&
+    put_headers &&
     cp "$out/libtags.a" "$lib/libtags.a.new" &&
     cp "$out/$soname" "$lib/$soname.new" &&
     put_newer &&
@@ -298,6 +322,7 @@ put() {
     done
     [ -f "$newer_lib/$soname" ] || rmdir "$newer_lib" "${newer_lib%/*}" 2> /dev/null || :
     ln -sfn "$soname" "$lib/libtags.so"
+    [ "$(linked)" = tags ] || ln -sfn libtags.a "$lib/libtags-static.a"
   else
     for file in "${files[@]}"; do
       rm -f "$file.new"
@@ -329,25 +354,12 @@ install_to() {
 
 uninstall_from() {
   folders "$1"
-  rm -f "${files[@]}" "${pages[@]}" "$lib/libtags.so"
+  rm -f "${files[@]}" "${pages[@]}" "$lib/libtags.so" "$lib/libtags-static.a"
   # Folders that nothing else is in.
   rmdir "$newer_lib" "${newer_lib%/*}" "$lib/cmake/tags" "$lib/cmake" "$lib/pkgconfig" "$man" "${man%/*}" 2> /dev/null || :
 }
 
 prove=
-# The crate takes the files from the checkout around it, and a copy has none.
-copy_crate() {
-  local words
-  need tar sha256sum
-  for words in x86_64-linux 'x86_64-linux v3' aarch64-linux 'aarch64-linux lse'; do
-    # shellcheck disable=SC2086
-    current_assembly $words > /dev/null
-  done
-  mkdir -p "$1/native" || fail "$1 can't be written: nothing was made"
-  tar -C "$here/rust" --exclude=./target --exclude=./.gitignore -cf - . | tar -C "$1" -xf -
-  cp "$here"/*.c "$here"/*.h "$here"/generated/*.s "$1/native"
-}
-
 case "${1:-} ${2:-}" in
   'build --prove' | 'install --prove') prove=1 && set -- "$1" "${@:3}" ;;
 esac
@@ -359,8 +371,7 @@ case "$#:${1:-}" in
   # For dist.py: puts what was built.
   2:put) put "$2" ;;
   2:uninstall) uninstall_from "$2" ;;
-  2:crate) copy_crate "$2" ;;
-  # For CMake and Cargo: the assembly for a target, and for a level of it. For CMake: the level that a compiler and its flags ask for.
+  # For CMake: the assembly for a target, and for a level of it; the level that a compiler and its flags ask for.
   # For generate.py: the sum of the sources of crates.
   2:assembly | 3:assembly) current_assembly "${@:2}" ;;
   *:level) level "${@:2}" ;;

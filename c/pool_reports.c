@@ -80,14 +80,24 @@ static uint32_t batch_of(const struct bell *bell)
 	return bell->waits.batch;
 }
 
-int32_t tags_library_waiting(const struct tags_hand *hand)
-{
-	return hand->place ? (int32_t)tags_load(&hand->waits->waiting) : (int32_t)TAGS_BAD_HANDLE;
-}
-
+/* Drains are counted by themselves, and a pool that is armed is not: drains.c. */
 static uint32_t waiting_of(const struct bell *bell)
 {
-	return tags_load(&bell->waits.waiting);
+	const uint32_t is_armed = tags_load(&bell->is_armed);
+	const uint32_t uncounted = bell->is_cached ? 0 : tags_load(&bell->draining);
+	const uint32_t waiting = tags_load(&bell->waits.waiting) + uncounted;
+
+	return waiting < is_armed ? 0 : waiting - is_armed;
+}
+
+uint32_t tags_library_count_waiting(struct tags_waits *waits)
+{
+	return waiting_of(tags_bell_of(waits));
+}
+
+int32_t tags_library_waiting(const struct tags_hand *hand)
+{
+	return hand->place ? (int32_t)waiting_of(tags_bell_of(hand->waits)) : (int32_t)TAGS_BAD_HANDLE;
 }
 
 int32_t tags_pool_waiting(struct tags_pool *pool)

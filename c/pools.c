@@ -58,12 +58,16 @@ void tags_library_unlock_handle(const struct tags_pool *pool)
 	pthread_mutex_unlock(lock_of(pool));
 }
 
-/* Whether the options allow the shift. One that is too large passes: the library refuses it. */
-static bool knows_shift(const struct tags_options *options)
+/* In a forked child the threads that had them locked are gone. */
+static void renew_locks(void)
 {
-	if (options->flags & TAGS_ONE_PER_WORD)
-		return options->shift == 0;
-	return options->shift >= TAGS_DEFAULT_SHIFT;
+	for (size_t i = 0; i < sizeof(locks) / sizeof(*locks); i++)
+		pthread_mutex_init(&locks[i], NULL);
+}
+
+__attribute__((constructor)) static void watch_forks(void)
+{
+	pthread_atfork(NULL, NULL, renew_locks);
 }
 
 /*
@@ -74,30 +78,55 @@ static struct tags_options asked_for(const struct tags_options *options)
 {
 	struct tags_options asked = *options;
 
-	if (!(asked.flags & TAGS_ONE_PER_WORD) && asked.shift == 0)
-		asked.shift = TAGS_DEFAULT_SHIFT;
-	asked.flags &= ~(uint32_t)(TAGS_ONE_PER_WORD | TAGS_KEEP_WHILE_HOLDING);
+	if (options->shift == 0)
+		asked.shift = -1;
+	else if (options->shift == TAGS_ONE_PER_WORD)
+		asked.shift = 0;
+	asked.flags &= ~(uint32_t)TAGS_KEEP_WHILE_HOLDING;
 	return asked;
+}
+
+/*
+ * Notes how many tags a pool has now. No batch is longer than the first word, which is the longest:
+ * in a small pool it has fewer tags than bits.
+ */
+static void note_total(struct tags_pool *pool, struct bell *bell, uint32_t total)
+{
+	struct tags_sizes sizes = { 0, 0, 0, 0, 0 };
+	uint32_t batch;
+
+	tags_library_pool_show(pool, TAGS_ORDINARY, &sizes);
+	bell->depth = total - bell->reserved;
+	batch = bell->depth < sizes.bits_per_word ? bell->depth : sizes.bits_per_word;
+	/* a program in another language may load it meanwhile */
+	tags_store(&bell->waits.batch, batch > 0 ? batch : 1);
 }
 
 /* Gives a pool its bell, or closes it again. */
 static int32_t add_bell(struct tags_pool *pool, const struct tags_options *options)
 {
 	struct bell *bell = tags_library_make_bell(options->hands);
-	struct tags_sizes sizes = { 0, 0, 0, 0, 0 };
 	struct tags_sums unused;
 
 	if (!bell) {
 		tags_library_close(pool, &unused);
 		return TAGS_NO_MEMORY;
 	}
-	bell->depth = options->total - options->reserved;
 	bell->reserved = options->reserved;
 	bell->is_cached = options->cache > 0;
-	tags_library_pool_show(pool, TAGS_ORDINARY, &sizes);
-	bell->waits.batch = sizes.bits_per_word > 0 ? sizes.bits_per_word : 1;
+	note_total(pool, bell, options->total);
 	pool->waits = &bell->waits;
 	return TAGS_OK;
+}
+
+/* Those who wait for a hand are answered before another pool can be opened in the handle. */
+static void remove_bell(struct tags_pool *pool)
+{
+	struct bell *bell = tags_bell_of(pool->waits);
+
+	pool->waits = NULL;
+	tags_library_end_joins(bell, TAGS_BAD_HANDLE);
+	tags_library_free_bell(bell);
 }
 
 static int32_t open_locked(struct tags_pool *pool, const struct tags_options *options)
@@ -105,7 +134,8 @@ static int32_t open_locked(struct tags_pool *pool, const struct tags_options *op
 	const struct tags_options asked = asked_for(options);
 	int32_t status;
 
-	if (!pool->full && asked.flags <= TAGS_ROUND_ROBIN && !knows_shift(options))
+	/* The library refuses one that is too large. */
+	if (!pool->full && asked.flags <= TAGS_ROUND_ROBIN && options->shift < TAGS_ONE_PER_WORD)
 		return TAGS_BAD_SHIFT;
 	status = tags_library_open_cached(pool, &asked, options->cache,
 					  (options->flags & TAGS_KEEP_WHILE_HOLDING) != 0);
@@ -151,12 +181,13 @@ int32_t tags_join(struct tags_pool *pool, struct tags_hand *hand, uint32_t flags
 
 int32_t tags_library_return_hand(struct tags_hand *hand)
 {
-	const struct tags_waits *waits = hand->waits;
+	struct bell *bell;
 	int saved = errno;
 	int32_t status;
 
 	if (!hand->place)
 		return TAGS_BAD_HANDLE;
+	bell = tags_bell_of(hand->waits);
 	tags_library_cancel(hand);
 	tags_flush(hand);
 	hand->waits = NULL;
@@ -164,7 +195,7 @@ int32_t tags_library_return_hand(struct tags_hand *hand)
 	TAGS_DETAIL_SHOWS(TAGS_MAX_TOTAL);
 	begin_hidden();
 	status = end_hidden(tags_library_leave(hand));
-	tags_library_open_gate(waits);
+	tags_library_tell_first(bell, TAGS_A_HAND);
 	errno = saved;
 	return status;
 }
@@ -179,11 +210,8 @@ int32_t tags_resize(struct tags_pool *pool, uint32_t total)
 	tags_library_lock_handle(pool);
 	begin_hidden();
 	status = end_hidden(tags_library_resize(pool, total));
-	if (status == TAGS_OK) {
-		struct bell *bell = tags_bell_of(pool->waits);
-
-		bell->depth = total - bell->reserved;
-	}
+	if (status == TAGS_OK)
+		note_total(pool, tags_bell_of(pool->waits), total);
 	tags_library_unlock_handle(pool);
 	TAGS_DETAIL_SEES(TAGS_MAX_TOTAL);
 	errno = saved;
@@ -200,10 +228,8 @@ int32_t tags_close(struct tags_pool *pool, struct tags_sums *sums)
 	tags_library_lock_handle(pool);
 	begin_hidden();
 	status = tags_detail_filled(end_hidden(tags_library_close(pool, sums)), sums, sizeof(*sums));
-	if (status == TAGS_OK || status == TAGS_HAND_LOST) {
-		tags_library_free_bell(tags_bell_of(pool->waits));
-		pool->waits = NULL;
-	}
+	if (status == TAGS_OK || status == TAGS_HAND_LOST)
+		remove_bell(pool);
 	tags_library_unlock_handle(pool);
 	TAGS_DETAIL_SEES(TAGS_MAX_TOTAL);
 	errno = saved;
@@ -230,22 +256,49 @@ int32_t tags_resume(struct tags_pool *pool)
 	return TAGS_OK;
 }
 
-struct tags_waits *tags_library_waits_of(const struct tags_pool *pool)
+/* With the handle's lock. */
+static struct bell *bell_in(const struct tags_pool *pool)
 {
-	struct tags_waits *waits;
-
-	tags_library_lock_handle(pool);
-	waits = pool->place ? NULL : pool->waits;
-	tags_library_unlock_handle(pool);
-	return waits;
+	return pool->waits && !pool->place ? tags_bell_of(pool->waits) : NULL;
 }
 
-uint32_t tags_library_count_stops(const struct tags_pool *pool)
+struct tags_waits *tags_library_waits_of(const struct tags_pool *pool)
 {
-	uint32_t stops;
+	struct bell *bell;
 
 	tags_library_lock_handle(pool);
-	stops = pool->waits ? tags_load(&pool->waits->stops) : 0;
+	bell = bell_in(pool);
 	tags_library_unlock_handle(pool);
-	return stops;
+	return bell ? &bell->waits : NULL;
+}
+
+bool tags_library_is_crowded(const struct tags_pool *pool)
+{
+	bool is_crowded;
+
+	tags_library_lock_handle(pool);
+	is_crowded = bell_in(pool) && tags_library_has_waiters(bell_in(pool));
+	tags_library_unlock_handle(pool);
+	return is_crowded;
+}
+
+bool tags_library_come_to_gate(const struct tags_pool *pool, struct tags_waiter *it)
+{
+	tags_library_lock_handle(pool);
+	it->bell = bell_in(pool);
+	if (it->bell)
+		tags_library_come(it);
+	tags_library_unlock_handle(pool);
+	return it->bell != NULL;
+}
+
+bool tags_library_is_stopped(const struct tags_pool *pool)
+{
+	bool is_stopped;
+
+	tags_library_lock_handle(pool);
+	is_stopped = pool->waits && tags_load(&pool->waits->stops) % 2 == 1;
+	TAGS_DETAIL_SEES(TAGS_MAX_TOTAL + 1);
+	tags_library_unlock_handle(pool);
+	return is_stopped;
 }

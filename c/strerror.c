@@ -10,7 +10,7 @@ static const char *const sentences[] = {
 	[-TAGS_NOT_POSTED] = "the tag is not posted, or another hand took it first",
 	[-TAGS_BAD_COUNT] = "a batch of 0 tags, or a list of more than 64",
 	[-TAGS_TOO_SHALLOW] = "the depth is 0, or below the pool's min_shallow",
-	[-TAGS_SPENT] = "the hand could take more than 2^48 tags in its life",
+	[-TAGS_SPENT] = "the hand could take more than 2^48 ordinary or reserved tags in its life",
 	[-TAGS_WAITING] = "the hand waits already",
 	[-TAGS_NOT_WAITING] = "the hand does not wait",
 	[-TAGS_NO_TAG] = "no tag was found free",
@@ -35,7 +35,7 @@ static const char *const sentences[] = {
 	[-TAGS_BAD_TIME] = "the clock is CLOCK_MONOTONIC or CLOCK_REALTIME, "
 			   "and the nanoseconds are from 0 to 999,999,999",
 	[-TAGS_BAD_EVENT] = "the descriptor is below 0",
-	[-TAGS_BAD_SHIFT] = "the shift is at least -1, and 0 with TAGS_ONE_PER_WORD",
+	[-TAGS_BAD_SHIFT] = "the shift is at least 0, or TAGS_ONE_PER_WORD",
 	[-TAGS_CACHE_TOO_LARGE] = "a hand keeps at most 64 tags in its cache",
 	[-TAGS_STOPPED] = "the pool was stopped, which ends all waits",
 };

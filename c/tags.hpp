@@ -10,9 +10,9 @@
  *	if (std::optional<tags::tag> tag = hand.get())
  *		tag->write(70);
  *
- * This header is the whole C++ part: inline functions over the calls of tags.h, which says
- * what the library proves. A get and the destructor of its tag make the two calls that a
- * program in C makes, and no others.
+ * This header is the whole C++ part, but for coroutines, which wait by tags_async.hpp: inline
+ * functions over the calls of tags.h, which says what the library proves. A get and the
+ * destructor of its tag make the two calls that a program in C makes, and no others.
  *
  * Errors
  *   A refused call changes nothing. Its reason is a tags::errc, of a category whose texts are
@@ -50,12 +50,15 @@
 #ifndef TAGS_HPP
 #define TAGS_HPP
 
+#if __cplusplus < 201703L
+#error "tags.hpp needs C++17 or newer: compile with -std=c++17"
+#else
+
 #include "tags.h"
 
 #include <atomic>
 #include <cassert>
 #include <chrono>
-#include <climits>
 #include <cstddef>
 #include <cstdint>
 #include <cstdio>
@@ -68,14 +71,6 @@
 #include <system_error>
 #include <type_traits>
 #include <utility>
-
-#if defined __cpp_impl_coroutine && __has_include(<coroutine>)
-#include <coroutine>
-#include <unistd.h>
-#if __has_include(<stop_token>)
-#include <stop_token>
-#endif
-#endif
 
 #ifdef __cpp_exceptions
 #define TAGS_THROWS 1
@@ -409,8 +404,8 @@ inline std::timespec moment(std::int64_t since_epoch) noexcept
 {
 	std::timespec time = {};
 	if (since_epoch > 0) {
-		time.tv_sec = static_cast<std::time_t>(since_epoch / second);
-		time.tv_nsec = static_cast<long>(since_epoch % second);
+		time.tv_sec = since_epoch / second;
+		time.tv_nsec = since_epoch % second;
 	}
 	return time;
 }
@@ -552,16 +547,15 @@ struct options {
 		tags_options made = TAGS_OPTIONS_INIT;
 		made.total = total;
 		made.reserved = reserved;
-		made.shift = TAGS_DEFAULT_SHIFT;
-		if (shift)
+		if (shift == 0U)
+			made.shift = TAGS_ONE_PER_WORD;
+		else if (shift)
 			made.shift = *shift < 32 ? static_cast<std::int32_t>(*shift) : 32;
 		made.min_shallow = min_shallow;
 		made.hands = hands;
 		made.cache = cache;
 		if (round_robin)
 			made.flags |= TAGS_ROUND_ROBIN;
-		if (shift == 0U)
-			made.flags |= TAGS_ONE_PER_WORD;
 		if (keep_while_holding)
 			made.flags |= TAGS_KEEP_WHILE_HOLDING;
 		return made;
@@ -595,14 +589,12 @@ public:
 		: hand_(std::exchange(other.hand_, nullptr)), number_(other.number_)
 	{}
 
-	/// Gives the tag that this object has back first, if it has one.
+	/// Gives the tag that this object had back, if it had one.
 	tag &operator=(tag &&other) noexcept
 	{
-		if (this != &other) {
-			clear();
-			hand_ = std::exchange(other.hand_, nullptr);
-			number_ = other.number_;
-		}
+		tag taken(std::move(other));
+		std::swap(hand_, taken.hand_);
+		std::swap(number_, taken.number_);
 		return *this;
 	}
 
@@ -664,7 +656,7 @@ public:
 	std::uint64_t read_clear()
 	{
 		std::uint64_t value = 0;
-		detail::check(gone(tags_read_clear(detail::raw(hand_), number_, &value)));
+		detail::check(try_read_clear(value));
 		return value;
 	}
 
@@ -676,8 +668,9 @@ public:
 	/// Errors: bad_handle.
 	std::uint32_t post()
 	{
-		detail::check(gone(tags_post(detail::raw(hand_), number_)));
-		return number_;
+		const std::uint32_t number = number_;
+		detail::check(try_post());
+		return number;
 	}
 #endif
 
@@ -698,15 +691,16 @@ public:
 	std::uint64_t read_clear(std::error_code &ec) noexcept
 	{
 		std::uint64_t value = 0;
-		detail::note(gone(tags_read_clear(detail::raw(hand_), number_, &value)), ec);
+		detail::note(try_read_clear(value), ec);
 		return value;
 	}
 
 	std::uint32_t post(std::error_code &ec) noexcept
 	{
-		const std::int32_t status = gone(tags_post(detail::raw(hand_), number_));
+		const std::uint32_t number = number_;
+		const std::int32_t status = try_post();
 		detail::note(status, ec);
-		return status < 0 ? 0 : number_;
+		return status < 0 ? 0 : number;
 	}
 
 private:
@@ -718,12 +712,31 @@ private:
 
 	tag(detail::joined *hand, std::uint32_t number) noexcept : hand_(hand), number_(number) {}
 
-	/// After a call that takes the tag away unless it is refused.
-	std::int32_t gone(std::int32_t status) noexcept
+	/// Makes a call that takes the tag away unless it is refused. Whoever is told of it may be a
+	/// function of the program's that ends this object: so that is empty by then, and only after
+	/// a refusal, of which nobody is told, is it touched again.
+	template <class Call>
+	std::int32_t give(const Call &call) noexcept
 	{
-		if (status >= 0)
-			hand_ = nullptr;
+		detail::joined *const hand = std::exchange(hand_, nullptr);
+		const std::int32_t status = call(detail::raw(hand), number_);
+		if (status < 0)
+			hand_ = hand;
 		return status;
+	}
+
+	std::int32_t try_read_clear(std::uint64_t &value) noexcept
+	{
+		return give([&value](tags_hand *hand, std::uint32_t number) {
+			return tags_read_clear(hand, number, &value);
+		});
+	}
+
+	std::int32_t try_post() noexcept
+	{
+		return give([](tags_hand *hand, std::uint32_t number) {
+			return tags_post(hand, number);
+		});
 	}
 
 	detail::joined *hand_ = nullptr;
@@ -819,14 +832,12 @@ public:
 		: hand_(other.hand_), numbers_(std::exchange(other.numbers_, {}))
 	{}
 
-	/// Gives the tags that this object has back first, if it has any.
+	/// Gives the tags that this object had back, if it had any.
 	batch &operator=(batch &&other) noexcept
 	{
-		if (this != &other) {
-			clear();
-			hand_ = other.hand_;
-			numbers_ = std::exchange(other.numbers_, {});
-		}
+		batch taken(std::move(other));
+		std::swap(hand_, taken.hand_);
+		std::swap(numbers_, taken.numbers_);
 		return *this;
 	}
 
@@ -898,8 +909,9 @@ public:
 	/// Errors: bad_handle.
 	numbers post()
 	{
-		detail::check(try_post());
-		return std::exchange(numbers_, {});
+		numbers posted;
+		detail::check(try_post(posted));
+		return posted;
 	}
 #endif
 
@@ -919,9 +931,9 @@ public:
 
 	numbers post(std::error_code &ec) noexcept
 	{
-		const std::int32_t status = try_post();
-		detail::note(status, ec);
-		return status < 0 ? numbers() : std::exchange(numbers_, {});
+		numbers posted;
+		detail::note(try_post(posted), ec);
+		return posted;
 	}
 
 private:
@@ -952,11 +964,17 @@ private:
 		return status < 0 ? status : tags_write(&hand_->handle, number, value, &former);
 	}
 
-	std::int32_t try_post() noexcept
+	/// As tag::give() does it: the object is empty while others are told.
+	std::int32_t try_post(numbers &posted) noexcept
 	{
 		if (!numbers_)
 			return TAGS_BAD_HANDLE;
-		return tags_post_mask(&hand_->handle, numbers_.first, numbers_.mask);
+		posted = std::exchange(numbers_, {});
+		const std::int32_t status =
+			tags_post_mask(&hand_->handle, posted.first, posted.mask);
+		if (status < 0)
+			numbers_ = std::exchange(posted, {});
+		return status;
 	}
 
 	detail::joined *hand_ = nullptr;
@@ -975,13 +993,11 @@ public:
 
 	hand(hand &&other) noexcept : state_(std::exchange(other.state_, nullptr)) {}
 
-	/// Returns the hand that this object has to its pool first, as the destructor does.
+	/// Returns the hand that this object had to its pool, as the destructor does.
 	hand &operator=(hand &&other) noexcept
 	{
-		if (this != &other) {
-			end();
-			state_ = std::exchange(other.state_, nullptr);
-		}
+		hand taken(std::move(other));
+		std::swap(state_, taken.state_);
 		return *this;
 	}
 
@@ -1041,9 +1057,12 @@ public:
 		return found(state_, tags_get_shallow(raw(), depth));
 	}
 
-	/// Takes up to n ordinary tags out of a run of n; if a word has fewer, out of as many as it
-	/// has: see pool::batch_limit(). The batch can be smaller than n, even while more tags are
-	/// free. No batch: as from get(); and always in a pool with round_robin.
+	/// Takes up to n ordinary tags out of a run of n; if no word has as many, out of the most
+	/// that one has: see pool::batch_limit(). The run begins at the first free tag of a word, and
+	/// has to end in that word. The batch can be smaller than n, even while more tags are free.
+	/// No batch: each word had no room for such a run at some moment of the call, which does not
+	/// mean that all tags are taken: ask for fewer, or call get(). In a pool with round_robin
+	/// there is never one.
 	///
 	/// Errors: bad_handle, spent; bad_count for an n of 0.
 	[[nodiscard]] std::optional<batch> get_batch(std::uint32_t n)
@@ -1451,9 +1470,12 @@ private:
 		}
 		if (!are_loose)
 			return TAGS_NOT_HELD;
-		const std::int32_t answer = tags_clear_batch(raw(), numbers, count);
-		for (std::size_t i = 0; answer >= 0 && i < count; i++)
+		// Whoever is told may be a function that ends the list.
+		for (std::size_t i = 0; i < count; i++)
 			state_->tie(numbers[i]);
+		const std::int32_t answer = tags_clear_batch(raw(), numbers, count);
+		for (std::size_t i = 0; answer < 0 && i < count; i++)
+			state_->let_go(numbers[i]);
 		return answer;
 	}
 
@@ -1525,10 +1547,8 @@ public:
 
 	pool &operator=(pool &&other) noexcept
 	{
-		if (this != &other) {
-			end();
-			shared_ = std::exchange(other.shared_, nullptr);
-		}
+		pool taken(std::move(other));
+		std::swap(shared_, taken.shared_);
 		return *this;
 	}
 
@@ -1546,8 +1566,8 @@ public:
 		return shared_ != nullptr ? shared_->reserved : 0;
 	}
 
-	/// The most tags that one hand::get_batch() returns: as many as a word has, also after a
-	/// resize; 0 if it is empty.
+	/// The most tags that one hand::get_batch() returns: as many as the longest word has, which
+	/// in a pool with fewer ordinary tags than a word has bits are all of these; 0 if it is empty.
 	std::uint32_t batch_limit() const noexcept { return counted(tags_pool_batch(raw())); }
 
 	/// For the calls of tags.h: NULL if it is empty. Do not close it by them.
@@ -1569,9 +1589,9 @@ public:
 	/// The same, but the hand's next get starts where its last one left off, or at tag 0.
 	[[nodiscard]] hand join_in_place() { return joined_by(TAGS_STAY); }
 
-	/// Returns a hand for one thread, and sleeps while all hands are out. Whoever asks first once
-	/// one has left has it. Don't sleep while this thread has a hand that others wait for. While
-	/// it sleeps it is a cancellation point.
+	/// Returns a hand for one thread, and sleeps while all hands are out. Those who sleep get the
+	/// hands that leave in turn. Don't sleep while this thread has a hand that others wait for.
+	/// While it sleeps it is a cancellation point.
 	///
 	/// Errors: bad_handle, no_memory; stopped if it would have to sleep in a pool that was
 	/// stopped.
@@ -2150,432 +2170,10 @@ private:
 	std::uint32_t to_ = 0;
 };
 
-/*
- * Coroutines
- */
-
-#ifdef __cpp_lib_coroutine
-/* for programs to test */
-#define TAGS_HAS_COROUTINES 1
-
-namespace detail {
-
-#ifdef __cpp_lib_jthread
-using stop_token = std::stop_token;
-
-/// Has the event loop look, on whichever thread a stop is requested.
-struct notifier {
-	int eventfd;
-
-	void operator()() const noexcept
-	{
-		const std::uint64_t one = 1;
-		[[maybe_unused]] const auto written = ::write(eventfd, &one, sizeof(one));
-	}
-};
-
-using stop_callback = std::stop_callback<notifier>;
-#else
-struct stop_token {
-	bool stop_requested() const noexcept { return false; }
-};
-#endif
-
-/// When a coroutine waits no longer.
-struct limit {
-	/// By std::chrono::steady_clock; the longest is never.
-	std::int64_t deadline = longest;
-	stop_token token = {};
-
-	static std::int64_t now() noexcept
-	{
-		return nanoseconds(std::chrono::steady_clock::now().time_since_epoch());
-	}
-
-	static std::int64_t after(std::int64_t time) noexcept
-	{
-		const std::int64_t from = now();
-		return time < longest - from ? from + time : longest;
-	}
-
-	bool is_over() const noexcept
-	{
-		return token.stop_requested() || (deadline != longest && now() >= deadline);
-	}
-};
-
-} // namespace detail
-
-/// The coroutines that wait for tags of one hand, in the order in which their waits began:
-/// co_await listener.get() is a tag. It asks this of the program's event loop: when the eventfd
-/// that the listener was made with is readable, read it and call resume(), soon, on each listener
-/// that was made with it. The eventfd stays the program's, which makes it non-blocking and closes
-/// it after the listener.
-///
-/// A hand waits for one listener at a time, since it has one place among those who wait: while it
-/// has a listener, or waits by hand::get_async() or hand::get_notified(), each get() of another one
-/// is refused with waiting. Make a listener for each hand; several may share an eventfd.
-///
-/// A listener is used by one thread at a time, as its hand is, and coroutines are resumed on the
-/// thread that calls resume(). A coroutine that is destroyed while it waits waits no more: if it
-/// was to be resumed with a tag, the tag goes back, and if none is left that waits, the hand's wait
-/// is cancelled. The destructor of a listener for which a coroutine waits calls std::terminate();
-/// so stop the pool and call resume(), or destroy the coroutines, before.
-class listener {
-	/// A place in one of the two lists, or a list, which is a ring.
-	struct link {
-		link *next = this;
-		link *previous = this;
-
-		link() noexcept = default;
-		link(const link &) = delete;
-		link &operator=(const link &) = delete;
-
-		bool is_alone() const noexcept { return next == this; }
-
-		void put_before(link &other) noexcept
-		{
-			next = &other;
-			previous = other.previous;
-			previous->next = this;
-			other.previous = this;
-		}
-
-		void take_out() noexcept
-		{
-			next->previous = previous;
-			previous->next = next;
-			next = previous = this;
-		}
-	};
-
-public:
-	/// A coroutine's wait.
-	class waiter : link {
-	public:
-		waiter(const waiter &) = delete;
-		waiter &operator=(const waiter &) = delete;
-
-		/// Tries, unless others wait already.
-		bool await_ready() noexcept
-		{
-			stops_ = listener_->count_stops();
-			if (listener_->waiting_.is_alone())
-				set(listener_->try_or_wait(*this));
-			if (answer_ == TAGS_NO_TAG && limit_.is_over()) {
-				answer_ = TAGS_TIMED_OUT;
-				listener_->end_wait();
-			}
-			return answer_ != TAGS_NO_TAG;
-		}
-
-		void await_suspend(std::coroutine_handle<> coroutine)
-		{
-			coroutine_ = coroutine;
-			put_before(listener_->waiting_);
-#ifdef __cpp_lib_jthread
-			if (limit_.token.stop_possible())
-				callback_.emplace(limit_.token,
-						  detail::notifier{listener_->eventfd_});
-#endif
-		}
-
-	protected:
-		waiter(listener *from, detail::limit limit) noexcept
-			: listener_(from), limit_(std::move(limit))
-		{}
-
-		/// What the wait is told as: that it was limited is no error.
-		std::int32_t status() const noexcept
-		{
-			return answer_ == TAGS_TIMED_OUT ? TAGS_OK : answer_;
-		}
-
-		~waiter()
-		{
-			const bool is_listed = !is_alone();
-			take_out();
-			if (is_listed && answer_ == TAGS_NO_TAG)
-				listener_->end_wait();
-		}
-
-		std::int32_t answer_ = TAGS_NO_TAG;
-		tag tag_;
-
-	private:
-		friend class listener;
-
-		void set(std::int32_t answer) noexcept
-		{
-			answer_ = answer;
-			if (answer >= 0)
-				tag_ = tag(listener_->hand_, static_cast<std::uint32_t>(answer));
-		}
-
-		listener *listener_;
-		/// The pool's count of stops when the wait began.
-		std::uint32_t stops_ = 0;
-		detail::limit limit_;
-		std::coroutine_handle<> coroutine_;
-#ifdef __cpp_lib_jthread
-		std::optional<detail::stop_callback> callback_;
-#endif
-	};
-
-#ifdef TAGS_THROWS
-	/// What get() returns, to be awaited at once.
-	class [[nodiscard]] awaiter final : public waiter {
-	public:
-		tag await_resume()
-		{
-			detail::check(status());
-			return std::move(tag_);
-		}
-
-	private:
-		friend class listener;
-
-		awaiter(listener *from, detail::limit limit) noexcept
-			: waiter(from, std::move(limit))
-		{}
-	};
-#endif
-
-	/// What get() with a code returns, to be awaited at once.
-	class [[nodiscard]] awaiter_with_code final : public waiter {
-	public:
-		tag await_resume() noexcept
-		{
-			detail::note(status(), code_);
-			return std::move(tag_);
-		}
-
-	private:
-		friend class listener;
-
-		awaiter_with_code(listener *from, detail::limit limit, std::error_code &ec) noexcept
-			: waiter(from, std::move(limit)), code_(ec)
-		{}
-
-		std::error_code &code_;
-	};
-
-	/// The coroutines wait with this hand, and the eventfd is notified. If the hand has a
-	/// listener already, or waits by hand::get_async() or hand::get_notified(), each get() is
-	/// refused with waiting.
-	listener(hand &with, int eventfd) noexcept
-		: hand_(with.state_), eventfd_(eventfd),
-		  is_second_(hand_ != nullptr && (hand_->has_listener || hand_->is_async))
-	{
-		if (hand_ == nullptr || is_second_)
-			return;
-		hand_->has_listener = true;
-	}
-
-	listener(const listener &) = delete;
-	listener &operator=(const listener &) = delete;
-
-	/// Whether each get() is refused with waiting, because the hand waited for another listener,
-	/// or by hand::get_async() or hand::get_notified(), when this one was made.
-	bool is_refused() const noexcept { return is_second_; }
-
-	~listener()
-	{
-		if (!waiting_.is_alone() || !ready_.is_alone())
-			detail::give_up("a listener was destroyed while a coroutine waits");
-		if (hand_ == nullptr || is_second_)
-			return;
-		hand_->has_listener = false;
-	}
-
-#ifdef TAGS_THROWS
-	/// Takes a free ordinary tag when it is awaited, and suspends the coroutine while there is
-	/// none or others wait already.
-	///
-	/// Errors: as of hand::get_async(), except waiting: if the hand had another listener, or
-	/// waited by get_async() or get_notified(), when this one was made.
-	///
-	/// With a std::stop_token the tag is empty if a stop was requested, on whichever thread,
-	/// before there was one: the request notifies the eventfd, and the coroutine goes on by the
-	/// next resume().
-	awaiter get(detail::stop_token token = {}) noexcept
-	{
-		return {this, {detail::longest, std::move(token)}};
-	}
-
-	/// The same, for at most this long by std::chrono::steady_clock: the tag is empty if the time
-	/// is up or a stop was requested. The coroutine goes on by the first resume() after that, so
-	/// wait for events no longer than timeout().
-	///
-	/// Errors: as of get().
-	template <class Rep, class Period>
-	awaiter get_for(const std::chrono::duration<Rep, Period> &time,
-			detail::stop_token token = {}) noexcept
-	{
-		const std::int64_t end = detail::limit::after(detail::nanoseconds(time));
-		return {this, {end, std::move(token)}};
-	}
-
-	/// The same, until this moment.
-	///
-	/// Errors: as of get().
-	awaiter get_until(std::chrono::steady_clock::time_point deadline,
-			  detail::stop_token token = {}) noexcept
-	{
-		return {this, {detail::nanoseconds(deadline.time_since_epoch()), std::move(token)}};
-	}
-#endif
-
-	/// The same: ec is set to the error or cleared, and the tag is empty if there is an error.
-	/// ec has to live until the coroutine goes on.
-	awaiter_with_code get(std::error_code &ec) noexcept { return {this, {}, ec}; }
-
-	awaiter_with_code get(detail::stop_token token, std::error_code &ec) noexcept
-	{
-		return {this, {detail::longest, std::move(token)}, ec};
-	}
-
-	template <class Rep, class Period>
-	awaiter_with_code get_for(const std::chrono::duration<Rep, Period> &time,
-				  std::error_code &ec) noexcept
-	{
-		return get_for(time, {}, ec);
-	}
-
-	template <class Rep, class Period>
-	awaiter_with_code get_for(const std::chrono::duration<Rep, Period> &time,
-				  detail::stop_token token, std::error_code &ec) noexcept
-	{
-		const std::int64_t end = detail::limit::after(detail::nanoseconds(time));
-		return {this, {end, std::move(token)}, ec};
-	}
-
-	awaiter_with_code get_until(std::chrono::steady_clock::time_point deadline,
-				    std::error_code &ec) noexcept
-	{
-		return get_until(deadline, {}, ec);
-	}
-
-	awaiter_with_code get_until(std::chrono::steady_clock::time_point deadline,
-				    detail::stop_token token, std::error_code &ec) noexcept
-	{
-		const std::int64_t end = detail::nanoseconds(deadline.time_since_epoch());
-		return {this, {end, std::move(token)}, ec};
-	}
-
-	/// For poll() and its like: how many milliseconds, rounded up, until resume() has to be called
-	/// for a coroutine whose time is up; -1 if none has a limit in time.
-	int timeout() const noexcept
-	{
-		std::int64_t first = detail::longest;
-		for (const link *at = waiting_.next; at != &waiting_; at = at->next) {
-			const std::int64_t end = static_cast<const waiter *>(at)->limit_.deadline;
-			first = end < first ? end : first;
-		}
-		if (first == detail::longest)
-			return -1;
-		constexpr std::int64_t millisecond = 1000000;
-		const std::int64_t left = detail::difference(detail::limit::now(), first);
-		if (left <= 0)
-			return 0;
-		const std::int64_t rounded = (left + millisecond - 1) / millisecond;
-		return rounded < INT_MAX ? static_cast<int>(rounded) : INT_MAX;
-	}
-
-	/// Resumes the coroutines for which there is a tag or an error, in the order of their waits,
-	/// and then those whose limit has passed. If one of them lets an exception out, it comes out
-	/// here: call this again for the others.
-	void resume()
-	{
-		// All of them are taken out first, so that whatever a coroutine does, the hand
-		// waits if and only if one of the others still does.
-		while (!waiting_.is_alone()) {
-			waiter &first = static_cast<waiter &>(*waiting_.next);
-			const std::int32_t answer = try_again(first);
-			if (answer == TAGS_NO_TAG)
-				break;
-			first.set(answer);
-			first.take_out();
-			first.put_before(ready_);
-		}
-		end_limited();
-		while (!ready_.is_alone()) {
-			waiter &first = static_cast<waiter &>(*ready_.next);
-			first.take_out();
-			first.coroutine_.resume();
-		}
-	}
-
-private:
-	std::uint32_t count_stops() const noexcept
-	{
-		return hand_ != nullptr ? tags_detail_stops(detail::raw(hand_)) : 0;
-	}
-
-	bool is_stopped(const waiter &it) const noexcept
-	{
-		const std::uint32_t stops = count_stops();
-		return stops % 2 == 1 || stops != it.stops_;
-	}
-
-	/// Tries for the first that waits. If a stop has ended the hand's wait and not its own, as
-	/// that began after a resume, the hand begins another one.
-	std::int32_t try_or_wait(const waiter &first) noexcept
-	{
-		std::int32_t answer;
-		do
-			answer = is_second_ ? TAGS_WAITING : tags_get_async(detail::raw(hand_), eventfd_);
-		while (answer == TAGS_STOPPED && !is_stopped(first));
-		return answer;
-	}
-
-	/// The same, if the hand may have begun another wait since a stop that ends the first one's.
-	std::int32_t try_again(const waiter &first) noexcept
-	{
-		if (!is_stopped(first))
-			return try_or_wait(first);
-		tags_cancel(detail::raw(hand_));
-		return TAGS_STOPPED;
-	}
-
-	/// Takes out those whose limit has passed.
-	void end_limited() noexcept
-	{
-		bool is_any = false;
-		for (link *at = waiting_.next; at != &waiting_;) {
-			waiter &it = static_cast<waiter &>(*at);
-			at = at->next;
-			if (!it.limit_.is_over())
-				continue;
-			it.set(TAGS_TIMED_OUT);
-			it.take_out();
-			it.put_before(ready_);
-			is_any = true;
-		}
-		if (is_any)
-			end_wait();
-	}
-
-	/// After a waiter was taken out.
-	void end_wait() noexcept
-	{
-		if (waiting_.is_alone())
-			tags_cancel(detail::raw(hand_));
-	}
-
-	detail::joined *hand_;
-	int eventfd_;
-	/// Whether the hand waited for another when this one was made.
-	bool is_second_;
-	link waiting_;
-	/// Those that have an answer and were not resumed yet.
-	link ready_;
-};
-#endif
-
 } // namespace tags
 
 #undef TAGS_VISIBLE
 #undef TAGS_THROWS
 
+#endif
 #endif

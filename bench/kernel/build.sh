@@ -79,6 +79,7 @@ library cfg_if "$(basename "$crates"/cfg-if-*)"
 library crossbeam_utils "$(basename "$crates"/crossbeam-utils-*)" --cfg 'feature="std"' --extern "cfg_if=$out/libcfg_if.rlib"
 library crossbeam_queue "$(basename "$crates"/crossbeam-queue-*)" --cfg 'feature="std"' --cfg 'feature="alloc"' \
   --extern "cfg_if=$out/libcfg_if.rlib" --extern "crossbeam_utils=$out/libcrossbeam_utils.rlib"
-rust --edition 2021 --cap-lints warn --crate-name contenders --extern "crossbeam_queue=$out/libcrossbeam_queue.rlib" \
+rust --edition 2021 --crate-type rlib --crate-name tags --cfg 'feature="std"' "$here/../../rust/tags/src/lib.rs"
+rust --edition 2021 --cap-lints warn --crate-name contenders --extern "tags=$out/libtags.rlib" --extern "crossbeam_queue=$out/libcrossbeam_queue.rlib" \
   -L "native=$here/../../c/out" -l static=sbitmap -l static=c_tags -l static=queues -l static=tags -l stdc++ --check-cfg 'cfg(mempool)' "${mempool[@]}" "$here/main.rs"
 echo "$linux $(dpkg-deb -f "$out/$linux"_*.deb Version)" > "$out/version"

@@ -1,5 +1,5 @@
 //! What the workloads `pair`, `ring`, `full`, `handoff` and `batch` of `tag_bench` are set beside: the kernel's sbitmap_queue,
-//! the C interface of this repository, DPDK's rte_mempool where it is installed, a bitmap alone, three queues of the free
+//! the C interface of this repository, its crate for Rust, DPDK's rte_mempool where it is installed, a bitmap alone, three queues of the free
 //! tags, a list of them behind a lock, two locked steps on lines of the thread's own, and arithmetic alone.
 //! `main WORKLOAD [--only NAME;..] [--threads N] [--depth N] [--rounds N]` prints a line of JSON a case, of all contenders or of those
 //! named.
@@ -16,6 +16,7 @@ mod loops;
 mod mempool;
 mod queues;
 mod registers;
+mod rust;
 mod tag_c;
 
 use crate::bitmap::Bitmap;
@@ -28,6 +29,7 @@ use crate::loops::{Slots, Tags, Way, Workload};
 use crate::mempool::Mempool;
 use crate::queues::{Boost, FreeQueue, Moodycamel};
 use crate::registers::Registers;
+use crate::rust::{Cached, Rust, Uncached};
 use crate::tag_c::{Beside, BesideCached, InPool, TagC};
 use std::process::ExitCode;
 
@@ -78,6 +80,8 @@ fn run(workload: Workload, options: &Options, only: &[String], depth: u32) {
             case(Hints::FromZero).measure::<TagC<InPool>>();
             case(Hints::Apart).measure::<TagC<Beside>>();
             case(Hints::Apart).measure::<TagC<BesideCached>>();
+            case(Hints::Apart).measure::<Rust<Uncached>>();
+            case(Hints::Apart).measure::<Rust<Cached>>();
             #[cfg(mempool)]
             if Mempool::can_hold(depth, threads, workload.most_held(depth, threads)) {
                 case(Hints::None).measure::<Mempool>();

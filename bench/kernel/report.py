@@ -20,6 +20,8 @@ MEMPOOL = ("mempool", None)
 THROUGH_C = ("tag_c", "apart")
 OWN_SLOTS = ("tag_c, own slots", "apart")
 CACHE_THROUGH_C = ("tag_c, cache", "apart")
+RUST = ("rust", "apart")
+CACHE_IN_RUST = ("rust, cache", "apart")
 BITMAP = ("bitmap", "apart")
 LIMIT = ("limit", None)
 REGISTERS = ("registers", None)
@@ -27,6 +29,8 @@ REGISTERS = ("registers", None)
 FIRST = [
     ("C, own slots", OWN_SLOTS),
     ("C, cache", CACHE_THROUGH_C),
+    ("Rust", RUST),
+    ("Rust, cache", CACHE_IN_RUST),
     ("`Queue`", QUEUE),
     ("cache", CACHE),
     ("map", OURS),

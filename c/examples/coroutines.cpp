@@ -9,7 +9,7 @@
 #include <exception>
 #include <poll.h>
 #include <sys/eventfd.h>
-#include <tags.hpp>
+#include <tags_async.hpp>
 #include <thread>
 #include <unistd.h>
 

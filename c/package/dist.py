@@ -58,11 +58,6 @@ def put_manual(folder):
         write(f"{folder}/{name}.gz", packed(page))
 
 
-def put_crate(folder):
-    """The Rust crate, whose build script finds an installed library, or makes one of what native/ has."""
-    subprocess.run([f"{C}/library.sh", "crate", folder], check=True)
-
-
 ABOUT = """
 A tag is a small number with a slot of 64 bits, as of a request that is in
 flight. Threads take tags of a pool, hand them on and give them back without a
@@ -78,7 +73,6 @@ def make_packages(processor, proved, work):
         name = os.path.relpath(file, f"{processor.made}/out")
         os.renames(f"{lib}/{name}", f"{runtime}/usr/lib/{processor.gnu}/{name}")
     put_manual(f"{dev}/usr/share/man/man3")
-    put_crate(f"{dev}/usr/share/tags/rust")
     for name in EXAMPLES:
         copy(f"{C}/examples/{name}", f"{dev}/usr/share/doc/libtags-dev/examples/{name}")
     put_documents(f"{runtime}/usr/share/doc/{RUNTIME}", RUNTIME, processor, proved)
@@ -91,7 +85,7 @@ def make_packages(processor, proved, work):
         fields_of(RUNTIME, "pool of tags that threads share without a lock", ABOUT, Section="libs", Depends=f"libc6 (>= {libc})", **same),
         scripts,
     )
-    more = ABOUT + "\nThis package has the headers for C and C++, the static library and the manual,\nand a Rust crate over it."
+    more = ABOUT + "\nThis package has the headers for C and C++, the static library and the manual."
     package(
         dev, processor,
         fields_of(
@@ -111,7 +105,6 @@ def make_tarball(processor, proved, work):
     found = re.sub(r"^prefix=.*", "prefix=${pcfiledir}/../..", read(file), flags=re.M)
     write(file, re.sub(r"^libdir=.*", "libdir=${prefix}/lib", found, flags=re.M))
     put_manual(f"{folder}/share/man/man3")
-    put_crate(f"{folder}/share/tags/rust")
     for example in EXAMPLES:
         copy(f"{C}/examples/{example}", f"{folder}/share/doc/tags/examples/{example}")
     put_documents(f"{folder}/share/doc/tags", "tags", processor, proved)

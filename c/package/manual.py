@@ -2,9 +2,9 @@
 """manual.py FOLDER: writes man pages of section 3, made from the texts of tags.h: tags.3 and one page for each call.
 
 What tags.h says of a call is the page: its summary, its paragraphs, its parameters, and the parts that begin with a word and a colon
-(Threads, Return, Since), with what the comment above its part of the header says of all calls there. Each status that it may return
-is explained: as the call's own text does, if that says when it comes (TAGS_X if .., TAGS_X for .., TAGS_X (..)), and otherwise as the
-header's enum does. The example is the shortest function of EXAMPLES that makes the call. Types, macros and constants are in tags.3.
+(Threads, Return), with what the comment above its part of the header says of all calls there. A parameter of which it says nothing is
+what the header's first comment says of all such. Each status that it may return is explained: as the call's own text does, if that says
+when it comes (TAGS_X if .., TAGS_X for .., TAGS_X (..)), and otherwise as the header's enum does. The example is the shortest function of EXAMPLES that makes the call. Types, macros and constants are in tags.3.
 The date is SOURCE_DATE_EPOCH, or today.
 """
 import os
@@ -28,9 +28,14 @@ MACROS = re.compile(rf"{TEXT}((?:#define TAGS_\w+[^\n]*\n)+)", re.M | re.S)
 CONSTANTS = re.compile(r"^enum \{\n(.*?)^\};", re.M | re.S)
 # Macros of the header that are not for programs.
 PRIVATE = re.compile(r"TAGS_H$|TAGS_DETAIL_")
-MEMBER = re.compile(r"/\*\*(.*?)\*/\s*([^;,/]+?)\s*[;,]?\s*$", re.M | re.S)
-PART = re.compile(r"^(Threads|Return|Since): ")
-SECTIONS = ["NAME", "SYNOPSIS", "DESCRIPTION", "RETURN VALUE", "ERRORS", "NOTES", "HISTORY", "EXAMPLES", "SEE ALSO"]
+MEMBER = re.compile(r"^\t([^;,/\n]+?)[;,]? */\*\*<(.*?)\*/", re.M | re.S)
+# What a parameter is of which a call says nothing.
+USUAL = re.compile(r"^ \*   @(\w+): (.*)[,.]$", re.M)
+PARAMETER = re.compile(r"(\w+)(?:\)\([^()]*\))?[,)](?= |$)")
+PART = re.compile(r"^(Threads|Return): ")
+SECTIONS = ["NAME", "SYNOPSIS", "DESCRIPTION", "RETURN VALUE", "ERRORS", "NOTES", "EXAMPLES", "SEE ALSO"]
+# Pages of calls that return a pointer.
+WITHOUT_ERRORS = ["tags_strerror.3", "tags_thread_hand.3"]
 # Verbs that begin a summary, or go on in it behind "and" or "or".
 VERBS = "fill change end let sleep close take give read write offer report call describe return empty be have".split()
 THIRD = {"empty": "empties", "be": "is", "have": "has"}
@@ -93,7 +98,12 @@ class Call:
         self.name, self.summary, self.prototype = found[1], found[2], found[4]
         said = paragraphs(unstarred(found[3]))
         self.prose = [it for it in said if not it.startswith("@") and not PART.match(it)]
-        self.parameters = re.findall(r"^@(\w+): (.*?)(?=^@|\Z)", "\n\n".join(it for it in said if it.startswith("@")), re.M | re.S)
+        own = dict(re.findall(r"^@(\w+): (.*?)(?=^@|\Z)", "\n\n".join(it for it in said if it.startswith("@")), re.M | re.S))
+        known = {**dict(USUAL.findall(text)), **own}
+        flat = re.sub(r"\s+", " ", self.prototype)
+        self.parameters = [(it, known.get(it, "")) for it in PARAMETER.findall(flat.partition(f"{self.name}(")[2])]
+        names = [it for it, _ in self.parameters]
+        self.wrong = [*(it for it in own if it not in names), *(it for it, meaning in self.parameters if not meaning)]
         self.parts = {PART.match(it)[1]: it[PART.match(it).end() :].strip() for it in said if PART.match(it)}
         above = [it for it in HEADLINE.finditer(text) if it.start() < found.start()][-1]
         self.part, _, self.note = unstarred(above[1]).partition(". ")
@@ -112,10 +122,15 @@ class Call:
         return [it for it in found if re.search(rf"\*{it}\b", self.prototype)]
 
     def errors(self, calls, meanings):
-        """The statuses below 0 that it may return, in order, with what each means."""
+        """The statuses below 0 that it may return, in order, with what each means. What returns a pointer returns none."""
+        if re.search(rf"\*{self.name}\(", self.prototype):
+            return {}
         said = re.sub(r"\s+", " ", self.parts["Return"])
         *others, last = [f"@{it}" for it in self.pointers()] or [""]
         found = {"TAGS_NULL": f"{', '.join(others)}{' or ' if others else ''}{last} is NULL"} if last else {}
+        # What fills an empty handle, and says no more of handles, has no other.
+        if self.handles() and ("TAGS_NOT_EMPTY" not in said or "TAGS_BAD_HANDLE" in said):
+            found["TAGS_BAD_HANDLE"] = self.meaning("TAGS_BAD_HANDLE", meanings)
         own = {it[1]: it[2] or it[3] for it in WHEN.finditer(said)}
         never = re.findall(r"\bexcept (TAGS_\w+)", said)
         for it in re.findall(r"TAGS_\w+|\b(?:as|as from|what) tags_\w+(?=\(\))", said):
@@ -138,9 +153,12 @@ class Call:
             return "@tag is out of range" if "tag" in names else meanings[status].partition(";")[0]
         return meanings[status]
 
+    def handles(self):
+        return {kind for kind in ("pool", "hand") if f"struct tags_{kind} *" in self.prototype}
+
     def threads(self):
         """Which calls may run at once, as tags.h says of all of them."""
-        kinds = {kind for kind in ("pool", "hand") if f"struct tags_{kind} *" in self.prototype}
+        kinds = self.handles()
         if kinds == {"hand"}:
             return "A hand may be in one call at a time; different hands may be used at once, on any threads. See Threads in tags(3)."
         if kinds:
@@ -201,7 +219,6 @@ def page_of_call(call, version, calls, meanings):
     notes = [it for it in (call.threads(), call.parts.get("Threads"), call.note) if it]
     for at, it in enumerate(notes):
         lines += [".PP" if at else ".SH NOTES", roff(it[0].upper() + it[1:], call.name)]
-    lines += [".SH HISTORY", f"In version {call.parts['Since']} and later."]
     example = example_of(call.name)
     if example:
         lines += [".SH EXAMPLES", ".nf", *listing(example), ".fi"]
@@ -223,9 +240,8 @@ def introduction(text):
 
 
 def members(text):
-    for comment, member in MEMBER.findall(text):
-        name = re.sub(r"\s*=.*", "", member.strip())
-        yield name, re.sub(r"^\s*@\w+:\s*", "", unstarred(comment).strip())
+    for member, comment in MEMBER.findall(text):
+        yield re.sub(r"\s*=.*", "", member.strip()), comment.strip()
 
 
 def listing(text):
@@ -311,6 +327,8 @@ def unnamed(text):
         yield name
     for name in sorted({*re.findall(r"^\t(TAGS_\w+)(?: = .*)?,?$", text, re.M)} - named):
         yield name
+    for it in map(lambda found: Call(found, text), DOC.finditer(text)):
+        yield from (f"@{name} of {it.name}()" for name in it.wrong)
     calls = re.findall(r"^(?!static|#|[ \t/*])[\w \t*]*?\b(tags_(?!library_|detail_)\w+)\(", text, re.M)
     for name in calls:
         if f"{name}.3" not in found:
@@ -321,7 +339,7 @@ def lacking(text):
     """Each page of a call without one of its sections, or with an empty one; those of calls that refuse nothing have no errors."""
     for name, page in pages(text).items():
         for section in SECTIONS if name != "tags.3" else ["NAME", "SYNOPSIS", "DESCRIPTION", "EXAMPLES", "SEE ALSO"]:
-            if not re.search(rf"^\.SH {section}\n(?!\.SH|\Z)", page, re.M) and (name, section) != ("tags_strerror.3", "ERRORS"):
+            if not re.search(rf"^\.SH {section}\n(?!\.SH|\Z)", page, re.M) and (section != "ERRORS" or name not in WITHOUT_ERRORS):
                 yield f"{name}: no {section}"
 
 

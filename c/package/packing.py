@@ -134,7 +134,7 @@ def crates_below(crate):
 def proved_text(crate, processor, verdict, logic):
     """What was proved, by which logic, of which commit."""
     parts = sorted(it for it in os.listdir(C) if it.endswith(".c"))
-    of_c = f"Written in C, and tested but not proved: {', '.join(parts)}, the checks for NULL in tags.h, and tags.hpp.\n"
+    of_c = f"Written in C, and tested but not proved: {', '.join(parts)}, the inline calls in tags_detail.h, tags.hpp and tags_async.hpp.\n"
     kind = ": every processor of this kind" if processor in PROCESSORS else ""
     if crate == "tag_c":
         kind += "".join(f"; of the same proved module, {it.folder}: {it.march}" for it in processor.newer if it.folder)

@@ -294,6 +294,16 @@ static bool join_in_turn(struct tags_pool *pool, struct tags_hand *hand)
 	return tags_join_blocking(pool, hand, 0) == TAGS_OK;
 }
 
+/* The hand of this thread, wherever in the program it is asked for. It leaves when the thread ends. */
+static struct tags_hand *own_hand(struct tags_pool *pool)
+{
+	struct tags_hand *hand = tags_thread_hand(pool);
+	int32_t status = hand ? tags_join(pool, hand, 0) : (int32_t)TAGS_NO_MEMORY;
+
+	/* not empty: this thread has joined before */
+	return status == TAGS_OK || status == TAGS_NOT_EMPTY ? hand : NULL;
+}
+
 /* A second from now. */
 static struct timespec in_a_second(void)
 {
@@ -411,6 +421,26 @@ static bool runs_with(struct tags_hand *hand, struct tags_hand *other, int event
 	return tags_get_timed(hand, CLOCK_MONOTONIC, &past) >= 0;
 }
 
+static void *carry_out_two(void *pool)
+{
+	for (uint64_t request = 12; request < 14; request++) {
+		struct tags_hand *hand = own_hand(pool);
+
+		if (!hand || !carry_out(hand, request))
+			return NULL;
+	}
+	return pool;
+}
+
+static bool runs_on_a_thread(struct tags_pool *pool)
+{
+	pthread_t thread;
+	void *ended = NULL;
+
+	return pthread_create(&thread, NULL, carry_out_two, pool) == 0 &&
+	       pthread_join(thread, &ended) == 0 && ended == pool;
+}
+
 int main(void)
 {
 	struct tags_pool pool = TAGS_EMPTY;
@@ -420,7 +450,7 @@ int main(void)
 	int event = eventfd(0, EFD_NONBLOCK);
 	bool is_well = open_pool(&pool) && open_cached_pool(&cached) && close_pool(&cached) &&
 		       work(&pool) && join_in_turn(&pool, &hand) && join_soon(&pool, &other) &&
-		       runs_with(&hand, &other, event) && !grow(&pool, 128);
+		       runs_with(&hand, &other, event) && runs_on_a_thread(&pool) && !grow(&pool, 128);
 
 	monitor(&pool);
 	begun[63] = 50000;

@@ -3,7 +3,9 @@
 // without exceptions too.
 #include "check.hpp"
 
-#ifdef TAGS_HAS_COROUTINES
+#ifdef __cpp_impl_coroutine
+#include "../tags_async.hpp"
+
 #include <deque>
 #include <exception>
 #include <memory>
@@ -413,6 +415,122 @@ static void a_cancel_by_a_token()
 }
 #endif
 
+// A hand with its listener, for coroutines of which one ends both.
+struct client {
+	tags::hand hand;
+	tags::listener listener;
+
+	client(tags::hand of, int descriptor) : hand(std::move(of)), listener(hand, descriptor) {}
+};
+
+// Two tags, which are held, and a client. Who looks whether any of it is touched after its end is the
+// address sanitizer.
+struct client_setting {
+	tags::pool pool{sized(2, 2), failure};
+	tags::hand holder = pool.join(failure);
+	tags::batch held = *holder.get_batch(2, failure);
+	event told;
+	std::unique_ptr<client> one =
+		std::make_unique<client>(pool.join(failure), told.descriptor);
+
+	// Both tags become free, and the coroutines that wait are resumed.
+	void resume()
+	{
+		tags::listener &listener = one->listener;
+		held.clear();
+		listener.resume();
+	}
+
+	void check_end()
+	{
+		CHECK(!one && pool.waiting(failure) == 0);
+		CHECK(pool.show(tags::kind::ordinary, failure).busy == 0);
+		CHECK(pool.join(failure) && !failure);
+	}
+};
+
+static task end_client(std::unique_ptr<client> &one)
+{
+	std::error_code code;
+	tags::tag tag = co_await one->listener.get(code);
+	CHECK(tag && !code);
+	tag.clear();
+	one.reset();
+}
+
+static void a_coroutine_ends_the_client()
+{
+	client_setting it;
+	const task last = end_client(it.one);
+	CHECK(!last.is_done());
+	it.resume();
+	CHECK(last.is_done());
+	it.check_end();
+}
+
+// One for which there is a tag, too, is destroyed before the client.
+static void a_coroutine_ends_another_and_the_client()
+{
+	client_setting it;
+	std::optional<task> other;
+	const task first = [](std::unique_ptr<client> &one, std::optional<task> &also) -> task {
+		std::error_code code;
+		tags::tag tag = co_await one->listener.get(code);
+		tag.clear();
+		also.reset();
+		one.reset();
+	}(it.one, other);
+	other.emplace(end_client(it.one));
+	it.resume();
+	CHECK(first.is_done() && !other);
+	it.check_end();
+}
+
+// The one that is resumed first resumes the other one itself.
+static void a_client_ends_in_a_call_within_a_call()
+{
+	client_setting it;
+	const task first = [](tags::listener &listener) -> task {
+		std::error_code code;
+		(co_await listener.get(code)).clear();
+		listener.resume();
+	}(it.one->listener);
+	const task last = end_client(it.one);
+	it.resume();
+	CHECK(first.is_done() && last.is_done());
+	it.check_end();
+}
+
+#ifdef __cpp_exceptions
+// The first one lets an exception out, so the second one is resumed by the next call, and ends the client
+// and lets one out, too.
+static void a_client_ends_by_exceptions()
+{
+	client_setting it;
+	const auto fail = [](std::unique_ptr<client> &one, bool is_last) -> task {
+		std::error_code code;
+		(co_await one->listener.get(code)).clear();
+		if (is_last)
+			one.reset();
+		throw code;
+	};
+	const task first = fail(it.one, false);
+	const task last = fail(it.one, true);
+	const auto throws = [](auto call) {
+		try {
+			call();
+			return false;
+		} catch (const std::error_code &) {
+			return true;
+		}
+	};
+	CHECK(throws([&] { it.resume(); }));
+	CHECK(it.one && first.is_done() && !last.is_done());
+	CHECK(throws([&] { it.one->listener.resume(); }));
+	it.check_end();
+}
+#endif
+
 static void a_stop_ends_all_waits()
 {
 	setting it;
@@ -587,6 +705,12 @@ int main()
 	a_limit_in_time();
 #ifdef __cpp_lib_jthread
 	a_cancel_by_a_token();
+#endif
+	a_coroutine_ends_the_client();
+	a_coroutine_ends_another_and_the_client();
+	a_client_ends_in_a_call_within_a_call();
+#ifdef __cpp_exceptions
+	a_client_ends_by_exceptions();
 #endif
 	a_stop_ends_all_waits();
 	a_stop_that_is_resumed_ends_all_waits_that_began_before();

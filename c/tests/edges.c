@@ -75,7 +75,7 @@ static void set_up(uint32_t total, uint32_t others)
 	struct tags_options options = {
 		.total = total,
 		.hands = others + 1,
-		.flags = TAGS_ONE_PER_WORD,
+		.shift = TAGS_ONE_PER_WORD,
 	};
 
 	CHECK(tags_open(&pool, &options) == TAGS_OK);

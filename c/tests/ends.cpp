@@ -7,6 +7,10 @@
 #include <sys/wait.h>
 #include <unistd.h>
 
+#ifdef __cpp_impl_coroutine
+#include "../tags_async.hpp"
+#endif
+
 static std::error_code ec;
 
 enum { TERMINATED = 42 };
@@ -83,7 +87,7 @@ static void a_tag_given_back_behind_its_object()
 	}));
 }
 
-#ifdef TAGS_HAS_COROUTINES
+#ifdef __cpp_impl_coroutine
 struct task {
 	struct promise_type {
 		task get_return_object() { return {}; }
@@ -137,7 +141,7 @@ int main()
 {
 	a_hand_before_its_tag();
 	a_tag_given_back_behind_its_object();
-#ifdef TAGS_HAS_COROUTINES
+#ifdef __cpp_impl_coroutine
 	listeners();
 #endif
 	orderly_ends();

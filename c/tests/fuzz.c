@@ -173,14 +173,12 @@ static struct tags_options any_options(void)
 	options.reserved = seldom(2) ? 0 : below(options.total / 3 + 2);
 	if (seldom(3))
 		options.shift = seldom(5) ? INT32_MIN : 0;
+	else if (seldom(6))
+		options.shift = TAGS_ONE_PER_WORD;
 	if (seldom(3))
 		options.min_shallow = below(options.total + 2);
 	if (seldom(4))
 		options.flags = seldom(8) ? odd_number() : TAGS_ROUND_ROBIN;
-	if (seldom(6)) {
-		options.flags |= TAGS_ONE_PER_WORD;
-		options.shift = seldom(8) ? options.shift : 0;
-	}
 	if (seldom(2))
 		options.cache = seldom(30) ? odd_number() : below(seldom(2) ? 4 : TAGS_MAX_CACHE + 1);
 	if (seldom(3))

@@ -1,12 +1,13 @@
 /*
  * Waits for a hand, and for all tags to be back: beside threads that join, leave and use tags,
- * with limits, and ended by stops and cancels.
+ * with limits, and ended by stops, cancels and closes.
  * gates [ROUNDS]
  */
 #define _GNU_SOURCE
 #include <errno.h>
 #include <inttypes.h>
 #include <pthread.h>
+#include <signal.h>
 #include <stdbool.h>
 #include <stdio.h>
 #include <stdlib.h>
@@ -131,6 +132,10 @@ static void limits_of_joins(void)
 	open_pool(1, 0);
 	CHECK(tags_join_timed(&pool, &hand, 0, CLOCK_REALTIME, &end) == TAGS_OK);
 	CHECK(tags_join_timed(&pool, &other, 0, CLOCK_REALTIME, &end) == TAGS_TIMED_OUT);
+	/* before the epoch of either clock */
+	end.tv_sec = -1;
+	CHECK(tags_join_timed(&pool, &other, 0, CLOCK_REALTIME, &end) == TAGS_TIMED_OUT);
+	CHECK(tags_join_timed(&pool, &other, 0, CLOCK_MONOTONIC, &end) == TAGS_TIMED_OUT);
 	end = from_now(CLOCK_MONOTONIC, 20);
 	errno = 77;
 	CHECK(tags_join_timed(&pool, &other, 0, CLOCK_MONOTONIC, &end) == TAGS_TIMED_OUT);
@@ -248,6 +253,59 @@ static void stops_that_are_resumed(void)
 	close_pool();
 }
 
+static int is_delayed, may_go_on;
+
+/* A thread that was woken and runs late. */
+static void delay(int unused)
+{
+	(void)unused;
+	__atomic_store_n(&is_delayed, 1, __ATOMIC_SEQ_CST);
+	while (!__atomic_load_n(&may_go_on, __ATOMIC_SEQ_CST))
+		;
+}
+
+static void begin_delay(pthread_t id)
+{
+	__atomic_store_n(&is_delayed, 0, __ATOMIC_SEQ_CST);
+	__atomic_store_n(&may_go_on, 0, __ATOMIC_SEQ_CST);
+	CHECK(pthread_kill(id, SIGUSR1) == 0);
+	while (!__atomic_load_n(&is_delayed, __ATOMIC_SEQ_CST))
+		nap(100);
+}
+
+/* A close answers those who sleep, and no leave of a later pool in the handle is lost to them. */
+static void pools_in_one_handle(bool was_stopped)
+{
+	struct tags_hand hand = TAGS_EMPTY;
+	int32_t answers[3] = { 1, 1, 1 };
+	pthread_t ids[3];
+
+	open_pool(1, 0);
+	CHECK(tags_join(&pool, &hand, 0) == TAGS_OK);
+	if (was_stopped)
+		CHECK(tags_stop(&pool) == TAGS_OK && tags_resume(&pool) == TAGS_OK);
+	for (int i = 0; i < 2; i++) {
+		CHECK(pthread_create(&ids[i], NULL, join_once, &answers[i]) == 0);
+		nap(20000);
+	}
+	begin_delay(ids[0]);
+	leave(&hand);
+	close_pool();
+	pthread_join(ids[1], NULL);
+	CHECK(answers[1] == TAGS_BAD_HANDLE);
+	open_pool(1, 0);
+	CHECK(tags_join(&pool, &hand, 0) == TAGS_OK);
+	CHECK(pthread_create(&ids[2], NULL, join_once, &answers[2]) == 0);
+	nap(20000);
+	__atomic_store_n(&may_go_on, 1, __ATOMIC_SEQ_CST);
+	pthread_join(ids[0], NULL);
+	CHECK(answers[0] == TAGS_BAD_HANDLE && answers[2] == 1);
+	leave(&hand);
+	pthread_join(ids[2], NULL);
+	CHECK(answers[2] == TAGS_OK);
+	close_pool();
+}
+
 /*
  * All tags
  */
@@ -336,6 +394,9 @@ static void limits_of_drains(void)
 	tag = TAGS_MUST(tags_get(&hand));
 	TAGS_MUST(tags_post(&hand, (uint32_t)tag));
 	CHECK(tags_drain_timed(&pool, CLOCK_MONOTONIC, &end) == TAGS_TIMED_OUT);
+	end.tv_sec = -1;
+	CHECK(tags_drain_timed(&pool, CLOCK_REALTIME, &end) == TAGS_TIMED_OUT);
+	CHECK(tags_drain_timed(&pool, CLOCK_MONOTONIC, &end) == TAGS_TIMED_OUT);
 	end = from_now(CLOCK_MONOTONIC, 20);
 	CHECK(tags_drain_timed(&pool, CLOCK_MONOTONIC, &end) == TAGS_TIMED_OUT);
 	CHECK(tags_drain_timed(&pool, 99, &end) == TAGS_BAD_TIME);
@@ -374,6 +435,9 @@ int main(int argc, char **argv)
 	limits_of_joins();
 	stops_and_cancels_of_joins();
 	stops_that_are_resumed();
+	signal(SIGUSR1, delay);
+	pools_in_one_handle(false);
+	pools_in_one_handle(true);
 	limits_of_drains();
 	drain_beside_clears(0);
 	drain_beside_clears(4);

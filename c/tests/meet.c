@@ -49,7 +49,7 @@ static const struct setting settings[] = {
 	{ .tags = 3, .cache = 2, .flags = TAGS_KEEP_WHILE_HOLDING },
 	{ .tags = 5, .shift = 1, .flags = TAGS_ROUND_ROBIN, .way = TIMED },
 	{ .tags = 1, .sharers = 2, .way = ANY_WAY },
-	{ .tags = 3, .flags = TAGS_ONE_PER_WORD, .way = ANY_WAY },
+	{ .tags = 3, .shift = TAGS_ONE_PER_WORD, .way = ANY_WAY },
 };
 
 enum { SETTINGS = sizeof(settings) / sizeof(*settings) };
@@ -166,7 +166,7 @@ static void *share(void *argument)
 	return NULL;
 }
 
-/* There is one tag, so a batch of two sweeps it and leaves it. */
+/* The shared tag is alone in its word, so a batch of two sweeps it and leaves it. */
 static void *sweep(void *argument)
 {
 	struct thread *self = argument;
@@ -217,6 +217,16 @@ static bool watch(const struct setting *setting, uint32_t count, long ms)
 	return true;
 }
 
+/* The tags before the shared one, which fill a word of two. */
+enum { BEFORE = 2 };
+
+static void hold_others(void)
+{
+	uint64_t won = 0;
+
+	MUST(tags_get_batch(&watcher, BEFORE, &won) == 0 && won == 3);
+}
+
 static void run(const struct setting *setting, long ms)
 {
 	struct tags_options options = {
@@ -230,7 +240,13 @@ static void run(const struct setting *setting, long ms)
 	struct tags_sums sums;
 
 	options.hands = count + 1;
+	if (setting->sharers) {
+		options.total = BEFORE + 1;
+		options.shift = 1;
+	}
 	MUST(tags_open(&pool, &options) == TAGS_OK && tags_join(&pool, &watcher, 0) == TAGS_OK);
+	if (setting->sharers)
+		hold_others();
 	MUST(pthread_barrier_init(&meeting, NULL, count) == 0);
 	is_over = false;
 	for (uint32_t i = 0; i < count; i++) {
@@ -254,6 +270,8 @@ static void run(const struct setting *setting, long ms)
 		close(threads[i].event);
 	}
 	pthread_barrier_destroy(&meeting);
+	if (setting->sharers)
+		MUST(tags_clear_mask(&watcher, 0, 3) == TAGS_OK);
 	MUST(watcher.waits->waiting == 0 && tags_leave(&watcher) == TAGS_OK);
 	MUST(tags_close(&pool, &sums) == TAGS_OK && sums.got == sums.back);
 }

@@ -88,7 +88,8 @@ static bool is_ended(int (*run)(long rounds), long rounds, const char *sentence)
 {
 	int ends[2], status = 0;
 	char said[200] = "";
-	ssize_t length;
+	size_t length = 0;
+	ssize_t more;
 	pid_t child;
 
 	if (pipe(ends))
@@ -100,8 +101,9 @@ static bool is_ended(int (*run)(long rounds), long rounds, const char *sentence)
 		_exit(run(rounds));
 	}
 	close(ends[1]);
-	length = read(ends[0], said, sizeof(said) - 1);
-	said[length > 0 ? length : 0] = '\0';
+	/* a C library may write a sentence in parts */
+	while ((more = read(ends[0], said + length, sizeof(said) - 1 - length)) > 0)
+		length += (size_t)more;
 	close(ends[0]);
 	waitpid(child, &status, 0);
 	/* behind the sentence an emulator may tell of the signal */

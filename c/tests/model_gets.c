@@ -191,8 +191,7 @@ int32_t model_get_batch(struct model *hand, uint32_t n, uint64_t *won)
 	set = &hand->pool->set[TAGS_ORDINARY];
 	if (n == 0)
 		return TAGS_BAD_COUNT;
-	if (n > 1u << set->shift)
-		n = 1u << set->shift;
+	n = least_of(n, least_of(1u << set->shift, set->depth));
 	if (set->round_robin)
 		return TAGS_NO_TAG;
 	from = hint_of(hand, TAGS_ORDINARY);

@@ -19,7 +19,7 @@ static uint32_t default_shift(uint32_t depth)
 
 static uint32_t shift_of(uint32_t depth, const struct tags_options *options)
 {
-	if (options->flags & TAGS_ONE_PER_WORD)
+	if (options->shift == TAGS_ONE_PER_WORD)
 		return 0;
 	return options->shift > 0 ? (uint32_t)options->shift : default_shift(depth);
 }
@@ -35,9 +35,9 @@ static void open_set(struct set *set, uint32_t first, uint32_t depth,
 
 static int32_t find_fault(const struct tags_options *options)
 {
-	if (options->flags > (TAGS_ROUND_ROBIN | TAGS_ONE_PER_WORD | TAGS_KEEP_WHILE_HOLDING))
+	if (options->flags & ~(uint32_t)(TAGS_ROUND_ROBIN | TAGS_KEEP_WHILE_HOLDING))
 		return TAGS_BAD_FLAG;
-	if (options->shift < -1 || (options->flags & TAGS_ONE_PER_WORD && options->shift != 0))
+	if (options->shift < TAGS_ONE_PER_WORD)
 		return TAGS_BAD_SHIFT;
 	if (options->cache > TAGS_MAX_CACHE)
 		return TAGS_CACHE_TOO_LARGE;

@@ -387,6 +387,100 @@ static void waits_by_other_means()
 	CHECK(calls == 1);
 }
 
+// Ends an object, by a function that is called in a call of the object.
+template <class T>
+static void end_it(void *object)
+{
+	static_cast<std::unique_ptr<T> *>(object)->reset();
+}
+
+// A pool in which each tag is taken by the first hand, and the second one waits for what ends an object.
+struct ending {
+	tags::pool pool;
+	tags::hand hand = pool.join(ec);
+	tags::hand other = pool.join(ec);
+
+	explicit ending(const tags::options &options) : pool(options, ec) {}
+
+	template <class T>
+	void wait_to_end(std::unique_ptr<T> &object)
+	{
+		CHECK(!other.get_notified(end_it<T>, &object, ec) && !ec);
+	}
+
+	// Whoever was told has the tag that went back.
+	void check_end(bool is_over)
+	{
+		CHECK(is_over && other.get_notified(end_it<int>, nullptr, ec) && !ec);
+	}
+};
+
+// Whoever is told that a tag went back may end the object that it was of. Who looks whether that is touched
+// then is the address sanitizer.
+static void a_function_ends_the_object()
+{
+	ending it(sized(1, 2));
+	auto tag = std::make_unique<tags::tag>(get(it.hand));
+	it.wait_to_end(tag);
+	tag->clear();
+	it.check_end(!tag);
+	tag = std::make_unique<tags::tag>(get(it.hand));
+	it.wait_to_end(tag);
+	tag->read_clear(ec);
+	it.check_end(!ec && !tag);
+	tag = std::make_unique<tags::tag>(get(it.hand));
+	it.wait_to_end(tag);
+	*tag = tags::tag();
+	it.check_end(!tag);
+	auto batch = std::make_unique<tags::batch>(*it.hand.get_batch(1, ec));
+	it.wait_to_end(batch);
+	batch->clear();
+	it.check_end(!batch);
+	batch = std::make_unique<tags::batch>(*it.hand.get_batch(1, ec));
+	it.wait_to_end(batch);
+	*batch = tags::batch();
+	it.check_end(!batch);
+	const std::vector<std::uint32_t> list{get(it.hand).release()};
+	auto sent = std::make_unique<std::vector<std::uint32_t>>(list);
+	it.wait_to_end(sent);
+	it.hand.clear_batch(sent->data(), sent->size(), ec);
+	it.check_end(!ec && !sent);
+}
+
+// A hand that keeps a tag gives it back when it posts another one while somebody waits.
+static void a_function_ends_what_is_posted()
+{
+	tags::options options = sized(3, 2);
+	options.cache = 1;
+	ending it(options);
+	auto batch = std::make_unique<tags::batch>(*it.hand.get_batch(2, ec));
+	get(it.hand).clear();
+	it.wait_to_end(batch);
+	CHECK(batch->post(ec).size() == 2 && !ec && !batch);
+	options.total = 2;
+	ending also(options);
+	auto tag = std::make_unique<tags::tag>(get(also.hand));
+	get(also.hand).clear();
+	also.wait_to_end(tag);
+	const std::uint32_t number = tag->number();
+	CHECK(tag->post(ec) == number && !ec && !tag);
+}
+
+// Of hands that threads have as thread-local variables none stays out.
+static void hands_of_threads()
+{
+	tags::pool pool(sized(4, 1), ec);
+	for (int i = 0; i < 3; i++) {
+		std::thread([&pool] {
+			static thread_local tags::hand hand;
+			std::error_code code;
+			hand = pool.join(code);
+			CHECK(!code && get(hand));
+		}).join();
+	}
+	CHECK(pool.close(ec).back == 3 && !ec);
+}
+
 static void resizes()
 {
 	tags::pool pool(sized(16, 1, 2), ec);
@@ -497,6 +591,9 @@ int main()
 	batches_order_what_lies_beside_them();
 	caches();
 	waits_by_other_means();
+	hands_of_threads();
+	a_function_ends_the_object();
+	a_function_ends_what_is_posted();
 	resizes();
 	a_pool_reports_without_a_hand();
 	a_pool_passes_each_busy_tag();

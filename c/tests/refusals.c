@@ -141,10 +141,8 @@ static void refuse_options(void)
 	options.cache = UINT32_MAX;
 	WANT(tags_open(&pool, &options), -35);
 	options = twelve;
-	options.flags = TAGS_ONE_PER_WORD;
-	WANT(tags_open(&pool, &options), -34);
-	options.shift = TAGS_DEFAULT_SHIFT;
-	WANT(tags_open(&pool, &options), -34);
+	options.flags = 2;
+	WANT(tags_open(&pool, &options), -18);
 	options = twelve;
 	options.hands = 0;
 	WANT(tags_open(&pool, &options), -25);

@@ -36,7 +36,7 @@ static struct worker workers[MOST];
 static uint32_t count;
 /* who has each tag, from 1; 0 for nobody */
 static uint32_t owners[TOTAL];
-static uint64_t gets;
+static uint64_t tags_got;
 static uint64_t cancels;
 
 static void fail(const char *what, int64_t number)
@@ -140,7 +140,7 @@ static void hold(struct worker *self, uint32_t tag)
 	const uint32_t me = (uint32_t)(self - workers) + 1;
 
 	want(__atomic_exchange_n(&owners[tag], me, __ATOMIC_SEQ_CST) == 0, "two holders", tag);
-	__atomic_fetch_add(&gets, 1, __ATOMIC_RELAXED);
+	__atomic_fetch_add(&tags_got, 1, __ATOMIC_RELAXED);
 	for (volatile uint32_t i = draw(&self->state, 3000); i > 0; i--)
 		;
 	if (draw(&self->state, 64) == 0)
@@ -252,7 +252,7 @@ int main(int argc, char **argv)
 	do
 		play_round(&state);
 	while (time(NULL) < end);
-	fprintf(stderr, "%" PRIu64 " gets, %" PRIu64 " cancels\n", gets, cancels);
+	fprintf(stderr, "%" PRIu64 " gets, %" PRIu64 " cancels\n", tags_got, cancels);
 	puts("0 wrong");
 	return 0;
 }

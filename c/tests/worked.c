@@ -175,7 +175,7 @@ static void count_bits(const struct tags_options *options, uint32_t bits)
 	WANT(tags_close(&pool, &sums), TAGS_OK);
 }
 
-/* A shift of 0 is the rule, and words of one tag have a flag. */
+/* A shift of 0 is the rule, and words of one tag have a name. */
 static void choose_words(void)
 {
 	struct tags_options options = TAGS_OPTIONS_INIT;
@@ -183,14 +183,11 @@ static void choose_words(void)
 	options.total = 128;
 	options.hands = 1;
 	count_bits(&options, 32);
-	options.shift = TAGS_DEFAULT_SHIFT;
-	count_bits(&options, 32);
 	options.shift = 3;
 	count_bits(&options, 8);
-	options.shift = 0;
-	options.flags = TAGS_ONE_PER_WORD;
+	options.shift = TAGS_ONE_PER_WORD;
 	count_bits(&options, 1);
-	options.flags = TAGS_ONE_PER_WORD | TAGS_ROUND_ROBIN;
+	options.flags = TAGS_ROUND_ROBIN;
 	count_bits(&options, 1);
 }
 

@@ -12,6 +12,8 @@ from telling import EXAMPLES, HERE, expected, lacks, makes, out, run, tell, unte
 # The first processor of the kind that qemu knows, and one that has all that it knows.
 OLDEST, NEWEST = ["qemu-x86_64", "-cpu", "Opteron_G1"], ["qemu-x86_64", "-cpu", "max"]
 NEWER = 'int main(void) { unsigned long it = 7; __asm__("popcnt %0, %0" : "+r"(it)); return it != 3; }'
+# How programs are linked by what pkg-config says: its option, and the compiler's.
+LINKED = {"shared": ([], []), "static": (["--static"], ["-static"]), "static PIE": (["--static"], ["-fPIE", "-static-pie"])}
 OF_NEWER = r"\b(andn|bls[ir]|bzhi|s[ah][lr]x|rorx|lzcnt|popcnt)\b"
 NO_NEWER = r"\b(popcnt|crc32\w?|pinsr[bdq]|pextr[bdq]|ptest|pshufb|v?pcmp[ei]str\w|v[mp][a-z]+|lzcnt)\b"
 with open(f"{os.path.dirname(EXAMPLES)}/tags.h", encoding="utf-8") as header:
@@ -131,7 +133,7 @@ def check_c(target):
         is_old = False
     tell(f"{target.name}: copy_file.c is among the examples", os.path.exists(f"{target.root}/usr/share/doc/libtags-dev/examples/copy_file.c"))
     for name in ("quick_start", "io_queue", "event_loop"):
-        for kind, more, options in (("shared", [], []), ("static", ["--static"], ["-static"])):
+        for kind, (more, options) in LINKED.items():
             program, what = f"{target.work}/{name}_{kind}", f"{target.name}: {name}, {kind}"
             source = f"{target.root}/usr/share/doc/libtags-dev/examples/{name}.c"
             flags = out([*ask, *more], env=known).split()
@@ -157,7 +159,7 @@ def check_plus(target):
     known, examples = target.environment(), f"{target.root}/usr/share/doc/libtags-dev/examples"
     sources = {f"{HERE}/plus.cpp": "done\n"} | {f"{examples}/{it}.cpp": expected(it) for it in ("quick_start", "io_queue", "coroutines")}
     for source, wanted in sources.items():
-        for kind, more, options in (("shared", [], []), ("static", ["--static"], ["-static"])):
+        for kind, (more, options) in LINKED.items():
             program, what = f"{target.work}/plus", f"{target.name}: {os.path.basename(source)}, {kind}"
             flags = out(["pkg-config", "--cflags", "--libs", *more, "tags"], env=known).split()
             standard = "-std=c++20" if "coroutines" in source else "-std=c++17"
@@ -190,37 +192,6 @@ def check_cmake(target, prefix, what):
     run(f"{name}: another version is not found", refused, status=1)
 
 
-def rust_for(target):
-    """What tells cargo to build and run for a processor, or None where it can't."""
-    if lacks(f"Rust for {target.name} is", "cargo", "rustc"):
-        return None
-    if target.is_native:
-        return {}
-    triple = target.gnu.replace("-linux", "-unknown-linux")
-    if not os.path.isdir(out(["rustc", "--print", "target-libdir", "--target", triple]).strip() or "?"):
-        return untested(f"Rust for {target.name} is", f"its library for {triple} is not here")
-    name = triple.upper().replace("-", "_")
-    known = {"CARGO_BUILD_TARGET": triple, f"CARGO_TARGET_{name}_LINKER": f"{target.tools}gcc"}
-    return {**known, f"CARGO_TARGET_{name}_RUNNER": " ".join(target.runner)}
-
-
-def check_rust(target):
-    """The packaged crate, out of any checkout."""
-    more = rust_for(target)
-    if more is None:
-        return
-    crate = f"{target.work}/rust"
-    shutil.copytree(f"{target.root}/usr/share/tags/rust", crate)
-    for kind, is_static in {"shared": "0", "static": "1"}.items():
-        known = {**target.environment(), **more, "TAGS_STATIC": is_static, "CARGO_TARGET_DIR": f"{target.work}/target"}
-        for name in ("quick_start", "io_queue"):
-            command = ["cargo", "run", "--offline", "--quiet", "--example", name]
-            run(f"{target.name}: {name} in Rust, {kind}", command, wanted=expected(name), cwd=crate, env=known)
-    known = {**target.environment(), **more, "PKG_CONFIG_LIBDIR": f"{target.work}/nowhere", "CARGO_TARGET_DIR": f"{target.work}/alone"}
-    command = ["cargo", "run", "--offline", "--quiet", "--example", "quick_start"]
-    run(f"{target.name}: quick_start in Rust, of the crate alone", command, wanted=expected("quick_start"), cwd=crate, env=known)
-
-
 def check_page(page, name, *wanted):
     """Whether a page has these words, how `man` shows it, and whether `mandoc` finds fault with it, where they are."""
     with gzip.open(page, "rt", encoding="utf-8") as file:
@@ -248,7 +219,7 @@ def check_manual(target):
 
 
 def check_archive(target, dist):
-    """The archive, unpacked into a folder of another name."""
+    """The archive, unpacked into a folder of another name: what pkg-config says of it, and its shared library."""
     found = glob.glob(f"{dist}/tags-[0-9]*-{target.gnu.removesuffix('-gnu')}.tar.gz")
     if not tell(f"{target.name}: there is one archive of the library", len(found) == 1):
         return
@@ -258,11 +229,17 @@ def check_archive(target, dist):
     known = {**os.environ, "PKG_CONFIG_PATH": f"{tags}/lib/pkgconfig", "LD_LIBRARY_PATH": f"{tags}/lib"}
     flags = out(["pkg-config", "--cflags", "--libs", "tags"], env=known).split()
     source = f"{tags}/share/doc/tags/examples/quick_start.c"
-    if run(f"{target.name}: build over the archive", [f"{target.tools}gcc", *FLAGS, source, "-o", program, *flags]):
-        runner = [it.replace(target.lib, f"{tags}/lib") for it in target.runner]
-        run(f"{target.name}: quick_start over the archive", [*runner, program], wanted=expected("quick_start"), env=known)
-        if target.name == "amd64" and target.is_native:
-            check_loader("archive", program, f"{tags}/lib", known)
+    shared = [it if it != "-ltags-static" else "-ltags" for it in flags]
+    kinds = {"static": flags, "static PIE": ["-fPIE", "-static-pie", *flags], "shared": shared}
+    for kind, options in kinds.items():
+        what = f"{target.name}: quick_start over the archive, {kind}"
+        if run(f"build of {what}", [f"{target.tools}gcc", *FLAGS, source, "-o", program, *options]):
+            runner = [it.replace(target.lib, f"{tags}/lib") for it in target.runner]
+            run(what, [*runner, program], wanted=expected("quick_start"), env=known)
+            has_shared = SONAME in needed(target, program)
+            tell(f"{what}: what it needs", has_shared == (kind == "shared"), " ".join(needed(target, program)))
+    if target.name == "amd64" and target.is_native:
+        check_loader("archive", program, f"{tags}/lib", known)
     return tags
 
 
@@ -274,7 +251,6 @@ def check(target, dist):
         check_c(target)
         check_plus(target)
         check_manual(target)
-        check_rust(target)
         if has_cmake:
             check_cmake(target, f"{target.root}/usr", "packages")
     tags = check_archive(target, dist)

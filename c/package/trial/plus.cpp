@@ -5,7 +5,7 @@
 
 int main()
 {
-	tags_options options = { 16, 2, TAGS_DEFAULT_SHIFT, 0, 2, 0, 0 };
+	tags_options options = { 16, 2, 0, 0, 2, 0, 0 };
 	tags_pool pool = TAGS_EMPTY;
 	tags_hand hand = TAGS_EMPTY;
 	tags_sums sums;

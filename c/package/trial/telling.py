@@ -11,7 +11,7 @@ import debian
 
 HERE = os.path.dirname(os.path.abspath(__file__))
 EXAMPLES = os.path.join(os.path.dirname(os.path.dirname(HERE)), "examples")
-SECONDS = 100
+SECONDS = 300
 # The script that tells.
 WHO = os.path.basename(sys.argv[0])
 

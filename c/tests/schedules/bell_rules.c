@@ -1,6 +1,6 @@
 /*
  * What must hold inside c/bell.c: the only file of the explorer that knows how it is made, but for
- * futures.c and queues.c, which stand for the Rust crate.
+ * futures.c and queues.c, which stand for another language.
  */
 #include "queues.h"
 
@@ -8,11 +8,13 @@
 
 #include <stdio.h>
 
+/* That of the pool that is open now: another one may be opened in the handle. */
 static struct bell *bell;
 
-void find_bell(void)
+static bool find_bell(void)
 {
-	bell = pool && pool->waits ? tags_bell_of(pool->waits) : NULL;
+	bell = pool && !is_freed(pool) && pool->waits ? tags_bell_of(pool->waits) : NULL;
+	return bell && !is_freed(bell);
 }
 
 static bool is_locked_by(const pthread_mutex_t *lock, int thread)
@@ -27,8 +29,13 @@ static bool has_lock_of(const struct lender *lender, int thread)
 
 bool has_lock(int thread)
 {
+	if (!find_bell())
+		return false;
 	for (int i = 0; i < MAX_THREADS; i++)
 		if (lenders[i] && has_lock_of(lenders[i], thread))
+			return true;
+	for (uint32_t i = 0; i < bell->hands; i++)
+		if (is_locked_by(&bell->places[i].lock, thread))
 			return true;
 	return is_locked_by(&bell->lock, thread);
 }
@@ -80,14 +87,14 @@ void check_bell(void)
 {
 	uint32_t waiters;
 
-	if (!bell || is_freed(bell))
+	if (!find_bell())
 		return;
 	check_turns();
 	forget_ended();
 	if (!is_locked_by(&bell->lock, -1))
 		return;
 	waiters = (uint32_t)__builtin_popcountll(listed());
-	if (bell->waits.waiting < waiters || bell->waits.waiting > world->threads)
+	if (bell->waits.waiting < waiters || bell->waits.waiting > 2 * world->threads)
 		fault("%u are listed, and %u are counted", waiters, bell->waits.waiting);
 	if (bell->waking > (int32_t)world->threads || bell->waking < -(int32_t)world->threads)
 		fault("%d are waking", (int)bell->waking);
@@ -109,11 +116,11 @@ static bool is_in_list(uint32_t i, bool listens)
 	return hand_at(i) && tags_library_is_told(hand_at(i), listens) == 0;
 }
 
-/* Whether a thread sleeps by the number of a hand that is listed. */
+/* Whether a thread sleeps in the place of a hand that is listed. */
 static bool is_listed_sleeper(const struct thread *thread)
 {
 	for (uint32_t i = 0; i <= world->threads; i++)
-		if (hand_at(i) && thread->address == (uintptr_t)&hand_at(i)->place->rings)
+		if (hand_at(i) && thread->address - (uintptr_t)hand_at(i)->place < sizeof(struct tags_place))
 			return is_in_list(i, false);
 	return false;
 }
@@ -195,9 +202,12 @@ static uint32_t count_broken(void)
 
 void check_quiet_bell(uint32_t asleep, uint32_t drains)
 {
-	const uint32_t waiting = asleep + drains + count_broken();
-	const uint32_t listeners = count_listeners();
-	uint32_t in_lists;
+	const uint32_t is_armed = drains > 0;
+	uint32_t waiting, listeners, in_lists;
+
+	find_bell();
+	waiting = asleep + count_broken() + is_armed + (bell->is_cached ? drains : 0);
+	listeners = count_listeners();
 
 	for (uint32_t i = 0; i < world->threads; i++)
 		check_sleeper(i);
@@ -216,34 +226,43 @@ void check_quiet_bell(uint32_t asleep, uint32_t drains)
 }
 
 /*
- * Gates: the numbers and the counts of sleepers of gates.c, of which a pool uses one
+ * Gates of gates.c, of which a pool uses one: who waits there sleeps on what is on its stack
  */
-extern struct { uint32_t number, sleepers; } gates[16];
+extern struct {
+	pthread_mutex_t lock;
+	uint32_t waiters;
+	void *first;
+} gates[16];
 
 bool is_at_gate(const struct thread *thread)
 {
-	return is_asleep(thread) && thread->kind == OP_ASLEEP &&
-	       thread->address - (uintptr_t)gates < sizeof(gates);
+	return is_asleep(thread) && thread->kind == OP_ASLEEP && !is_in_heap((const void *)thread->address);
 }
 
-/* The hands of the scenario that are out. Those who sleep for a hand have none beside these. */
+/* The hands of the scenario that are out. */
 static uint32_t count_hands(void)
 {
 	uint32_t n = 0;
 
 	for (uint32_t i = 0; i <= world->threads; i++)
 		n += hand_at(i) != NULL;
+	for (uint32_t i = 0; i < world->threads; i++)
+		n += second_hands[i] && second_hands[i]->place;
 	return n;
 }
 
 void check_quiet_gate(uint32_t hirers, uint32_t drains)
 {
-	uint32_t sleepers = 0;
+	uint32_t waiters = 0;
 
+	find_bell();
 	for (size_t i = 0; i < sizeof(gates) / sizeof(*gates); i++)
-		sleepers += gates[i].sleepers;
-	if (sleepers != hirers + drains)
-		fault("%u wait at the gate, not %u", hirers + drains, sleepers);
+		waiters += gates[i].waiters;
+	if (waiters != hirers + drains)
+		fault("%u wait at the gate, not %u", hirers + drains, waiters);
+	if (bell->draining != drains || bell->is_armed != (drains > 0))
+		fault("%u drain the pool, not %u, and one of them is %sto be told", drains, bell->draining,
+		      bell->is_armed ? "" : "not ");
 	if (hirers > 0 && count_hands() < bell->hands)
 		fault("%u wait for a hand beside one that is vacant", hirers);
 	if (hirers > 0 && bell->waits.stops % 2)
@@ -252,16 +271,17 @@ void check_quiet_gate(uint32_t hirers, uint32_t drains)
 
 static bool is_idle(const struct tags_place *place)
 {
-	return !has_notice(place) && !place->running && !place->is_listening && !place->has_turn;
+	return !has_notice(place) && !place->running && !place->is_listening && !place->has_turn && !place->bed;
 }
 
 /* After the last leave. */
 void check_closed_bell(void)
 {
+	find_bell();
 	for (uint32_t i = 0; i < bell->hands; i++)
 		if (!is_idle(&bell->places[i]))
 			fault("the last hand in place %u left a wait there", i);
-	if (bell->waits.waiting || bell->listening || bell->waking || listed())
+	if (bell->waits.waiting || bell->listening || bell->waking || bell->draining || bell->is_armed || listed())
 		fault("somebody waits after the last leave");
 }
 
@@ -299,7 +319,7 @@ static uint64_t waiters(void)
 
 void before_load(const volatile void *address)
 {
-	if (current >= 0 && bell && address == &bell->waits.waiting && world->notes.clears[current])
+	if (current >= 0 && find_bell() && address == &bell->waits.waiting && world->notes.clears[current])
 		world->notes.listed[current] = bell->waits.waiting > 0 ? waiters() : 0;
 }
 
@@ -315,9 +335,14 @@ static const struct {
 	{ offsetof(struct bell, waits.stops), "stops" },
 	{ offsetof(struct bell, listening), "listening" },
 	{ offsetof(struct bell, waking), "waking" },
+	{ offsetof(struct bell, draining), "draining" },
+	{ offsetof(struct bell, is_armed), "is_armed" },
 	{ offsetof(struct bell, lock), "the lock" },
 }, fields[] = {
-	{ offsetof(struct tags_place, rings), "rings" },
+	{ offsetof(struct tags_place, lock), "lock" },
+	{ offsetof(struct tags_place, bed), "bed" },
+	{ offsetof(struct tags_place, beds[0]), "beds[0]" },
+	{ offsetof(struct tags_place, beds[1]), "beds[1]" },
 	{ offsetof(struct tags_place, running), "running" },
 	{ offsetof(struct tags_place, notice.descriptor), "descriptor" },
 	{ offsetof(struct tags_place, notice.function), "function" },
@@ -336,7 +361,7 @@ static const char *name_of_variable(uintptr_t address)
 	if (address - (uintptr_t)locks < sizeof(locks))
 		return "the handle's lock";
 	if (address - (uintptr_t)gates < sizeof(gates))
-		return (address - (uintptr_t)gates) % sizeof(*gates) ? "the gate's sleepers" : "the gate's number";
+		return (address - (uintptr_t)gates) % sizeof(*gates) ? "the gate's waiters" : "the gate's lock";
 	return NULL;
 }
 
@@ -355,10 +380,15 @@ static const char *name_in_place(size_t at)
 const char *name_of(uintptr_t address)
 {
 	static char text[64];
-	const size_t at = address - (uintptr_t)bell, places = offsetof(struct bell, places);
+	const size_t places = offsetof(struct bell, places);
+	size_t at;
 
+	find_bell();
+	at = address - (uintptr_t)bell;
 	if (name_of_variable(address))
 		return name_of_variable(address);
+	if (!is_in_heap((const void *)address))
+		return "what is on a stack";
 	for (size_t i = 0; i < sizeof(words) / sizeof(*words); i++)
 		if (words[i].at == at)
 			return words[i].name;

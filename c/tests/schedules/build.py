@@ -22,8 +22,9 @@ ENGINE = "threads memory states seen steps search wander trace main kernel calls
 # What threads run, and so is explored; and what looks at it from outside.
 PROGRAMS = "stage gets loops queues futures slots lives gated".split()
 RULES = "rules bell_rules scenarios".split()
-# Of the library's own files: the exports, which the explored code has inline; and the memory, which is no step.
-EXPORTS, HEAP = "symbols", "heap"
+# Of the library's own files: the exports, which the explored code has inline; the memory, which is no step; and handles that one thread
+# alone uses.
+EXPORTS, HEAP, OWN = "symbols", "heap", "own_hands"
 
 # The variables of the library's C files, which are part of a state; and one that only the thread sanitizer's runtime would use.
 VARIABLES, UNUSED = "gates locks".split(), "tags_library_order"
@@ -87,7 +88,7 @@ def explored_jobs(made, folder, kind):
     here, common = folder / "tests" / "schedules", [f"-I{folder}", f"-DSTACK_SIZE={STACK[kind]}", "-O1"]
     if folder != C:
         common.append("-w")
-    library = sorted(it for it in folder.glob("*.c") if it.stem not in (EXPORTS, HEAP))
+    library = sorted(it for it in folder.glob("*.c") if it.stem not in (EXPORTS, HEAP, OWN))
     for source in library:
         yield lambda it=source: compiled_library(made, it, *common, *EXPLORED)
     for name in PROGRAMS:

@@ -16,65 +16,61 @@ static long fail(int error)
 	return -1;
 }
 
-/* A sleep ends by a wake, or, if the explorer chooses so, by its limit, a signal or for no reason. */
-static long fall_asleep(struct thread *me, const uint32_t *word, void *pc)
+/* A sleep ends by a wake, or, if the explorer chooses so, by its limit, a signal, for no reason or by a cancel. */
+int fall_asleep(const void *address, bool has_limit, void *pc)
 {
+	struct thread *me = &world->thread[current];
+	int how;
+
+	me->has_limit = has_limit;
 	tell_step("falls asleep");
-	switch (pause_before(OP_ASLEEP, word, sizeof(*word), 1, pc)) {
-	case ALT_CANCEL:
-		cancel_thread();
-	case ALT_TIMEOUT:
-		me->is_late = true;
-		tell_step("the sleep times out");
-		return fail(ETIMEDOUT);
-	case ALT_SIGNAL:
-		me->signals--;
-		tell_step("the sleep ends by a signal");
-		return fail(EINTR);
-	case ALT_SPURIOUS:
-		me->signals--;
-		tell_step("the sleep ends for no reason");
-		return 0;
-	default:
-		tell_step("wakes up");
-		return 0;
+	how = pause_before(OP_ASLEEP, address, 1, 1, pc);
+	if (how < ALT_CANCEL)
+		how = 0;
+	me->is_late |= how == ALT_TIMEOUT;
+	me->signals -= how == ALT_SIGNAL || how == ALT_SPURIOUS;
+	tell_step(how == 0 ? "wakes up" : how == ALT_TIMEOUT ? "the sleep times out" : "the sleep ends");
+	return how;
+}
+
+uint32_t wake_some(const void *address, uint32_t most)
+{
+	uint32_t sleep = 0, woken = 0;
+
+	for (uint32_t i = 0; i < world->threads; i++) {
+		struct thread *thread = &world->thread[i];
+
+		if (thread->kind != OP_ASLEEP || thread->is_done || thread->is_woken ||
+		    thread->address != (uintptr_t)address)
+			continue;
+		sleep++;
+		thread->is_woken = woken < most;
+		woken += thread->is_woken;
 	}
+	return most > 0 ? woken : sleep;
 }
 
 /* The kernel compares the word and queues the thread in one step. */
-static long futex_wait(const uint32_t *word, uint32_t expected, const struct timespec *limit, void *pc)
+static long futex_wait(const uint32_t *word, uint32_t expected, void *pc)
 {
-	struct thread *me;
-
 	if (current < 0) {
 		fault("a sleep outside of all threads");
 		return fail(EINVAL);
 	}
-	me = &world->thread[current];
-	if (pause_before(OP_FUTEX_WAIT, word, sizeof(*word), 1, pc) == ALT_CANCEL)
-		cancel_thread();
+	pause_before(OP_SLEEP, word, sizeof(*word), 1, pc);
 	if (*word != expected) {
 		tell_step("futex wait: the word is %u", *word);
 		return fail(EAGAIN);
 	}
-	me->has_limit = limit != NULL;
-	return fall_asleep(me, word, pc);
+	return fall_asleep(word, false, pc) == ALT_SIGNAL ? fail(EINTR) : 0;
 }
 
 static long futex_wake(const uint32_t *word, uint32_t most, void *pc)
 {
-	uint32_t woken = 0;
+	uint32_t woken;
 
-	pause_before(OP_FUTEX_WAKE, word, sizeof(*word), 1, pc);
-	for (uint32_t i = 0; i < world->threads && woken < most; i++) {
-		struct thread *thread = &world->thread[i];
-
-		if (thread->kind == OP_ASLEEP && !thread->is_done && !thread->is_woken &&
-		    thread->address == (uintptr_t)word) {
-			thread->is_woken = true;
-			woken++;
-		}
-	}
+	pause_before(OP_WAKE, word, sizeof(*word), 1, pc);
+	woken = wake_some(word, most);
 	tell_step("futex wake of %s: %u", name_of((uintptr_t)word), woken);
 	return woken;
 }
@@ -84,15 +80,14 @@ static long futex(va_list rest, void *pc)
 	const uint32_t *word = va_arg(rest, const uint32_t *);
 	int how = va_arg(rest, int);
 	uint32_t value = va_arg(rest, uint32_t);
-	const struct timespec *limit = va_arg(rest, const struct timespec *);
 
 	if (!(how & FUTEX_PRIVATE_FLAG))
 		fault("a futex call that is not private");
 	switch (how & FUTEX_CMD_MASK) {
 	case FUTEX_WAKE:
 		return futex_wake(word, value, pc);
-	case FUTEX_WAIT_BITSET:
-		return futex_wait(word, value, limit, pc);
+	case FUTEX_WAIT:
+		return futex_wait(word, value, pc);
 	default:
 		fault("an unknown futex call");
 		return fail(ENOSYS);
@@ -129,8 +124,6 @@ long kernel_syscall(long number, ...)
 		answer = futex(rest, PC);
 	else if (number == SYS_write)
 		answer = write_event(rest, PC);
-	else if (number == SYS_getpid)
-		answer = 1;
 	else
 		fault("an unknown system call");
 	va_end(rest);

@@ -25,19 +25,20 @@ TOO_LARGE_FOR_RACES = """three_of_two hider_two mixed_of_two loops_of_two loops_
     tasks_of_two hider_tasks timed_out owes shares_of_two shares_stop""".split()
 # These take seconds over the library itself, with those that need it.
 SMALL_FOR_TRUE = """sleepers signals heir words calls stop stop_listeners stop_timed stop_joins loop loops hider hider_loop hidden timed resizes closes
-    resizes_reported closes_reported hires hires_timed hires_stop drains drains_kept drains_stop shares_drop shares_stop_drop""".split()
+    resizes_reported closes_reported hires hires_timed hires_stop hires_two hires_grabbed hires_stop_two reopens drains drains_kept drains_stop shares_drop shares_stop_drop""".split()
 # Of those that need it, these have races looked for as well.
-RACES_FOR_TRUE = "posts masks reserved robin batches resizes hires drains_stop plus_owners plus_joins plus_stop plus_resume plus_waits plus_loop plus_quits".split()
-TRUE_IN_GATE = "stop hidden loops calls posts masks reserved robin batches resizes resizes_reported hires drains_stop plus_owners plus_joins plus_stop".split()
+RACES_FOR_TRUE = "posts masks reserved robin batches resizes hires hires_two reopens drains_stop plus_owners plus_joins plus_stop plus_resume plus_waits plus_loop plus_quits".split()
+TRUE_IN_GATE = "stop hidden loops calls posts masks reserved robin batches resizes resizes_reported hires hires_two reopens drains_stop plus_owners plus_joins plus_stop".split()
 # Large, but complete. The others are too large for that, and one of them for two preemptions.
 COMPLETE = "kept_posts kept_three four_sleepers four_loops".split()
 ONE_PREEMPTION = ["four_ways"]
 # One for each kind of fault that is looked for.
-IN_GATE = """clear_looks_first futex_is_not_woken get_looks_only_if_it_won turn_is_lost load_is_relaxed
-    number_is_raised_plainly number_is_loaded_after_the_question eventfd_is_written_without_the_lock ring_changes_errno
+IN_GATE = """clear_looks_first sleeper_is_not_signalled get_looks_only_if_it_won turn_is_lost load_is_relaxed
+    bed_is_read_without_the_lock sleeper_asks_without_the_lock eventfd_is_written_without_the_lock ring_changes_errno
     join_without_the_handle hands_share_a_place count_rises_after_the_listing gets_up_in_the_other_list closed_eventfd_counts_as_told
     told_sleeper_with_a_tag_does_not_settle stop_rings_before_it_stops cancelled_sleeper_stays_listed waking_never_falls
-    ring_gives_no_kept_tags_back leave_opens_no_gate ring_opens_no_gate cancelled_wait_stays_at_its_gate destroyed_coroutine_leaves_its_hand_listed
+    ring_gives_no_kept_tags_back leave_tells_nobody_at_the_gate clear_tells_no_drain cancelled_wait_stays_at_its_gate
+    told_one_that_gives_up_tells_nobody second_hand_tells_the_first_again close_answers_nobody drain_that_ends_tells_no_other destroyed_coroutine_leaves_its_hand_listed
     function_outlives_the_wait dropped_future_leaves_its_hand_told resumed_stop_ends_no_wait""".split()
 # Instructions for ARM by which threads meet: those that are weaker than sequentially consistent, and the others.
 WEAKER = re.compile(r"^\s+(ldap\w*|ldx\w*|stx\w*|(cas|swp|ld(add|clr|set|eor|[su]max|[su]min))(?!p?al)\w*|st(add|clr|set|eor)\w*)\s", re.M)

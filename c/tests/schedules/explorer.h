@@ -28,9 +28,9 @@ enum kind {
 	OP_READ, /* not atomic; only with --races */
 	OP_WRITE,
 	OP_LOCK,
-	OP_FUTEX_WAIT,
+	OP_SLEEP, /* is about to fall asleep, on a futex or a condition variable */
 	OP_ASLEEP,
-	OP_FUTEX_WAKE,
+	OP_WAKE,
 	OP_EVENT_WRITE,
 	OP_EVENT_CLOSE,
 	OP_POLL,
@@ -64,8 +64,8 @@ struct thread {
 	uint8_t chosen;
 	bool is_done;
 	bool is_woken;
-	/* whether a cancel acts at once: the cancellation type */
-	bool is_async;
+	/* it is in a call that acts on a cancel */
+	bool is_cancellable;
 	bool may_be_cancelled;
 	bool was_cancelled;
 	/* its sleep may time out, and its deadline has passed */
@@ -102,6 +102,8 @@ struct notes {
 	uint32_t drains;
 	/* the threads whose wait a stop has to end, as a mask */
 	uint32_t stopped;
+	/* how often the pool was closed, and another one opened in its handle */
+	uint32_t closes;
 	/* a thread has closed the pool */
 	bool is_closed;
 };

@@ -1,6 +1,6 @@
 /*
- * Futures, as c/rust/src/future.rs, shared.rs and hand.rs have them: written after that code, which
- * can't be explored itself.
+ * Futures, as rust/tags/src/future.rs, shared.rs and hand.rs have them, over the calls of this library:
+ * written after that code, which can't be explored itself.
  *
  * A future waits behind its thread's hand, or shares the hand of the first thread that shares one,
  * which is behind a lock.
@@ -266,7 +266,7 @@ static void run_future(int me, bool may_drop)
 		end_program(me);
 }
 
-/* A hand of the Rust crate behind a lock: it gives two tags back, and wakes those it told once it has left the lock. */
+/* A hand behind a lock: it gives two tags back, and wakes those it told once it has left the lock. */
 void ower(int me)
 {
 	struct tags_told due = { 0, 0 };

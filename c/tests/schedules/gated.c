@@ -22,23 +22,31 @@ static void may_end(int me, int32_t answer, bool has_limit, bool is_stoppable)
 }
 
 /*
- * A second hand, beside the thread's own
+ * A second hand, beside the thread's own if it has one
  */
+
+/* Returns what the wait for it has ended with. The hand leaves at once, or never. */
+static int32_t hire_once(int me, bool has_limit)
+{
+	struct tags_hand *second = second_hands[me];
+	int32_t answer;
+
+	world->thread[me].is_late = false;
+	if (has_limit)
+		answer = CALL(tags_join_timed(pool, second, 0, CLOCK_MONOTONIC, &deadline));
+	else
+		answer = CALL(tags_join_blocking(pool, second, 0));
+	if (answer == TAGS_OK && !holds_for_ever())
+		EXPECT(TAGS_OK, tags_leave(second));
+	return answer;
+}
 
 static void hire(int me, bool has_limit)
 {
-	for (int round = 0; goes_on(me, round); round++) {
-		struct tags_hand second = { 0 };
-		int32_t answer;
+	for (int round = 0; goes_on(me, round) && !second_hands[me]->full; round++) {
+		const int32_t answer = hire_once(me, has_limit);
 
-		world->thread[me].is_late = false;
-		if (has_limit)
-			answer = CALL(tags_join_timed(pool, &second, 0, CLOCK_MONOTONIC, &deadline));
-		else
-			answer = CALL(tags_join_blocking(pool, &second, 0));
-		if (answer == TAGS_OK)
-			EXPECT(TAGS_OK, tags_leave(&second));
-		else
+		if (answer != TAGS_OK)
 			may_end(me, answer, has_limit, true);
 	}
 }
@@ -53,9 +61,32 @@ void timed_hirer(int me)
 	hire(me, true);
 }
 
+/* Waits at a pool that may be closed meanwhile. */
+static void apply(int me, bool has_limit)
+{
+	const uint32_t closes = world->notes.closes;
+	const int32_t answer = hire_once(me, has_limit);
+
+	if (answer == TAGS_BAD_HANDLE && closes == world->notes.closes)
+		fault("a pool is closed to a call that began after it was opened");
+	if (answer != TAGS_OK && answer != TAGS_BAD_HANDLE)
+		may_end(me, answer, has_limit, true);
+}
+
+void applicant(int me)
+{
+	apply(me, false);
+}
+
+void timed_applicant(int me)
+{
+	apply(me, true);
+}
+
 bool hires(uint32_t thread)
 {
-	return scenario->program[thread] == hirer || scenario->program[thread] == timed_hirer;
+	return scenario->program[thread] == hirer || scenario->program[thread] == timed_hirer ||
+	       scenario->program[thread] == applicant || scenario->program[thread] == timed_applicant;
 }
 
 /*

@@ -7,6 +7,7 @@
 
 #include "scenario.h"
 
+#include <errno.h>
 #include <string.h>
 
 static int own_errno;
@@ -45,7 +46,7 @@ void cancel_thread(void)
 	struct thread *me = self();
 
 	tell_step("is cancelled");
-	me->is_async = false;
+	me->is_cancellable = false;
 	me->may_be_cancelled = false;
 	me->was_cancelled = true;
 	while (me->cleanups) {
@@ -55,26 +56,6 @@ void cancel_thread(void)
 		last->routine(last->argument);
 	}
 	end_thread();
-}
-
-static void may_be_cancelled_here(void *pc)
-{
-	if (self()->is_async && self()->may_be_cancelled &&
-	    pause_before(OP_LOCAL, NULL, 0, 1, pc) == ALT_CANCEL)
-		cancel_thread();
-}
-
-int kernel_setcanceltype(int type, int *former)
-{
-	if (current < 0) {
-		*former = PTHREAD_CANCEL_DEFERRED;
-		return 0;
-	}
-	may_be_cancelled_here(PC);
-	*former = self()->is_async ? PTHREAD_CANCEL_ASYNCHRONOUS : PTHREAD_CANCEL_DEFERRED;
-	self()->is_async = type == PTHREAD_CANCEL_ASYNCHRONOUS;
-	may_be_cancelled_here(PC);
-	return 0;
 }
 
 /* No function of a scenario is a cancellation point. */
@@ -159,6 +140,72 @@ int kernel_mutex_unlock(pthread_mutex_t *mutex)
 }
 
 /*
+ * Condition variables. Nothing is in one: who sleeps on it is asleep at its address. A wait leaves the
+ * lock in the step in which it falls asleep. It alone acts on a cancel, with the lock again.
+ */
+
+static int *own_mutex(pthread_mutex_t *mutex)
+{
+	if (*owner_of(mutex) != current + 1)
+		fault("a thread sleeps without the lock");
+	return owner_of(mutex);
+}
+
+static int sleep_on(pthread_cond_t *cond, pthread_mutex_t *mutex, bool has_limit, void *pc)
+{
+	int how = ALT_CANCEL;
+
+	self()->is_cancellable = true;
+	if (pause_before(OP_SLEEP, cond, 1, 1, pc) != ALT_CANCEL) {
+		*own_mutex(mutex) = 0;
+		how = fall_asleep(cond, has_limit, pc);
+		self()->is_cancellable = false;
+		kernel_mutex_lock(mutex);
+	}
+	if (how == ALT_CANCEL)
+		cancel_thread();
+	self()->is_cancellable = false;
+	return how == ALT_TIMEOUT ? ETIMEDOUT : 0;
+}
+
+int kernel_cond_init(pthread_cond_t *cond, const pthread_condattr_t *attributes)
+{
+	(void)attributes;
+	memset(cond, 0, sizeof(*cond));
+	return 0;
+}
+
+int kernel_cond_destroy(pthread_cond_t *cond)
+{
+	if (wake_some(cond, 0) > 0)
+		fault("a condition variable is destroyed on which somebody sleeps");
+	return 0;
+}
+
+int kernel_cond_signal(pthread_cond_t *cond)
+{
+	uint32_t woken;
+
+	pause_before(OP_WAKE, cond, 1, 1, PC);
+	if (is_freed(cond))
+		fault("memory is used after it was freed: %s", name_of((uintptr_t)cond));
+	woken = wake_some(cond, 1);
+	tell_step("signals %s: %u", name_of((uintptr_t)cond), woken);
+	return 0;
+}
+
+int kernel_cond_wait(pthread_cond_t *cond, pthread_mutex_t *mutex)
+{
+	return sleep_on(cond, mutex, false, PC);
+}
+
+int kernel_cond_timedwait(pthread_cond_t *cond, pthread_mutex_t *mutex, const struct timespec *end)
+{
+	(void)end;
+	return sleep_on(cond, mutex, true, PC);
+}
+
+/*
  * Clocks. The deadline of each thread is 100 s and 500 ns, and it may have passed at any call.
  */
 int kernel_clock_gettime(clockid_t clock, struct timespec *now)
@@ -173,5 +220,13 @@ int kernel_clock_gettime(clockid_t clock, struct timespec *now)
 		tell_step(at ? "the deadline has passed" : "the deadline has not passed");
 	}
 	*now = times[at];
+	return 0;
+}
+
+/* A rest: any number of steps of other threads may come before whatever is next. */
+int kernel_nanosleep(const struct timespec *time, struct timespec *left)
+{
+	(void)time;
+	(void)left;
 	return 0;
 }

@@ -18,11 +18,20 @@ int kernel_mutex_destroy(pthread_mutex_t *mutex);
 int kernel_mutex_lock(pthread_mutex_t *mutex);
 int kernel_mutex_unlock(pthread_mutex_t *mutex);
 int kernel_setcancelstate(int state, int *former);
-int kernel_setcanceltype(int type, int *former);
+int kernel_cond_init(pthread_cond_t *cond, const pthread_condattr_t *attributes);
+int kernel_cond_destroy(pthread_cond_t *cond);
+int kernel_cond_signal(pthread_cond_t *cond);
+int kernel_cond_wait(pthread_cond_t *cond, pthread_mutex_t *mutex);
+int kernel_cond_timedwait(pthread_cond_t *cond, pthread_mutex_t *mutex, const struct timespec *end);
+int kernel_nanosleep(const struct timespec *time, struct timespec *left);
 int kernel_clock_gettime(clockid_t clock, struct timespec *now);
 void kernel_push_cleanup(struct cleanup *cleanup);
 void kernel_pop_cleanup(struct cleanup *cleanup, int runs);
 
+/* Sleeps at an address. Returns how the sleep has ended: 0 or a number from ALT_CANCEL on. */
+int fall_asleep(const void *address, bool has_limit, void *pc);
+/* Wakes so many of those that sleep there, the first threads first. Returns how many: all of those that sleep if none is to wake. */
+uint32_t wake_some(const void *address, uint32_t most);
 /* Cancels the thread that runs. */
 void cancel_thread(void) __attribute__((noreturn));
 

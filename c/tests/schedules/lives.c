@@ -57,6 +57,26 @@ void goer(int me)
 		EXPECT(TAGS_OK, tags_leave(hands[me]));
 }
 
+/* Leaves and may have the hand again before those who wait for it, and leaves it to them. */
+void grabber(int me)
+{
+	int32_t answer;
+
+	EXPECT(TAGS_OK, tags_leave(hands[me]));
+	answer = CALL(tags_join(pool, hands[me], 0));
+	if (answer == TAGS_OK)
+		EXPECT(TAGS_OK, tags_leave(hands[me]));
+	else if (answer != TAGS_NO_HAND)
+		fault("a join returned %d", (int)answer);
+}
+
+/* Leaves with two hands. */
+void retirer(int me)
+{
+	EXPECT(TAGS_OK, tags_leave(hands[me]));
+	EXPECT(TAGS_OK, tags_leave(hands[world->threads]));
+}
+
 void reporter(int me)
 {
 	for (int round = 0; goes_on(me, round); round++) {
@@ -91,7 +111,8 @@ void late_reporter(int me)
 static void leave_from(int me)
 {
 	for (int i = me; i <= (int)world->threads; i++)
-		EXPECT(TAGS_OK, tags_leave(hands[i]));
+		if (hands[i]->full)
+			EXPECT(TAGS_OK, tags_leave(hands[i]));
 }
 
 /* Once thread 0 has left, resizes the pool and joins it again. */
@@ -119,4 +140,31 @@ void closer(int me)
 		fault("a close returned %d: %lu got, %lu back", (int)status, (unsigned long)sums.got,
 		      (unsigned long)sums.back);
 	world->notes.is_closed = true;
+}
+
+/* A close answers all those who sleep for a hand. */
+static void check_answered(void)
+{
+	for (uint32_t i = 0; i < world->threads; i++)
+		if (is_at_gate(&world->thread[i]) && !world->thread[i].is_woken)
+			fault("thread %u sleeps on, and the pool was closed", i);
+}
+
+/* Has all hands; closes the pool unless another thread has joined, and opens one in the same handle. */
+void reopener(int me)
+{
+	struct tags_sums sums;
+	int32_t status;
+
+	leave_from(me);
+	world->notes.closes++;
+	status = CALL(tags_close(pool, &sums));
+	if (status == TAGS_HANDS_OUT)
+		return;
+	if (status != TAGS_OK)
+		fault("a close returned %d", (int)status);
+	check_answered();
+	open_pool();
+	if (CALL(tags_join(pool, hands[me], 0)) == TAGS_OK && choose(2))
+		EXPECT(TAGS_OK, tags_leave(hands[me]));
 }

@@ -159,6 +159,8 @@ int32_t tags_library_join(struct tags_pool *pool, struct tags_hand *hand, uint32
 	struct map *map = map_of(pool);
 
 	(void)flags;
+	if (!map)
+		return TAGS_BAD_HANDLE;
 	use_handle(map, "join");
 	for (uint32_t i = 0; i < map->hands; i++) {
 		if (map->member[i].is_out)
@@ -810,9 +812,4 @@ int32_t tags_library_pool_show(struct tags_pool *pool, uint32_t kind, struct tag
 	}
 
 #pragma GCC diagnostic ignored "-Wunused-parameter"
-LACKS(tags_library_get_reserved, struct tags_hand *hand)
-LACKS(tags_library_take, struct tags_hand *hand, uint32_t tag)
-LACKS(tags_library_holds, struct tags_hand *hand, uint32_t tag)
-LACKS(tags_library_read, struct tags_hand *hand, uint32_t tag, uint64_t *value)
-LACKS(tags_library_write, struct tags_hand *hand, uint32_t tag, uint64_t value, uint64_t *former)
-LACKS(tags_library_read_clear, struct tags_hand *hand, uint32_t tag, uint64_t *value)
+#include "lacks.h"

@@ -1,7 +1,7 @@
 // Programs in C++, over tags.hpp: threads with values beside their tags, coroutines of a listener,
 // and the owners of a pool. They are built without exceptions, as what a throw keeps is not part of
 // a state.
-#include "tags.hpp"
+#include "tags_async.hpp"
 
 #include "programs.h"
 #include "scenario.h"

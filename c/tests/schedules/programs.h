@@ -1,6 +1,6 @@
 /*
  * The programs of the threads. Each makes public calls of tags.h, but for futures, which make
- * those of the Rust crate.
+ * those that are for another language.
  */
 #ifndef PROGRAMS_H
 #define PROGRAMS_H
@@ -62,11 +62,16 @@ void resizer(int me);
 void closer(int me);
 void late_reporter(int me);
 void resumer(int me);
+void grabber(int me);
+void retirer(int me);
+void reopener(int me);
 /* Notes those that wait at some moment before a stop. */
 void look_before_stop(void);
 /* gates */
 void hirer(int me);
 void timed_hirer(int me);
+void applicant(int me);
+void timed_applicant(int me);
 void drainer(int me);
 void timed_drainer(int me);
 /* Whether the thread drains the pool, or waits for a hand. */

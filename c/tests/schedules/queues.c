@@ -1,5 +1,5 @@
 /*
- * The queue of futures behind a hand, as c/rust/src/queue.rs has it: written after that code, which
+ * The queue of futures behind a hand, as rust/tags/src/queue.rs has it: written after that code, which
  * can't be explored itself. A waker counts in an event, as an eventfd would.
  */
 #include "queues.h"

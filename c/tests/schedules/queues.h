@@ -1,5 +1,5 @@
 /*
- * What a hand and the futures that wait behind it have in common, written after the Rust crate.
+ * What a hand and the futures that wait behind it have in common, written after rust/tags.
  */
 #ifndef QUEUES_H
 #define QUEUES_H

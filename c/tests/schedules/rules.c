@@ -108,6 +108,9 @@ static void close_pool(void)
 	for (uint32_t i = 0; i <= world->threads; i++)
 		if (hands[i]->full)
 			EXPECT(TAGS_OK, tags_leave(hands[i]));
+	for (uint32_t i = 0; i < world->threads; i++)
+		if (second_hands[i] && second_hands[i]->full)
+			EXPECT(TAGS_OK, tags_leave(second_hands[i]));
 	check_closed_bell();
 	for (int i = 0; i < MAX_TAGS; i++)
 		held += world->notes.holder[i] != 0;

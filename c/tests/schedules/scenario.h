@@ -22,8 +22,12 @@ struct scenario {
 	uint32_t reserved;
 	uint32_t cache;
 	uint32_t flags;
+	/* the largest one where it is 0 */
+	int32_t shift;
 	/* the tags that nobody gives back: an extra hand holds them */
 	uint32_t taken;
+	/* the pool's hands, which thread 0 has; 0 for one for each thread and one more */
+	uint32_t hands;
 	/* the tags that the pool had before it was resized; 0 if it was not */
 	uint32_t former_tags;
 	/* what each thread does, and how often at most */
@@ -63,9 +67,13 @@ const char *name_of_program(int thread);
 extern struct tags_pool *pool;
 /* one for each thread, and one that holds what nobody gives back */
 extern struct tags_hand *hands[MAX_THREADS + 1];
+/* a second one for each thread, which it waits for */
+extern struct tags_hand *second_hands[MAX_THREADS];
 
 /* Makes the pool and its hands, outside of all threads. */
 void set_up(void);
+/* Opens a pool in the handle. */
+void open_pool(void);
 bool is_closed(void);
 /* Memory of the scenario's own, which is not freed at the end; and how much of it there is. */
 void *take_own(size_t size);
@@ -128,7 +136,6 @@ bool is_asleep(const struct thread *thread);
  * bell_rules.c: what must hold inside c/bell.c, and the names of its words. Nothing else knows
  * how that is made.
  */
-void find_bell(void);
 void check_bell(void);
 void check_quiet_bell(uint32_t asleep, uint32_t drains);
 /* What must hold of threads that wait for a hand, and whether a thread sleeps at a gate. */

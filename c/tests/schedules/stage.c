@@ -10,6 +10,7 @@
 
 struct tags_pool *pool;
 struct tags_hand *hands[MAX_THREADS + 1];
+struct tags_hand *second_hands[MAX_THREADS];
 uint32_t own_allocations;
 
 bool has_program(void (*program)(int me))
@@ -30,17 +31,21 @@ void *take_own(size_t size)
 	return take_memory(size);
 }
 
-static void open_pool(void)
+static uint32_t count_hands(void)
+{
+	return scenario->hands ? scenario->hands : world->threads + 1;
+}
+
+void open_pool(void)
 {
 	struct tags_options options = TAGS_OPTIONS_INIT;
 
 	options.total = scenario->former_tags ? scenario->former_tags : scenario->tags;
 	options.reserved = scenario->reserved;
-	options.hands = world->threads + 1;
+	options.hands = count_hands();
 	options.cache = scenario->cache;
 	options.flags = scenario->flags;
-	options.shift = scenario->flags & TAGS_ONE_PER_WORD ? 0 : TAGS_MAX_SHIFT;
-	pool = take_own(sizeof(*pool));
+	options.shift = scenario->shift ? scenario->shift : TAGS_MAX_SHIFT;
 	EXPECT(TAGS_OK, tags_open(pool, &options));
 	if (scenario->former_tags)
 		EXPECT(TAGS_OK, tags_resize(pool, scenario->tags));
@@ -50,7 +55,10 @@ static void join_all(void)
 {
 	for (uint32_t i = 0; i <= world->threads; i++) {
 		hands[i] = take_own(sizeof(*hands[i]));
-		EXPECT(TAGS_OK, tags_join(pool, hands[i], TAGS_STAY));
+		if (i < count_hands())
+			EXPECT(TAGS_OK, tags_join(pool, hands[i], TAGS_STAY));
+		if (i < world->threads && hires(i))
+			second_hands[i] = take_own(sizeof(*second_hands[i]));
 	}
 }
 
@@ -62,7 +70,7 @@ static void take_some(void)
 	for (uint32_t i = 0; i < scenario->taken; i++)
 		if (tags_get(last) < 0)
 			fault("there is no tag to take");
-	if (scenario->taken == 1 && scenario->flags & TAGS_ONE_PER_WORD) {
+	if (scenario->taken == 1 && scenario->shift == TAGS_ONE_PER_WORD) {
 		EXPECT(1, tags_get(last));
 		EXPECT(0, tags_clear(last, 0));
 	}
@@ -79,11 +87,11 @@ void set_up(void)
 	if (scenario->open) {
 		scenario->open();
 	} else {
+		pool = take_own(sizeof(*pool));
 		open_pool();
 		join_all();
 		take_some();
 	}
-	find_bell();
 	make_futures();
 }
 

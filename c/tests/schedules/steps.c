@@ -61,7 +61,7 @@ static int choices_of(uint8_t i, struct choice *choices)
 		for (uint8_t k = 0; k < thread->choices; k++)
 			choices[n++] = (struct choice){ i, k };
 	n += ends_of_sleep(i, choices + n);
-	if (thread->is_async && thread->may_be_cancelled)
+	if (thread->is_cancellable && thread->may_be_cancelled)
 		choices[n++] = (struct choice){ i, ALT_CANCEL };
 	return n;
 }

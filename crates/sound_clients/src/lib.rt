@@ -3,5 +3,4 @@
 
 pub mod over_caches;
 pub mod over_maps;
-pub mod over_queues;
-pub mod over_tags;
+pub mod over_pools;

@@ -5,6 +5,7 @@ pub mod OneStep
 pub mod EachStep
 pub mod Safe
 pub mod Rung
+pub mod Seeing
 pub mod Rousing
 pub mod StillThere
 pub mod Choosing

@@ -141,6 +141,15 @@ all_taken found usable n b is same low =
     sym (bit_at_and found usable b) ∙ ap (λ (m : ℕ). bit_at m b) same in
     let few = bit_at-lt found b in omega arith
 
+-- every usable bit of a cleared set is 0 if none of them is in it
+none_aside : (found usable n b : ℕ) → usable + 1 ≡ 2 ^ n → bit_and found usable ≡ 0 → b < n → bit_at found b ≡ 0
+none_aside found usable n b is empty low =
+    let all : usable ≡ 2 ^ n - 1 = omega arith in
+    let one : bit_at usable b ≡ 1 = ap (λ (m : ℕ). bit_at m b) all ∙ bit_at_ones n b low in
+    let both : min (bit_at found b) (bit_at usable b) ≡ bit_at 0 b =
+    sym (bit_at_and found usable b) ∙ ap (λ (m : ℕ). bit_at m b) empty in
+    let off = bit_at-zero b in omega arith
+
 module _ {R : Type 0} where
   -- what is known of both lists is known of each
   pub each_list : (caller : Caller R) → OwesNothing 0 caller → OwesNothing 1 caller → (list : ℕ) → list < 2
@@ -176,18 +185,17 @@ module _ {R : Type 0} where
     listeners = refl;
   }
 
-  -- if each of the word's bits is 1, and its cleared set is empty, both looks find its spots shut
+  -- if each of the word's bits is 1, and none of its tags is in the cleared set, both looks find its spots shut
   pub seen_shut : (list i found aside usable : ℕ) (old new : Caller R) → OnlyAdds (seen i found aside) old new
-      → usable + 1 ≡ 2 ^ word_depth (layout_of old) i → bit_and found usable ≡ usable → aside ≡ 0
+      → usable + 1 ≡ 2 ^ word_depth (layout_of old) i → bit_and found usable ≡ usable → bit_and aside usable ≡ 0
       → OwesNoneWhere (λ j. j ≡ i) list new
   seen_shut list i found aside usable old new is wide full empty = none_where (λ j. j ≡ i) list (seen i found aside) old
       new is (λ tag low here owes. let l = layout_of old in
-      ⊎_elim (λ a. ⊎_elim (λ no. absurd no) (λ o. o.1 (
-        here,
-        all_taken found usable (word_depth l i) (place_of l tag) wide
-            full (subst (λ (j : ℕ). place_of l tag < word_depth l j) here (place_of-below l tag low)),
-      )) a.0)
-      (λ b. b.1 (here, ap (λ (n : ℕ). bit_at n (place_of l tag)) empty ∙ bit_at-zero (place_of l tag))) owes)
+      let at : place_of l tag < word_depth l i =
+      subst (λ (j : ℕ). place_of l tag < word_depth l j) here (place_of-below l tag low) in
+      ⊎_elim (λ a. ⊎_elim (λ no. absurd no)
+      (λ o. o.1 (here, all_taken found usable (word_depth l i) (place_of l tag) wide full at)) a.0)
+      (λ b. b.1 (here, none_aside aside usable (word_depth l i) (place_of l tag) wide empty at)) owes)
 
   -- what holds below a word and in it holds below the next
   pub one_more : (i list : ℕ) (caller : Caller R) → OwesNoneWhere (λ j. j < i) list caller

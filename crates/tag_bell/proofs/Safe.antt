@@ -42,9 +42,16 @@ module _ {R : Type 0} (k : Shape) (list : ℕ) (h : History R) where
       comes (inr here) = to_tag tag (in_aside k.layout tag) (λ d owes. inr owes)
           (all.covered caller low listed (in_aside k.layout tag) tried.1 here)
 
+  -- a caller that is asleep has nothing to see to, and nobody has told it
+  awake : (caller tag : ℕ) → tag < k.layout.depth → IsOnTheWay k.layout list h caller tag
+      → ¬ IsAsleep k.layout list h caller
+  awake caller tag within (inl owes) asleep = asleep.done tag within owes
+  awake caller tag within (inr told) asleep = let on = asleep.listed in let off = told.1 in omega arith
+
   callers : EachFinds k.callers h → NobodyForgotten k list h
-  callers finds sleeper low asleep tag within =
-      tags finds sleeper low asleep.listed tag within (asleep.in_vain tag within)
+  callers finds sleeper low asleep tag within free =
+      let way = tags finds sleeper low asleep.listed tag within (asleep.in_vain tag within) free in
+      (way.0, way.1, way.2, awake way.0 tag within way.2)
 
   -- a caller at rest is on the way to no tag
   idle : (caller tag : ℕ) → tag < k.layout.depth → IsAtRest k.layout list h caller
@@ -54,7 +61,7 @@ module _ {R : Type 0} (k : Shape) (list : ℕ) (h : History R) where
     where
       apart : (waits list (steps_by caller h) ≡ 0) ⊎ IsAsleep k.layout list h caller → ⊥
       apart (inl up) = let waiting = told.0 in omega arith
-      apart (inr asleep) = let on = asleep.listed in let off = told.1 in omega arith
+      apart (inr asleep) = awake caller tag within (inr told) asleep
 
   at_rest : EachFinds k.callers h → NoneFreeAtRest k list h
   at_rest finds rest sleeper low asleep tag within free =

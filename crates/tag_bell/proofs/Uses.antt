@@ -23,6 +23,7 @@ pub use Rattle.tag_core.specs.declared.word_step.WordStep.{WordStep}
 pub use Rattle.tag_core.specs.declared.word_step.WordStep.TheVariants.{Claimed, Give, Keep, Look, LookAside, Put, Spill, Swap}
 pub use Rattle.tag_bell.specs.Callers.{OwesNothing, WaitsAsBefore}
 pub use Rattle.tag_bell.specs.Calls.{LooksAtLists, nobody, OnlyAdds, OwesNoneWhere, Tells, told_in}
+pub use Rattle.tag_bell.specs.Looks.{SawFree, SeesFree}
 pub use Rattle.tag_bell.specs.Safety.{EachStateIsSafe, IsAsleep, IsAtRest, IsOnTheWay, IsOpen, listed_bit, NobodyForgotten, NobodyIsForgotten, NobodyRestsBesideATag, NoneFreeAtRest, NoTagForgotten, NoTagIsForgotten, SomebodyComes}
 pub use Rattle.tag_bell.specs.Selection.{IsSelection, LooksAndMisses, Misses, TellsFew, TellsFewOf}
 pub use Rattle.tag_bell.specs.Waiting.{in_aside, in_word, IsCleared, Opens, Owes, Shuts, Tried, waits}

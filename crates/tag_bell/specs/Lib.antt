@@ -1,5 +1,6 @@
 mod Uses
 pub mod Waiting
+pub mod Looks
 pub mod Safety
 pub mod Callers
 pub mod Calls

@@ -26,11 +26,12 @@ IsListed list h caller = listed_bit list h caller ≡ 1
 abbrev pub IsTold : {R : Type 0} → ℕ → History R → ℕ → Type 0
 IsTold list h caller = (waits list (steps_by caller h) ≡ 1) × (listed_bit list h caller ≡ 0)
 
--- the caller waits, nobody has told it, and it has tried each tag in vain since it listed itself
+-- the caller waits, nobody has told it, it has tried each tag in vain since it listed itself, and has nothing to see to
 pub record IsAsleep {R : Type 0} (l : Layout) (list : ℕ) (h : History R) (caller : ℕ) : Type 0 where
   pub waiting : waits list (steps_by caller h) ≡ 1
   pub listed : IsListed list h caller
   pub in_vain : TriedAll l list (steps_by caller h)
+  pub done : OwesNothing l list (steps_by caller h)
 
 -- a tag is free at this spot of the words
 abbrev pub IsOpen : Words → Spot → Type 0
@@ -49,11 +50,16 @@ IsOnTheWay l list h caller tag = OwesTag l list (steps_by caller h) tag ⊎ IsTo
 abbrev pub SomebodyComes : {R : Type 0} → Shape → ℕ → History R → ℕ → Type 0
 SomebodyComes k list h tag = (caller : ℕ) × (caller < k.callers) × IsOnTheWay k.layout list h caller tag
 
--- if somebody is asleep and a tag is free, some caller is on the way to that tag
+-- some caller that is not asleep is on the way to the tag
+abbrev pub SomebodyAwakeComes : {R : Type 0} → Shape → ℕ → History R → ℕ → Type 0
+SomebodyAwakeComes k list h tag = (caller : ℕ) × (caller < k.callers) × IsOnTheWay k.layout list h caller tag
+    × ¬ IsAsleep k.layout list h caller
+
+-- if somebody is asleep and a tag is free, some other caller, which is not asleep, is on the way to that tag
 abbrev pub NobodyForgotten : {R : Type 0} → Shape → ℕ → History R → Type 0
 NobodyForgotten k list h =
     (sleeper : ℕ) → sleeper < k.callers → IsAsleep k.layout list h sleeper
-    → (tag : ℕ) → tag < k.layout.depth → IsFree k.layout h tag → SomebodyComes k list h tag
+    → (tag : ℕ) → tag < k.layout.depth → IsFree k.layout h tag → SomebodyAwakeComes k list h tag
 
 -- the same of each tag alone: a caller that is listed may have tried only this one
 abbrev pub NoTagForgotten : {R : Type 0} → Shape → ℕ → History R → Type 0

@@ -2,8 +2,8 @@
 //! of a shared map.
 ghost use Rattle.tag_bell.specs.Safety.{NobodyIsForgotten, NoTagIsForgotten, NobodyRestsBesideATag, EachStateIsSafe};
 
-/// Between any two steps of any schedule: if a caller is asleep and a tag is free, some caller is on the way to that
-/// tag.
+/// Between any two steps of any schedule: if a caller is asleep and a tag is free, some other caller, which is not
+/// asleep, is on the way to that tag.
 pub fn nobody_is_forgotten<R>()
     ensures { NobodyIsForgotten R }
 {}

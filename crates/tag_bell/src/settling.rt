@@ -1,11 +1,12 @@
 //! How a caller that was told, and does not need the tag that it was told of, sees to all tags.
-ghost use Rattle.std.specs.Prelude.{◌≡◌, ℕ, ◌+◌, ◌*◌, ◌<◌, false};
+ghost use Rattle.std.specs.Prelude.{◌≡◌, ℕ, ◌+◌, ◌*◌, ◌<◌, ◌⊎◌, false, true};
 ghost use Rattle.tag_layout.specs.Layout.{words};
 ghost use Rattle.tag_core.specs.declared.bell.TheConstants.{LISTS};
 ghost use Rattle.tag_core.specs.Callers.{layout_of, IsCallerOf};
 ghost use Rattle.tag_core.specs.Holding.{HoldsSame};
 ghost use Rattle.tag_bell.specs.Callers.{WaitsAsBefore, OwesNothing};
 ghost use Rattle.tag_bell.specs.Calls.{OwesNoneWhere, Tells, nobody};
+ghost use Rattle.tag_bell.specs.Looks.{SawFree};
 ghost use Rattle.tag_bell.specs.Selection.{TellsFew};
 
 use crate::telling::{see_to, sight_lists};
@@ -22,6 +23,7 @@ pub fn settle<R>(map: &Map<R>, caller: &mut Caller<R>) -> Told
     ensures done { (list : ℕ) → list < LISTS → OwesNothing list caller.new }
     ensures told { Tells (2 * words (layout_of map.now) + 8) result caller.old caller.new }
     ensures few { TellsFew 1 result caller.old caller.new }
+    ensures saw { (result ≡ nobody) ⊎ SawFree caller.old caller.new }
     ensures waits { (list : ℕ) → WaitsAsBefore list caller.old caller.new }
     ensures kept { HoldsSame caller.old caller.new }
 {
@@ -41,6 +43,7 @@ fn look_through<R>(map: &Map<R>, caller: &mut Caller<R>) -> Told
     ensures done { (list : ℕ) → list < LISTS → OwesNothing list caller.new }
     ensures told { Tells (2 * words (layout_of map.now) + 6) result caller.old caller.new }
     ensures few { TellsFew 1 result caller.old caller.new }
+    ensures saw { (result ≡ nobody) ⊎ SawFree caller.old caller.new }
     ensures waits { (list : ℕ) → WaitsAsBefore list caller.old caller.new }
     ensures kept { HoldsSame caller.old caller.new }
 {
@@ -57,6 +60,7 @@ fn has_free<R>(map: &Map<R>, caller: &mut Caller<R>, word: u32) -> bool
     requires caller { IsCallerOf map.now caller.old }
     requires within { word < words (layout_of map.now) }
     ensures caller { IsCallerOf map.now caller.new }
+    ensures free { result ≡ true → SawFree caller.old caller.new }
     ensures shut { result ≡ false → (list : ℕ) → OwesNoneWhere (λ i. i ≡ word) list caller.new }
     ensures others { (list : ℕ) → OwesNoneWhere (λ i. i < word) list caller.old
         → OwesNoneWhere (λ i. i < word) list caller.new }
@@ -67,7 +71,7 @@ fn has_free<R>(map: &Map<R>, caller: &mut Caller<R>, word: u32) -> bool
     let usable = map.layout().usable(word);
     let taken = map.look(caller, word);
     let aside = map.look_aside(caller, word);
-    if aside != 0 {
+    if aside & usable != 0 {
         return true;
     }
     if taken & usable != usable {

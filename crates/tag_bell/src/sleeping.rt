@@ -65,12 +65,14 @@ pub fn sleep<W: Wait, R>(rt: &W, map: &Map<R>, caller: &Caller<R>)
     }
 }
 
-/// Wakes the sleepers among those that a call told. It makes no step.
+/// Wakes the sleepers among those that a call told. It makes no step. Where no sleeper was told it rouses nobody, and
+/// leaves the caller as it is.
 pub fn wake<R>(map: &Map<R>, caller: &mut Caller<R>, told: Told) -> Woken
     requires caller { IsCallerOf map.now caller.old }
     ensures caller { IsCallerOf map.now caller.new }
     ensures unchanged { IsUnchanged caller.old caller.new }
     ensures woken { told_by result ≡ told }
+    ensures untouched { told.sleepers ≡ 0 → caller.new ≡ caller.old }
 {
     Woken {
         roused: rouse_each(map, caller, told.sleepers),
@@ -84,7 +86,11 @@ fn rouse_each<R>(map: &Map<R>, caller: &mut Caller<R>, mask: u64) -> Roused
     ensures caller { IsCallerOf map.now caller.new }
     ensures unchanged { IsUnchanged caller.old caller.new }
     ensures roused { result.callers ≡ mask }
+    ensures untouched { mask ≡ 0 → caller.new ≡ caller.old }
 {
+    if mask == 0 {
+        return Roused::none();
+    }
     let mut roused = Roused::none();
     for number in 0..MAX_CALLERS {
         if mask >> number & 1 == 1 {

@@ -14,7 +14,7 @@ pub use Rattle.tag_core.specs.declared.caller.Caller.{Caller}
 pub use Rattle.tag_layout.specs.Layout.{IsWithin, Layout, place_of, word_bits, word_depth, word_of}
 pub use Rattle.tag_queue.proofs.Crossing.{agent_send, queue_sync}
 pub use Rattle.tag_search.specs.Gains.{Gains, GainsRun}
-pub use Rattle.tag_sets.proofs.Crossing.{hand_send, tags_field_sync, tags_sync}
-pub use Rattle.tag_sets.specs.Hands.{IsHandOf}
+pub use Rattle.tag_pool.proofs.Crossing.{hand_send, pool_field_sync, pool_sync}
+pub use Rattle.tag_pool.specs.Hands.{IsHandOf}
 pub use Rattle.wake_book.specs.Book.{IsTellerOf}
 pub use Rattle.wake_book.specs.Groups.{IsWaiterOf}

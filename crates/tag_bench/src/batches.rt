@@ -28,7 +28,8 @@ pub(crate) fn run<R: AllocGlobal + Threads + Sync + Print + Clock + CpuClock>(
     Ok(())
 }
 
-/// Each thread gets batches until it has got a given number of tags in all, touches the slots of each batch and gives it back.
+/// Each thread gets batches until it has got a given number of tags in all, touches the slots of each batch and gives
+/// it back.
 #[derive(Drop)]
 struct Batches;
 

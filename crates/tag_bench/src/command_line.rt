@@ -11,7 +11,7 @@ const BY_DEPTHS: &str = "Tags of the map [default: 64, 1024 and 10240 in turn]";
 /// The workloads of a queue, as the command line has them.
 const QUEUED: [&str; 5] = ["pair", "ring", "full", "handoff", "waiters"];
 
-/// Those of tag sets, and of caches.
+/// Those of a pool, and of caches.
 const DRIVEN: [&str; 4] = ["pair", "ring", "full", "handoff"];
 
 /// The command line that the program takes.
@@ -101,7 +101,7 @@ fn queue<'a>(alloc: Global) -> Result<Command<'a>, AllocError> {
 
 fn sets<'a>(alloc: Global) -> Result<Command<'a>, AllocError> {
     Command::new(alloc, "sets")
-        .about("pair, ring, full and handoff over tag sets without reserved tags")
+        .about("pair, ring, full and handoff over a pool without reserved tags")
         .arg(one_of(alloc, &DRIVEN))?
         .arg(depth(alloc, BY_DEPTHS))?
         .arg(threads(alloc))
@@ -109,7 +109,7 @@ fn sets<'a>(alloc: Global) -> Result<Command<'a>, AllocError> {
 
 fn cache<'a>(alloc: Global) -> Result<Command<'a>, AllocError> {
     Command::new(alloc, "cache")
-        .about("pair, ring, full and handoff over tag sets, where each thread keeps up to 8 tags")
+        .about("pair, ring, full and handoff over a pool, where each thread keeps up to 8 tags")
         .arg(one_of(alloc, &DRIVEN))?
         .arg(depth(alloc, BY_DEPTHS))?
         .arg(threads(alloc))

@@ -17,8 +17,8 @@ mod plain;
 mod rounds;
 mod shared_cache;
 mod shared_map;
+mod shared_pool;
 mod shared_queue;
-mod shared_sets;
 mod traffic;
 mod waits;
 mod wakes;
@@ -35,8 +35,8 @@ use std::sync::Wait;
 use std::thread::Threads;
 use std::time::{Clock, CpuClock};
 use tag_core::Map;
+use tag_pool::Pool;
 use tag_queue::Queue;
-use tag_sets::Tags;
 
 fn main(rt: HostRuntime) -> ExitCode {
     match play(&rt) {
@@ -94,7 +94,7 @@ fn run_workload<R: AllocGlobal + Threads + Wait + Sync + Clock + CpuClock + Prin
         Workload::Traffic(traffic) => run_on_map(rt, options, traffic),
         Workload::Batch => batches::run(rt, options),
         Workload::Queue(queued) => run_queue(rt, options, queued),
-        Workload::Sets(traffic) => run_sets(rt, options, traffic),
+        Workload::Sets(traffic) => run_pool(rt, options, traffic),
         Workload::Cache(traffic) => run_caches(rt, options, traffic),
     }
 }
@@ -117,31 +117,31 @@ fn run_on_queue<R: AllocGlobal + Threads + Sync + Clock + CpuClock + Print>(
     traffic::run::<R, Queue<u64>>(rt, options, "queue ", traffic)
 }
 
-/// Runs a workload over tag sets without reserved tags.
-fn run_on_sets<R: AllocGlobal + Threads + Sync + Clock + CpuClock + Print>(
+/// Runs a workload over a pool without reserved tags.
+fn run_on_pool<R: AllocGlobal + Threads + Sync + Clock + CpuClock + Print>(
     rt: &R,
     options: &Options,
     traffic: Traffic,
 ) -> Result<(), Failed> {
-    traffic::run::<R, Tags<u64>>(rt, options, "sets ", traffic)
+    traffic::run::<R, Pool<u64>>(rt, options, "sets ", traffic)
 }
 
-/// Runs the workload of tag sets that was asked for, or each.
-fn run_sets<R: AllocGlobal + Threads + Sync + Clock + CpuClock + Print>(
+/// Runs the workload of a pool that was asked for, or each.
+fn run_pool<R: AllocGlobal + Threads + Sync + Clock + CpuClock + Print>(
     rt: &R,
     options: &Options,
     traffic: Option<Traffic>,
 ) -> Result<(), Failed> {
     if let Some(traffic) = traffic {
-        return run_on_sets(rt, options, traffic);
+        return run_on_pool(rt, options, traffic);
     }
     for traffic in TRAFFIC {
-        run_on_sets(rt, options, traffic)?;
+        run_on_pool(rt, options, traffic)?;
     }
     Ok(())
 }
 
-/// Runs a workload over tag sets where each thread has a cache.
+/// Runs a workload over a pool where each thread has a cache.
 fn run_on_caches<R: AllocGlobal + Threads + Sync + Clock + CpuClock + Print>(
     rt: &R,
     options: &Options,

@@ -6,8 +6,8 @@ use std::time::{Clock, CpuClock, Duration, Instant};
 use std::{fmt, io};
 use tag_core::OpenFault;
 use tag_layout::LayoutFault;
+use tag_pool::OpenFault as PoolFault;
 use tag_queue::QueueOpenFault;
-use tag_sets::SetFault;
 use wake_book::BookFault;
 
 /// Runs of which the median is taken.
@@ -18,9 +18,9 @@ pub(crate) const RUNS: usize = 7;
 pub(crate) enum Failed {
     /// There was no memory for it.
     Memory,
-    /// The library has no map, queue or book of these sizes.
+    /// The library has no map, pool, queue or book of these sizes.
     Sizes,
-    /// A caller, an agent or a teller didn't come back from its thread.
+    /// A caller, a hand, an agent or a teller didn't come back from its thread.
     Missing,
     /// The clock or the output failed.
     Io,
@@ -56,10 +56,10 @@ impl From<QueueOpenFault> for Failed {
     }
 }
 
-impl From<SetFault> for Failed {
-    fn from(fault: SetFault) -> Failed {
+impl From<PoolFault> for Failed {
+    fn from(fault: PoolFault) -> Failed {
         match fault {
-            SetFault::Memory => Failed::Memory,
+            PoolFault::Memory => Failed::Memory,
             _ => Failed::Sizes,
         }
     }

@@ -25,9 +25,9 @@ pub(crate) enum Workload {
     Batch,
     /// The same over a queue: one of its workloads, or each.
     Queue(Option<Queued>),
-    /// The same over tag sets: one of these workloads, or each.
+    /// The same over a pool, which is called tag sets here: one of these workloads, or each.
     Sets(Option<Traffic>),
-    /// The same over tag sets, where each thread has a cache: one of these workloads, or each.
+    /// The same over a pool, where each thread has a cache: one of these workloads, or each.
     Cache(Option<Traffic>),
 }
 
@@ -132,7 +132,7 @@ fn queued_of(chosen: &ArgMatches) -> Option<Queued> {
     }
 }
 
-/// The workload of tag sets or of caches that was named.
+/// The workload of a pool or of caches that was named.
 fn driven_by(chosen: &ArgMatches) -> Option<Traffic> {
     traffic_of(chosen.get_str("workload")?)
 }

@@ -103,7 +103,8 @@ where
     }
 }
 
-/// Each count of threads at each depth, with hints apart and with all hints from 0, where each thread has a share of the tags.
+/// Each count of threads at each depth, with hints apart and with all hints from 0, where each thread has a share of
+/// the tags.
 pub(crate) fn plans(alloc: Global, options: &Options) -> Result<Vec<Plan>, AllocError> {
     let mut plans = Vec::new(alloc);
     match options.depth {

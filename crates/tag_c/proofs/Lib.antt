@@ -3,7 +3,6 @@ pub mod Calling
 pub mod Collected
 pub mod Flags
 pub mod Joining
-pub mod Listing
 pub mod Owners
 pub mod Pairing
 pub mod Refusing

@@ -1,9 +1,9 @@
 -- The reasons why calls on pools are refused, and that each has a negative number.
 use Rattle.std.specs.Prelude.{◌<◌, ◌≡◌, ◌≢◌, ◌≤◌, ◌⊎◌}
-use Rattle.tag_c.proofs.Uses.{[], ap, arc_value, BadFlag, BadHandle, Bool, CallerCount, CapTooLarge, ClosesPool, code_of, code_of_set_fault, Ends, Gathers, GaveBack, Hand, HandLost, HandsOut, HasHand, HasPool, IfSome, inl, inr, IsHandIn, IsMemberIn, IsPoolIn, IsPoolOf, IsRefusal, JoinsAs, JoinsKind}
-use Rattle.tag_c.proofs.Uses.{Kind, LacksHand, LifeTooLong, List, mag, Memory, nat_eq, NoHand, None, NotOpened, Object, of_z, Option, Pool, pos, QueueTotals, refl, Refuses, RefusesClose, RefusesHand, RefusesHandOf, RefusesJoin, ReservedTooLarge, ShiftTooLarge, Some, spare_in, spare_of, Status}
-use Rattle.tag_c.proofs.Uses.{subst, sums_of, sym, Tags, to_z, TotalTooLarge, w32, ℕ, ℤ, ⊎_elim, ◌∙◌}
-use Rattle.tag_sets.specs.declared.fault.SetFault.{SetFault}
+use Rattle.tag_c.proofs.Uses.{[], ap, arc_value, BadFlag, BadHandle, Bool, CallerCount, ClosesPool, code_of, code_of_open_fault, Ends, Gathers, GaveBack, Hand, HandLost, HandsOut, HasHand, HasPool, IfSome, inl, inr, IsHandIn, IsMemberIn, IsPoolIn, IsPoolOf, IsRefusal, JoinsAs, JoinsKind}
+use Rattle.tag_c.proofs.Uses.{Kind, LacksHand, LifeTooLong, List, mag, Memory, nat_eq, NoHand, None, NotOpened, Object, of_z, Option, OpenPool, pos, Totals, refl, Refuses, RefusesClose, RefusesHand, RefusesHandOf, RefusesJoin, ReservedTooLarge, ShiftTooLarge, Some, spare_in, spare_of, Status}
+use Rattle.tag_c.proofs.Uses.{subst, sums_of, sym, Pool, to_z, TotalTooLarge, w32, ℕ, ℤ, ⊎_elim, ◌∙◌}
+use Rattle.tag_pool.specs.declared.fault.OpenFault.{OpenFault}
 use Rattle.tag_c.specs.declared.object.Kind.TheVariants.{Pool as IsPool, Member as IsMember, Cached as IsCached}
 use Rattle.tag_c.specs.declared.structs.Sums.{Sums}
 use Rattle.tag_c.proofs.Calling.{stored}
@@ -23,14 +23,13 @@ below : (status known : Status) → status ≡ known → IsRefusal (code_of know
 below status known is refusal = subst (λ (s : Status). IsRefusal (code_of s)) (sym is) refusal
 
 -- each reason why tags could not be opened is a refusal
-pub fault_below : (fault : SetFault) → IsRefusal (code_of_set_fault fault)
+pub fault_below : (fault : OpenFault) → IsRefusal (code_of_open_fault fault)
 fault_below Memory = tt
 fault_below TotalTooLarge = tt
 fault_below ReservedTooLarge = tt
 fault_below ShiftTooLarge = tt
 fault_below CallerCount = tt
 fault_below LifeTooLong = tt
-fault_below CapTooLarge = tt
 
 -- an empty handle has no hand
 pub no_hand : (value : Option Object) → value ≡ None → ¬ (HasHand value)
@@ -41,36 +40,36 @@ pub no_pool : (value : Option Object) → value ≡ None → ¬ (HasPool value)
 no_pool value none has = subst (λ (x : Option Object). IsPoolOf has.0 x) none has.1
 
 -- the object behind a handle that has a hand is a hand
-pub hand_there : (value : Option Object) (object : Object) → value ≡ Some object → HasHand value → (tags : Tags ℕ)
+pub hand_there : (value : Option Object) (object : Object) → value ≡ Some object → HasHand value → (tags : Pool ℕ)
     × IsMemberIn tags object.kind
 hand_there value object some has = (has.0, subst (λ (x : Option Object). IsHandIn has.0 x) some has.1)
 
 -- a handle with an object that is a pool has a pool
 pub has_pool : (value : Option Object) (object : Object) → value ≡ Some object
-    → (tags : Tags ℕ) × IsPoolIn tags object.kind → HasPool value
+    → (tags : Pool ℕ) × IsPoolIn tags object.kind → HasPool value
 has_pool value object some there =
     (there.0, subst (λ (x : Option Object). IsPoolOf there.0 x) (sym some) there.1)
 
 -- the object behind a handle that has a pool is a pool
-pub pool_there : (value : Option Object) (object : Object) → value ≡ Some object → HasPool value → (tags : Tags ℕ)
+pub pool_there : (value : Option Object) (object : Object) → value ≡ Some object → HasPool value → (tags : Pool ℕ)
     × IsPoolIn tags object.kind
 pool_there value object some has = (has.0, subst (λ (x : Option Object). IsPoolOf has.0 x) some has.1)
 
 -- whatever joins the hands of a pool is a hand
-is_hand : (placed : Bool) (old new : Pool) (kind : Kind) → JoinsAs placed old new kind → (tags : Tags ℕ)
+is_hand : (placed : Bool) (old new : OpenPool) (kind : Kind) → JoinsAs placed old new kind → (tags : Pool ℕ)
     × IsMemberIn tags kind
 is_hand placed old new (IsMember member) joins = ((arc_value member.shared).tags, refl)
 is_hand placed old new (IsCached member) joins = ((arc_value member.shared).tags, refl)
 is_hand placed old new (IsPool pool) joins = absurd joins
 
 -- and it is one that the pool gave
-gave : (placed : Bool) (old new : Pool) (kind : Kind) → JoinsAs placed old new kind → GaveBack (IsPool old) (IsPool new)
+gave : (placed : Bool) (old new : OpenPool) (kind : Kind) → JoinsAs placed old new kind → GaveBack (IsPool old) (IsPool new)
 gave placed old new (IsMember member) joins = let gives = joins.2 in (gives.found, gives.takes)
 gave placed old new (IsCached member) joins = let gives = joins.5 in (gives.found, gives.takes)
 gave placed old new (IsPool pool) joins = absurd joins
 
 -- whatever joins an object is a hand
-pub joiner : (flags : ℕ) (old new kind : Kind) → JoinsKind flags old new kind → (tags : Tags ℕ) × IsMemberIn tags kind
+pub joiner : (flags : ℕ) (old new kind : Kind) → JoinsKind flags old new kind → (tags : Pool ℕ) × IsMemberIn tags kind
 joiner flags (IsPool old) (IsPool new) kind joins = is_hand (nat_eq flags 0) old new kind joins.1
 joiner flags (IsPool old) (IsMember new) kind joins = absurd joins
 joiner flags (IsPool old) (IsCached new) kind joins = absurd joins
@@ -78,7 +77,7 @@ joiner flags (IsMember old) new kind joins = absurd joins
 joiner flags (IsCached old) new kind joins = absurd joins
 
 -- that object is a pool, which gave the hand, for known flags
-pub joined : (flags : ℕ) (old new kind : Kind) → JoinsKind flags old new kind → ((tags : Tags ℕ) × IsPoolIn tags old)
+pub joined : (flags : ℕ) (old new kind : Kind) → JoinsKind flags old new kind → ((tags : Pool ℕ) × IsPoolIn tags old)
     × (flags ≤ 1) × GaveBack old new
 joined flags (IsPool old) (IsPool new) kind joins =
     (((arc_value old.shared).tags, refl), joins.0, gave (nat_eq flags 0) old new kind joins.1)
@@ -88,14 +87,14 @@ joined flags (IsMember old) new kind joins = absurd joins
 joined flags (IsCached old) new kind joins = absurd joins
 
 -- the totals of a gathered pool are those of an object that is this pool
-pub ends_of : (kind : Kind) (pool : Pool) → kind ≡ IsPool pool → (totals : Option QueueTotals)
+pub ends_of : (kind : Kind) (pool : OpenPool) → kind ≡ IsPool pool → (totals : Option Totals)
     → IfSome totals (Gathers (arc_value pool.shared).tags pool.spare.items) → IfSome totals (Ends kind)
 ends_of kind pool is None gathers = tt
 ends_of kind pool is (Some totals) gathers =
     subst (λ (k : Kind). Ends k totals) (sym is) ((arc_value pool.shared).tags, refl, gathers)
 
 -- the handle that had this object is closed with the same totals
-pub closes_of : (pool : Option Object) (object : Object) → pool ≡ Some object → (totals : QueueTotals) (sums : Sums)
+pub closes_of : (pool : Option Object) (object : Object) → pool ≡ Some object → (totals : Totals) (sums : Sums)
     → Ends object.kind totals → sums ≡ sums_of totals → ClosesPool pool sums
 closes_of pool object some totals sums ends is =
     subst (λ (x : Option Object). ClosesPool x sums) (sym some) (ends.0, totals, ends.1, ends.2, is)
@@ -121,8 +120,8 @@ module _ (flags : ℕ) (status : Status) where
 
   module _ (pool hand : Option Object) (empty : hand ≡ None) where
     -- behind a handle that is no pool, or is one, stands an object that gives no hand
-    join_behind : (kind : Kind) → ((tags : Tags ℕ) → IsPoolIn tags kind → IsPoolOf tags pool)
-        → (HasPool pool → (tags : Tags ℕ) × IsPoolIn tags kind) → spare_of pool ≡ spare_in kind
+    join_behind : (kind : Kind) → ((tags : Pool ℕ) → IsPoolIn tags kind → IsPoolOf tags pool)
+        → (HasPool pool → (tags : Pool ℕ) × IsPoolIn tags kind) → spare_of pool ≡ spare_in kind
         → RefusesHandOf kind flags status → RefusesJoin pool hand flags status
     join_behind (IsMember member) to from spare is = inr (inl (is, empty, λ has. (from has).1))
     join_behind (IsCached member) to from spare is = inr (inl (is, empty, λ has. (from has).1))

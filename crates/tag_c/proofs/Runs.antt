@@ -1,23 +1,23 @@
 -- The first tag of a batch, and a single tag, is below the total, so its number fits.
-use Rattle.std.specs.Prelude.{◌+◌, ◌<◌, ◌≡◌, ◌≤◌}
-use Rattle.tag_c.proofs.Uses.{answer_of, ap, arith, batch_checks, Bool, CountsBatch, Err, false, Found, GetsBatch, Hand, hint_of, IfOk, IfSome, IsAnswer, IsHandOf, IsOkAnd, IsOrdinaryTag, IsTrue, layout_of, MAX_DEPTH, None, Ok, OnOk, Option, PassesAll, PoolState, refl, reserved_of, Result, Some}
+use Rattle.std.specs.Prelude.{◌+◌, ◌≡◌, ◌≤◌}
+use Rattle.tag_c.proofs.Uses.{answer_of, ap, arith, batch_checks, Bool, CountsBatch, Err, false, Found, GetsBatch, Hand, hint_of, IfOk, IfSome, IsAnswer, IsOkAnd, IsTagIn, IsTrue, layout_of, MAX_DEPTH, None, Ok, OnOk, Option, PassesAll, PoolState, refl, reserved_of, Result, Some}
 use Rattle.tag_c.proofs.Uses.{subst, sym, TagFault, total_of, true, unwrap_or, whole_run, ℕ}
-use Rattle.tag_queue.specs.Gets as queue
-use Rattle.tag_sets.specs.declared.kind.Kind.TheVariants.{Ordinary}
-use Rattle.tag_sets.proofs.Getting.{batch_low}
+use Rattle.tag_pool.specs.Sides as side
+use Rattle.tag_pool.specs.declared.kind.Kind.TheVariants.{Ordinary, Reserved}
+use Rattle.tag_pool.proofs.Getting.{run_low}
 
 few : (shared : PoolState) → total_of shared.tags ≤ MAX_DEPTH
 few shared = omega (arith, shared.total_is.0, shared.total_is.1)
 
-module _ (shared : PoolState) (old new : Hand ℕ) (own : IsHandOf shared.tags old) (n : ℕ) where
+module _ (shared : PoolState) (old new : Hand ℕ) (n : ℕ) where
   -- the first tag of a run that a batch get answers is at most `MAX_DEPTH`
   low_by : (answer number : Option (ℕ × ℕ)) → answer ≡ whole_run (reserved_of shared.tags) number
-      → queue.GetsBatch (layout_of shared.tags Ordinary) n number old.ordinary new.ordinary
+      → side.GetsBatch (layout_of shared.tags Ordinary) n number old.ordinary new.ordinary
       → IfSome answer (λ won. won.0 ≤ MAX_DEPTH)
   low_by None number is gets = tt
   low_by (Some won) None is gets = absurd (let no = is in cc)
   low_by (Some won) (Some run) is gets =
-      let low = batch_low shared.tags old new.ordinary own n run gets in let few = few shared in
+      let low = run_low (layout_of shared.tags Ordinary) n gets.steps.holds.search in let few = few shared in
       let first : won.0 ≡ reserved_of shared.tags + run.0 = ap (λ (o : Option (ℕ × ℕ)). (unwrap_or o (0, 0)).0) is in
       omega arith
 
@@ -37,17 +37,16 @@ module _ (shared : PoolState) (old new : Hand ℕ) (own : IsHandOf shared.tags o
       ] refl
 
 -- the same of a batch get by a hand of the pool
-pub batch_fits : (old new : Hand ℕ) {state shared : PoolState} {n : ℕ} {same : Type 0}
+pub batch_fits : (shared : PoolState) (old new : Hand ℕ) {n : ℕ} {same : Type 0}
     {answer : Result (Option (ℕ × ℕ)) TagFault} (found : Result (Found (ℕ × ℕ)) TagFault) → answer ≡ answer_of found
-    → shared ≡ state → IsHandOf state.tags old → OnOk found (PassesAll (batch_checks shared.tags old n))
+    → OnOk found (PassesAll (batch_checks shared.tags old n))
     → (CountsBatch shared.tags n → IsTrue (hint_of old Ordinary).round_robin
     → IsOkAnd found (λ known. known.answer ≡ None) × same)
     → ((hint_of old Ordinary).round_robin ≡ false → IfOk found (λ known. GetsBatch shared.tags n known.answer old new))
     → IfOk answer (λ run. IfSome run (λ won. won.0 ≤ MAX_DEPTH))
-batch_fits old new {shared = shared} {n} found is at own passes round_robin gets =
+batch_fits shared old new {n} found is passes round_robin gets =
     subst (λ (a : Result (Option (ℕ × ℕ)) TagFault). IfOk a (λ run. IfSome run (λ won. won.0 ≤ MAX_DEPTH))) (sym is)
-    (run_fits shared old new (subst (λ (s : PoolState). IsHandOf s.tags old) (sym at) own) n found passes round_robin
-    gets)
+    (run_fits shared old new n found passes round_robin gets)
 
 -- what follows from a fact about the value of an answer holds of it too
 pub each : {A E : Type 0} {P Q : A → Type 0} (answer : Result A E) → ((x : A) → P x → Q x) → IfOk answer P
@@ -57,21 +56,21 @@ each (Err e) f p = tt
 
 -- if a get answers a reserved tag of the pool, that is at most `MAX_DEPTH`
 pub reserved_fits : (shared : PoolState) (answer : Result (Option ℕ) TagFault)
-    → IfOk answer (λ found. (tag : ℕ) → IsAnswer found tag → tag < reserved_of shared.tags)
+    → IfOk answer (λ found. (tag : ℕ) → IsAnswer found tag → IsTagIn shared.tags Reserved tag)
     → IfOk answer (λ found. IfSome found (λ tag. tag ≤ MAX_DEPTH))
 reserved_fits shared (Err fault) low = tt
 reserved_fits shared (Ok None) low = tt
-reserved_fits shared (Ok (Some tag)) low = let below = low tag refl in let few = few shared in omega arith
+reserved_fits shared (Ok (Some tag)) low = let below = (low tag refl).0 in let few = few shared in omega arith
 
-fits : (shared : PoolState) (answer : Option ℕ) → ((tag : ℕ) → IsAnswer answer tag → IsOrdinaryTag shared.tags tag)
+fits : (shared : PoolState) (answer : Option ℕ) → ((tag : ℕ) → IsAnswer answer tag → IsTagIn shared.tags Ordinary tag)
     → IfSome answer (λ tag. tag ≤ MAX_DEPTH)
 fits shared None low = tt
-fits shared (Some tag) low = let below = (low tag refl).1 in let few = few shared in omega arith
+fits shared (Some tag) low = let below = (low tag refl).0 in let few = few shared in omega arith
 
 -- the same of a get of an ordinary tag
 pub ordinary_fits : (shared : PoolState) {answer : Result (Option ℕ) TagFault} (found : Result (Found ℕ) TagFault)
     → answer ≡ answer_of found
-    → IfOk found (λ known. (tag : ℕ) → IsAnswer known.answer tag → IsOrdinaryTag shared.tags tag)
+    → IfOk found (λ known. (tag : ℕ) → IsAnswer known.answer tag → IsTagIn shared.tags Ordinary tag)
     → IfOk answer (λ known. IfSome known (λ tag. tag ≤ MAX_DEPTH))
 ordinary_fits shared (Ok known) is low = rw is (fits shared known.answer low)
 ordinary_fits shared (Err fault) is low = rw is tt

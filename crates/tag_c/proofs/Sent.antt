@@ -5,15 +5,15 @@ use denote.Struct.Declared.{shape as fields_of}
 use denote.Struct.Field.{u64-field}
 use Rattle.std.proofs.Crossing.{crosses}
 use Rattle.counted_slot.proofs.Counted.TheSendSync.{the_send as counted_send, the_sync as counted_sync}
-use Rattle.tag_sets.specs.contracts.hand.Hand as hand
-use Rattle.tag_sets.proofs.Crossing.{hand_send, hand_field_send, hand_field_sync, tags_field_send, tags_field_sync}
+use Rattle.tag_pool.specs.contracts.hand.Hand as hand
+use Rattle.tag_pool.proofs.Crossing.{hand_send, hand_field_send, hand_field_sync, pool_field_send, pool_field_sync}
 use Rattle.tag_cache.proofs.Crossing.{cache_field_send}
 use Rattle.tag_c.specs.contracts.cached.CacheTerms as terms
 use Rattle.tag_c.specs.contracts.cached.CachedMember as cached
 use Rattle.tag_c.specs.contracts.hand_cells.IdleHand as idle
 use Rattle.tag_c.specs.contracts.pool_state.PoolState as shared
 use Rattle.tag_c.specs.contracts.member.Member as member
-use Rattle.tag_c.specs.contracts.pool.Pool as pool
+use Rattle.tag_c.specs.contracts.pool.OpenPool as pool
 use Rattle.tag_c.specs.contracts.object.Kind as kind
 use Rattle.tag_c.specs.contracts.object.Object as object
 
@@ -43,7 +43,7 @@ terms_shared = struct_sync (fields_of terms.the_type)
 
 shared_field : IsSend shared.the_field.row
 shared_field = struct_send (fields_of shared.the_type) (
-  tags_field_send u64-field.row (search sendable),
+  pool_field_send u64-field.row (search sendable),
   (
     search (sendable, crosses) depth 40,
     (
@@ -58,7 +58,7 @@ shared_goes = recorded_send _ _ _ shared.the_type.to_one shared_field
 
 shared_field_shared : IsSync shared.the_field.row
 shared_field_shared = struct_sync (fields_of shared.the_type) (
-  tags_field_sync u64-field.row (search sendable) (search sendable),
+  pool_field_sync u64-field.row (search sendable) (search sendable),
   (
     search (sendable, crosses) depth 40,
     (

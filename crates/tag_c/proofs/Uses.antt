@@ -47,22 +47,20 @@ pub use types.Kit.{ !, at_ret, await, by, done, drop, feq_i, feq_l, fjoin, fjoin
 pub use types.Logic.{Logic, sem}
 pub use types.Part.{agg, look_in, sub, whole}
 pub use types.Run.{addr, and_then, blocks, enter, exec, first, fld, lit, load, no_more, of_opd, returns, stop}
-pub use Rattle.tag_queue.specs.Agents.{IsAgentOf}
-pub use Rattle.tag_queue.specs.declared.agent.Agent.{Agent}
-pub use Rattle.tag_queue.specs.declared.gather.QueueTotals.{QueueTotals}
-pub use Rattle.tag_queue.specs.declared.queue.Queue.{Queue}
-pub use Rattle.tag_queue.specs.declared.resizes.ResizeCause.{ResizeCause}
-pub use Rattle.tag_sets.specs.Gathering.{hands_of, IsGathered, numbers_of}
-pub use Rattle.tag_sets.specs.Gets.{CountsBatch, GetsBatch, IsAnswer, IsOrdinaryTag, whole_run}
-pub use Rattle.tag_sets.specs.Hands.{agent_of, hint_of, IsHandOf, layout_of, number_of, queue_of, reserved_of, total_of}
-pub use Rattle.tag_sets.specs.Refusals.{batch_checks, open_checks}
-pub use Rattle.tag_sets.specs.Resizing.{AreSame, AreUnchanged, IsOutOfRange, IsRefusedFor, IsResized, MayResize}
-pub use Rattle.tag_sets.specs.declared.fault.SetFault.TheVariants.{CallerCount, CapTooLarge, LifeTooLong, Memory, ReservedTooLarge, ShiftTooLarge, TotalTooLarge}
-pub use Rattle.tag_sets.specs.declared.fault.TagFault.{TagFault}
-pub use Rattle.tag_sets.specs.declared.hand.Hand.{Hand}
-pub use Rattle.tag_sets.specs.declared.tags.Tags.{Tags}
+pub use Rattle.tag_model.specs.declared.totals.Totals.{Totals}
+pub use Rattle.tag_pool.specs.declared.resizes.ResizeCause.{ResizeCause}
+pub use Rattle.tag_pool.specs.Gathering.{IsGathered, numbers_of}
+pub use Rattle.tag_pool.specs.Gets.{GetsBatch, IsAnswer, IsTagIn, whole_run}
+pub use Rattle.tag_pool.specs.Hands.{hands_of, hint_of, IsHandOf, layout_of, number_of, reserved_of, total_of}
+pub use Rattle.tag_pool.specs.Refusals.{batch_checks, CountsBatch, open_checks}
+pub use Rattle.tag_pool.specs.Resizing.{IsOutOfRange, IsRefusedFor, IsResized, MayResize}
+pub use Rattle.tag_pool.specs.Using.{AreUnchanged}
+pub use Rattle.tag_pool.specs.declared.fault.OpenFault.TheVariants.{CallerCount, LifeTooLong, Memory, ReservedTooLarge, ShiftTooLarge, TotalTooLarge}
+pub use Rattle.tag_pool.specs.declared.fault.TagFault.{TagFault}
+pub use Rattle.tag_pool.specs.declared.hand.Hand.{Hand}
+pub use Rattle.tag_pool.specs.declared.pool.Pool.{Pool}
 pub use Rattle.tag_c.specs.Calls.{DoesClear, DoesGet, DoesRead, HandCalls, Through}
-pub use Rattle.tag_c.specs.Codes.{code_of, code_of_done, code_of_found, code_of_get, code_of_set_fault, IsRefusal}
+pub use Rattle.tag_c.specs.Codes.{code_of, code_of_done, code_of_found, code_of_get, code_of_open_fault, IsRefusal}
 pub use Rattle.tag_c.specs.Exports.{ClosesPool, Ends, GaveBack, GaveBackBy, HasHand, HasPool, IsHandIn, IsMemberIn, IsPoolIn, IsPoolOf, JoinsKind, JoinsPool, OpensPool, options_of, Refuses, RefusesClose, RefusesHand, RefusesHandOf, RefusesJoin, RefusesLeave, RefusesOpen, spare_in, spare_of, sums_of}
 pub use Rattle.tag_c.specs.Held.{flag_of, held}
 pub use Rattle.tag_c.specs.Holders.{Bare, Caching, Either, Holder, Holds, IsUnchanged}
@@ -76,7 +74,7 @@ pub use Rattle.tag_c.specs.declared.handle.Handle.{Handle}
 pub use Rattle.tag_c.specs.declared.member.Member.{Member}
 pub use Rattle.tag_c.specs.declared.object.Kind.{Kind}
 pub use Rattle.tag_c.specs.declared.object.Object.{Object}
-pub use Rattle.tag_c.specs.declared.pool.Pool.{Pool}
+pub use Rattle.tag_c.specs.declared.pool.OpenPool.{OpenPool}
 pub use Rattle.tag_c.specs.declared.pool_state.PoolState.{PoolState}
 pub use Rattle.tag_c.specs.declared.status.Status.{Status}
 pub use Rattle.tag_c.specs.declared.status.Status.TheVariants.{BadFlag, BadHandle, CacheTooLarge, HandLost, HandsOut, NoHand, NotEmpty, NotOpened}

@@ -1,6 +1,6 @@
 -- The numbers that calls return, as tags.h names them; negsuc n is -(n + 1).
-use Rattle.tag_c.specs.Uses.{BadCount, CallerCount, CapTooLarge, Err, Found, LifeTooLong, Memory, negsuc, None, NoReserved, NoSuchTag, NotHeld, NotPosted, NotWaiting, Ok, Option, OtherWait, pos, ReservedTooLarge, Result, SetFault, ShiftTooLarge, Some, Spent, TagFault, TooShallow, TotalTooLarge}
-use Rattle.tag_c.specs.Uses.{Waiting, ℕ, ℤ, ⊤}
+use Rattle.tag_c.specs.Uses.{BadCount, CallerCount, Err, Found, LifeTooLong, Memory, negsuc, None, NoReserved, NoSuchTag, NotHeld, NotPosted, Ok, Option, pos, ReservedTooLarge, Result, OpenFault, ShiftTooLarge, Some, Spent, TagFault, TooShallow, TotalTooLarge}
+use Rattle.tag_c.specs.Uses.{ℕ, ℤ, ⊤}
 use Rattle.tag_c.specs.Left.{answer_of}
 use Rattle.tag_c.specs.declared.status.Status.{Status}
 use Rattle.tag_c.specs.declared.status.Status.TheVariants.{Done, Refused, NoTag, BadHandle, NotEmpty, NoHand, HandsOut, BadKind, TooSmall, BadFlag, NotOpened, NoBerth, HandLost, InUse, HandsWait, CacheTooLarge}
@@ -10,7 +10,7 @@ abbrev pub IsRefusal : ℤ → Type 0
 IsRefusal (pos n) = ⊥
 IsRefusal (negsuc n) = ⊤
 
--- the number of a refusal by `tag_sets`
+-- the number of a refusal by `tag_pool`
 abbrev pub code_of_fault : TagFault → ℤ
 code_of_fault NoSuchTag = negsuc 0
 code_of_fault NoReserved = negsuc 1
@@ -19,19 +19,15 @@ code_of_fault NotPosted = negsuc 3
 code_of_fault BadCount = negsuc 4
 code_of_fault TooShallow = negsuc 5
 code_of_fault Spent = negsuc 6
-code_of_fault Waiting = negsuc 7
-code_of_fault NotWaiting = negsuc 8
-code_of_fault OtherWait = negsuc 36
 
 -- the number of the reason why the tags could not be opened
-abbrev pub code_of_set_fault : SetFault → ℤ
-code_of_set_fault Memory = negsuc 20
-code_of_set_fault TotalTooLarge = negsuc 21
-code_of_set_fault ReservedTooLarge = negsuc 22
-code_of_set_fault ShiftTooLarge = negsuc 23
-code_of_set_fault CallerCount = negsuc 24
-code_of_set_fault LifeTooLong = negsuc 25
-code_of_set_fault CapTooLarge = negsuc 26
+abbrev pub code_of_open_fault : OpenFault → ℤ
+code_of_open_fault Memory = negsuc 20
+code_of_open_fault TotalTooLarge = negsuc 21
+code_of_open_fault ReservedTooLarge = negsuc 22
+code_of_open_fault ShiftTooLarge = negsuc 23
+code_of_open_fault CallerCount = negsuc 24
+code_of_open_fault LifeTooLong = negsuc 25
 
 -- the number of a status
 abbrev pub code_of : Status → ℤ
@@ -45,7 +41,7 @@ code_of HandsOut = negsuc 14
 code_of BadKind = negsuc 15
 code_of TooSmall = negsuc 16
 code_of BadFlag = negsuc 17
-code_of (NotOpened fault) = code_of_set_fault fault
+code_of (NotOpened fault) = code_of_open_fault fault
 code_of NoBerth = negsuc 18
 code_of HandLost = negsuc 19
 code_of InUse = negsuc 28

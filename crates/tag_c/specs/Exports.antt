@@ -1,8 +1,7 @@
 -- What the calls do that open, join, leave and close pools through their handles.
 use Rattle.std.specs.Prelude.{if◌then◌else◌, ◌<◌, ◌≡◌, ◌≤◌, ◌⊎◌}
-use Rattle.tag_c.specs.Uses.{[], arc_value, ByBell, FailsFirst, Hand, IsSome, List, Memory, nat_eq, negsuc, None, open_checks, Option, Options, PassesAll, pos, QueueTotals, SetFault, Some, suc, Tags, zero, ℕ, ℤ}
+use Rattle.tag_c.specs.Uses.{[], arc_value, FailsFirst, Hand, IsSome, List, Memory, nat_eq, negsuc, None, open_checks, OpenFault, Option, Options, PassesAll, Pool, pos, Some, suc, Totals, zero, ℕ, ℤ}
 use Rattle.tag_model.specs.declared.world.TheConstants.{MOST_WON}
-use Rattle.wake_book.specs.declared.book_opening.TheConstants.{MAX_CAP}
 use Rattle.tag_cache.specs.declared.keeping.Keeping.TheVariants.{Always, WhileHolding}
 use Rattle.tag_c.specs.declared.cached.CacheTerms.{CacheTerms}
 use Rattle.tag_c.specs.declared.object.Kind.{Kind}
@@ -18,33 +17,33 @@ use Rattle.tag_c.specs.Joins.{JoinsAs, Takes}
 use Rattle.tag_c.specs.Pools.{Opens, LacksHand, Gathers}
 
 -- this is a pool of these tags
-abbrev pub IsPoolIn : Tags ℕ → Kind → Type 0
+abbrev pub IsPoolIn : Pool ℕ → Kind → Type 0
 IsPoolIn tags (IsPool pool) = (arc_value pool.shared).tags ≡ tags
 IsPoolIn tags _ = ⊥
 
 -- this is a hand of these tags
-abbrev pub IsMemberIn : Tags ℕ → Kind → Type 0
+abbrev pub IsMemberIn : Pool ℕ → Kind → Type 0
 IsMemberIn tags (IsPool pool) = ⊥
 IsMemberIn tags (IsMember member) = (arc_value member.shared).tags ≡ tags
 IsMemberIn tags (IsCached member) = (arc_value member.shared).tags ≡ tags
 
 -- the handle has a pool of these tags
-abbrev pub IsPoolOf : Tags ℕ → Option Object → Type 0
+abbrev pub IsPoolOf : Pool ℕ → Option Object → Type 0
 IsPoolOf tags None = ⊥
 IsPoolOf tags (Some object) = IsPoolIn tags object.kind
 
 -- the handle has a hand of these tags
-abbrev pub IsHandIn : Tags ℕ → Option Object → Type 0
+abbrev pub IsHandIn : Pool ℕ → Option Object → Type 0
 IsHandIn tags None = ⊥
 IsHandIn tags (Some object) = IsMemberIn tags object.kind
 
 -- the handle has a pool
 abbrev pub HasPool : Option Object → Type 0
-HasPool value = (tags : Tags ℕ) × IsPoolOf tags value
+HasPool value = (tags : Pool ℕ) × IsPoolOf tags value
 
 -- the handle has a hand
 abbrev pub HasHand : Option Object → Type 0
-HasHand value = (tags : Tags ℕ) × IsHandIn tags value
+HasHand value = (tags : Pool ℕ) × IsHandIn tags value
 
 -- the number, if it is not negative
 abbrev pub unless_negative : ℤ → Option ℕ
@@ -56,17 +55,16 @@ abbrev pub unless_zero : ℕ → Option ℕ
 unless_zero zero = None
 unless_zero (suc n) = Some (suc n)
 
--- the options that C asks for; each hand may win as many tags and count as many completions as a hand can, and waits by
--- the bell
+-- the options that C asks for; each hand may win as many tags as a hand can
 abbrev pub options_of : RequestedOptions → Options
 options_of requested = record {
+  depth = requested.total;
+  reserved = requested.reserved;
+  hands = requested.hands;
   shift = unless_negative requested.shift;
   round_robin = nat_eq requested.flags 1;
   min_shallow = unless_zero requested.min_shallow;
-  callers = requested.hands;
   life = MOST_WON;
-  cap = MAX_CAP;
-  waits = ByBell;
 }
 
 -- the terms on which hands keep tags, as C asks for them: while they hold another one if the number is 1, and else always
@@ -74,12 +72,12 @@ abbrev pub terms_of : ℕ → ℕ → CacheTerms
 terms_of most keeping = record { most = most; keeping = if nat_eq keeping 1 then WhileHolding else Always }
 
 -- the totals as C sees them
-abbrev pub sums_of : QueueTotals → Sums
+abbrev pub sums_of : Totals → Sums
 sums_of totals = record {
-  got = totals.tags.got;
-  back = totals.tags.back;
-  held = totals.tags.held;
-  posted = totals.tags.posted;
+  got = totals.got;
+  back = totals.back;
+  held = totals.held;
+  posted = totals.posted;
 }
 
 -- the number is that of a status with this reason
@@ -87,10 +85,10 @@ abbrev pub Refuses : (Status → Type 0) → ℤ → Type 0
 Refuses reason code = (status : Status) × (code ≡ code_of status) × reason status
 
 -- this is a new pool, opened with these options, whose hands keep tags on these terms
-abbrev pub IsNewPool : ℕ → ℕ → Options → CacheTerms → Kind → Type 0
-IsNewPool total reserved options terms (IsPool pool) = let state = arc_value pool.shared in
-    Opens total reserved options state.tags pool.spare.items × (state.cache ≡ terms)
-IsNewPool total reserved options terms _ = ⊥
+abbrev pub IsNewPool : Options → CacheTerms → Kind → Type 0
+IsNewPool options terms (IsPool pool) = let state = arc_value pool.shared in
+    Opens options state.tags pool.spare.items × (state.cache ≡ terms)
+IsNewPool options terms _ = ⊥
 
 -- the flags are known, and so is the number that says when tags are kept, of which there are few enough
 abbrev pub IsKnown : RequestedOptions → ℕ → ℕ → Type 0
@@ -100,11 +98,11 @@ IsKnown requested most keeping = (requested.flags ≤ 1) × (keeping ≤ 1) × (
 abbrev pub OpensPool : RequestedOptions → ℕ → ℕ → Option Object → Type 0
 OpensPool requested most keeping None = ⊥
 OpensPool requested most keeping (Some object) = IsKnown requested most keeping
-    × IsNewPool requested.total requested.reserved (options_of requested) (terms_of most keeping) object.kind
+    × IsNewPool (options_of requested) (terms_of most keeping) object.kind
 
 -- the tags cannot be opened as requested, for the first check that fails, or because memory runs out
-abbrev pub IsRefusedOpen : RequestedOptions → SetFault → Type 0
-IsRefusedOpen requested fault = let checks = open_checks requested.total requested.reserved (options_of requested) in
+abbrev pub IsRefusedOpen : RequestedOptions → OpenFault → Type 0
+IsRefusedOpen requested fault = let checks = open_checks (options_of requested) in
     FailsFirst checks fault ⊎ (PassesAll checks × (fault ≡ Memory))
 
 -- an open is refused for the first that holds: a full handle, an unknown flag or number, too large a cache, a limit
@@ -114,7 +112,7 @@ RefusesOpen old requested most keeping status =
     ((status ≡ NotEmpty) × IsSome old)
     ⊎ ((status ≡ BadFlag) × (old ≡ None) × ((1 < requested.flags) ⊎ (1 < keeping)))
     ⊎ ((status ≡ CacheTooLarge) × (old ≡ None) × (requested.flags ≤ 1) × (keeping ≤ 1) × (MAX_CACHE < most))
-    ⊎ ((fault : SetFault) × (status ≡ NotOpened fault) × (old ≡ None) × IsKnown requested most keeping
+    ⊎ ((fault : OpenFault) × (status ≡ NotOpened fault) × (old ≡ None) × IsKnown requested most keeping
     × IsRefusedOpen requested fault)
 
 -- the spare hands of a pool
@@ -171,12 +169,12 @@ abbrev pub RefusesLeave : Option Object → Status → Type 0
 RefusesLeave hand status = ((status ≡ BadHandle) × ¬ (HasHand hand)) ⊎ (status ≡ NoBerth)
 
 -- this was a pool, and its tags were gathered with these totals
-abbrev pub Ends : Kind → QueueTotals → Type 0
-Ends kind totals = (tags : Tags ℕ) × IsPoolIn tags kind × Gathers tags (spare_in kind) totals
+abbrev pub Ends : Kind → Totals → Type 0
+Ends kind totals = (tags : Pool ℕ) × IsPoolIn tags kind × Gathers tags (spare_in kind) totals
 
 -- the tags of the handle's pool were gathered with these sums
 abbrev pub ClosesPool : Option Object → Sums → Type 0
-ClosesPool pool sums = (tags : Tags ℕ) × (totals : QueueTotals) × IsPoolOf tags pool × Gathers tags (spare_of pool) totals
+ClosesPool pool sums = (tags : Pool ℕ) × (totals : Totals) × IsPoolOf tags pool × Gathers tags (spare_of pool) totals
     × (sums ≡ sums_of totals)
 
 -- a close is refused for a handle without a pool; when hands of a pool are out or lost is not specified

@@ -2,7 +2,7 @@
 use Rattle.std.specs.Prelude.{◌≡◌}
 use Rattle.tag_c.specs.Uses.{Hand, ℕ}
 use mathlib.Core.Option as maybe
-use Rattle.tag_sets.specs.Hands as hands
+use Rattle.tag_pool.specs.Hands as hands
 use Rattle.tag_cache.specs.declared.cache.Cache.{Cache}
 use Rattle.tag_cache.specs.Caches as caches
 use Rattle.tag_cache.specs.Changes as changes

@@ -1,9 +1,10 @@
 -- How a pool is resized through its handle.
 use Rattle.std.specs.Prelude.{◌++◌, ◌<◌, ◌≡◌, ◌≤◌}
-use Rattle.tag_c.specs.Uses.{All, arc_value, Hand, HasRange, IsHandOf, List, MAX_DEPTH, None, Option, reserved_of, ReservedTooLarge, Some, Tags, TotalTooLarge, WantOfMemory, ℕ, ℤ}
-use Rattle.tag_queue.specs.declared.resizes.ResizeCause.{ResizeCause}
-use Rattle.tag_queue.specs.declared.resizes.ResizeCause.TheVariants.{Missing, DepthTooLarge, InUse as Used, Waiting, Memory}
-use Rattle.tag_sets.specs.Resizing.{AreSame, AreUnchanged, IsRefusedFor, IsResized, MayResize}
+use Rattle.tag_c.specs.Uses.{All, arc_value, Hand, HasRange, IsHandOf, List, MAX_DEPTH, None, Option, reserved_of, ReservedTooLarge, Some, Pool, TotalTooLarge, WantOfMemory, ℕ, ℤ}
+use Rattle.tag_pool.specs.declared.resizes.ResizeCause.{ResizeCause}
+use Rattle.tag_pool.specs.declared.resizes.ResizeCause.TheVariants.{Missing, DepthTooLarge, InUse as Used, Waiting, Memory}
+use Rattle.tag_pool.specs.Resizing.{IsRefusedFor, IsResized, MayResize}
+use Rattle.tag_pool.specs.Using.{AreUnchanged}
 use Rattle.tag_c.specs.declared.object.Kind.{Kind}
 use Rattle.tag_c.specs.declared.object.Kind.TheVariants.{Pool as IsPool}
 use Rattle.tag_c.specs.declared.object.Object.{Object}
@@ -21,7 +22,7 @@ status_of_cause Memory = NotOpened WantOfMemory
 
 -- all hands of the old tags, of which none is in use, continue with this total: the spare ones and those that had left,
 -- in this order; now they are all spare
-pub record Resizes (total : ℕ) (old : Tags ℕ) (spare : List (Hand ℕ)) (new : Tags ℕ) (resized : List (Hand ℕ)) : Type 0
+pub record Resizes (total : ℕ) (old : Pool ℕ) (spare : List (Hand ℕ)) (new : Pool ℕ) (resized : List (Hand ℕ)) : Type 0
   where
     pub left : List (Hand ℕ)
     pub own : All (IsHandOf old) (spare ++ left)
@@ -30,7 +31,7 @@ pub record Resizes (total : ℕ) (old : Tags ℕ) (spare : List (Hand ℕ)) (new
 
 -- the total is in range, and the tags' hands, the spare ones and those that had left, do not continue with it for this
 -- cause; they are unchanged and spare
-pub record Prevents (total : ℕ) (tags : Tags ℕ) (spare : List (Hand ℕ)) (cause : ResizeCause) (back : List (Hand ℕ))
+pub record Prevents (total : ℕ) (tags : Pool ℕ) (spare : List (Hand ℕ)) (cause : ResizeCause) (back : List (Hand ℕ))
     : Type 0 where
   pub range : HasRange total (reserved_of tags)
   pub left : List (Hand ℕ)
@@ -40,7 +41,7 @@ pub record Prevents (total : ℕ) (tags : Tags ℕ) (spare : List (Hand ℕ)) (c
 
 -- why tags with these spare hands do not continue with this total, and which hands are spare then; for `HandsOut` only
 -- that the total is in range: that a hand is out is not stated
-abbrev pub RefusesResize : ℕ → Tags ℕ → List (Hand ℕ) → Status → List (Hand ℕ) → Type 0
+abbrev pub RefusesResize : ℕ → Pool ℕ → List (Hand ℕ) → Status → List (Hand ℕ) → Type 0
 RefusesResize total tags spare (NotOpened TotalTooLarge) back = (MAX_DEPTH < total) × (back ≡ spare)
 RefusesResize total tags spare (NotOpened ReservedTooLarge) back =
     (total ≤ MAX_DEPTH) × (total < reserved_of tags) × (back ≡ spare)
@@ -52,9 +53,9 @@ RefusesResize total tags spare (NotOpened WantOfMemory) back = Prevents total ta
 RefusesResize total tags spare _ back = ⊥
 
 -- tags continue with this total, or stay the same for this reason
-abbrev pub EndsResize : ℕ → Tags ℕ → List (Hand ℕ) → Status → Tags ℕ → List (Hand ℕ) → Type 0
+abbrev pub EndsResize : ℕ → Pool ℕ → List (Hand ℕ) → Status → Pool ℕ → List (Hand ℕ) → Type 0
 EndsResize total old spare Done new back = Resizes total old spare new back
-EndsResize total old spare status new back = RefusesResize total old spare status back × AreSame old new
+EndsResize total old spare status new back = RefusesResize total old spare status back × (new ≡ old)
 
 -- a pool is resized or refused, and the code is that of the status; its hands keep tags on the same terms; on a hand the
 -- call is refused, and nothing changes

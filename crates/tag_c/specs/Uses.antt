@@ -5,19 +5,19 @@ pub use Rattle.refusals.specs.Refusals.{Checks, FailsFirst, PassesAll, RefusesBy
 pub use Rattle.tag_layout.specs.Layout.{HasShift, words}
 pub use Rattle.tag_layout.specs.declared.layout.TheConstants.{MAX_DEPTH}
 pub use Rattle.tag_search.specs.declared.found.Found.{Found}
-pub use Rattle.tag_queue.specs.declared.gather.QueueTotals.{QueueTotals}
-pub use Rattle.tag_queue.specs.declared.queue.Options.{Options}
-pub use Rattle.tag_queue.specs.declared.queue.Waits.TheVariants.{ByBell}
-pub use Rattle.tag_sets.specs.Hands.{agent_of, Changes, hint_of, IsHandOf, layout_of, queue_of, reserved_of, standing_of, total_of, waits_of}
-pub use Rattle.tag_sets.specs.Opening.{HasRange, IsOpen}
-pub use Rattle.tag_sets.specs.Refusals.{open_checks}
-pub use Rattle.tag_sets.specs.declared.fault.SetFault.{SetFault}
-pub use Rattle.tag_sets.specs.declared.fault.SetFault.TheVariants.{CallerCount, CapTooLarge, LifeTooLong, Memory, ReservedTooLarge, ShiftTooLarge, TotalTooLarge, Memory as WantOfMemory}
-pub use Rattle.tag_sets.specs.declared.fault.TagFault.{TagFault}
-pub use Rattle.tag_sets.specs.declared.fault.TagFault.TheVariants.{BadCount, NoReserved, NoSuchTag, NotHeld, NotPosted, NotWaiting, OtherWait, Spent, TooShallow, Waiting}
-pub use Rattle.tag_sets.specs.declared.hand.Hand.{Hand}
-pub use Rattle.tag_sets.specs.declared.kind.Kind.{Kind, Kind as Set}
-pub use Rattle.tag_sets.specs.declared.kind.Kind.TheVariants.{Ordinary, Reserved}
-pub use Rattle.tag_sets.specs.declared.tags.Tags.{Tags}
+pub use Rattle.tag_model.specs.declared.totals.Totals.{Totals}
+pub use Rattle.tag_pool.specs.Hands.{Changes, hint_of, IsHandOf, layout_of, number_of, reserved_of, total_of}
+pub use Rattle.tag_pool.specs.Opening.{IsOpen}
+pub use Rattle.tag_pool.specs.Resizing.{HasRange}
+pub use Rattle.tag_pool.specs.Refusals.{open_checks}
+pub use Rattle.tag_pool.specs.declared.fault.OpenFault.{OpenFault}
+pub use Rattle.tag_pool.specs.declared.fault.OpenFault.TheVariants.{CallerCount, LifeTooLong, Memory, ReservedTooLarge, ShiftTooLarge, TotalTooLarge, Memory as WantOfMemory}
+pub use Rattle.tag_pool.specs.declared.fault.TagFault.{TagFault}
+pub use Rattle.tag_pool.specs.declared.fault.TagFault.TheVariants.{BadCount, NoReserved, NoSuchTag, NotHeld, NotPosted, Spent, TooShallow}
+pub use Rattle.tag_pool.specs.declared.hand.Hand.{Hand}
+pub use Rattle.tag_pool.specs.declared.kind.Kind.{Kind, Kind as Set}
+pub use Rattle.tag_pool.specs.declared.kind.Kind.TheVariants.{Ordinary, Reserved}
+pub use Rattle.tag_pool.specs.declared.options.Options.{Options}
+pub use Rattle.tag_pool.specs.declared.pool.Pool.{Pool}
 pub use Rattle.tag_cache.specs.Caches.{hand_of, keeping_of, KeepsNone, most_of}
 pub use Rattle.tag_cache.specs.Same.{SameTags}

@@ -1,6 +1,6 @@
 //! How a call reaches the hand behind a handle.
 ghost use Rattle.std.specs.Prelude.{ℕ};
-ghost use Rattle.tag_sets.specs.declared.tags.Tags.{Tags};
+ghost use Rattle.tag_pool.specs.declared.pool.Pool.{Pool};
 ghost use Rattle.tag_c.specs.Holders.{Holder};
 ghost use Rattle.tag_c.specs.Calls.{HandCalls, CacheCalls};
 
@@ -10,7 +10,7 @@ use crate::member::Member;
 /// A hand, with a cache or without. A call of it has one contract for both.
 pub(crate) trait AnyHand {
     // It stays a hand of the same pool, and as a holder of tags it changes by this relation.
-    ghost changes: { (Tags ℕ → Holder → Holder → Type 0) → Self → Self → Type 0 };
+    ghost changes: { (Pool ℕ → Holder → Holder → Type 0) → Self → Self → Type 0 };
 }
 
 impl AnyHand for Member {

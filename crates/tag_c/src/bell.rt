@@ -8,12 +8,9 @@ ghost use Rattle.tag_c.specs.Codes.{IsRefusal};
 
 use crate::any_hand::{AnyHand, on_hand};
 use crate::cached::CachedMember;
-use crate::codes::done_code;
 use crate::handle::Handle;
 use crate::member::Member;
-use crate::status::fault_code;
-use tag_bell::{LISTENERS, SLEEPERS, Told, Turn};
-use tag_sets::{Count, Numbered, TagFault};
+use tag_pool::{LISTENERS, Numbered, SLEEPERS, Told, Turn};
 
 /// The hands that a call told, a bit for the number of each: 1 is told.
 #[repr(C)]
@@ -62,8 +59,7 @@ fn answer_code(answer: bool) -> i32
 
 /// Calls of those who wait, and of those who see to them.
 trait BellCalls: AnyHand {
-    /// Lists the hand among those that wait. It refuses one that is in a wait group, and one whose tags were opened for waits
-    /// in groups.
+    /// Lists the hand among those that wait, and returns 0.
     fn list_self(&mut self, list: u32, turn: Turn) -> i32
         requires { list < LISTS }
         ensures { Self.changes (DoesListSelf list result) self.old self.new };
@@ -94,10 +90,8 @@ trait BellCalls: AnyHand {
 impl BellCalls for Member {
     #[inline(always)]
     fn list_self(&mut self, list: u32, turn: Turn) -> i32 {
-        if self.hand.is_waiting() {
-            return fault_code(TagFault::Waiting);
-        }
-        done_code(self.shared.tags.list_self(&mut self.hand, list, turn))
+        self.shared.tags.list_self(&mut self.hand, list, turn);
+        0
     }
 
     #[inline(always)]
@@ -131,10 +125,8 @@ impl BellCalls for Member {
 impl BellCalls for CachedMember {
     #[inline(always)]
     fn list_self(&mut self, list: u32, turn: Turn) -> i32 {
-        if self.cache.is_waiting() {
-            return fault_code(TagFault::Waiting);
-        }
-        done_code(self.cache.list_self(&self.shared.tags, list, turn))
+        self.cache.list_self(&self.shared.tags, list, turn);
+        0
     }
 
     #[inline(always)]
@@ -149,8 +141,7 @@ impl BellCalls for CachedMember {
 
     #[inline(always)]
     fn see_to(&mut self, freed: u32, told: &mut ToldHands) -> i32 {
-        let (found, _) = self.cache.see_to::<Count>(&self.shared.tags, freed);
-        *told = ToldHands::of(found);
+        *told = ToldHands::of(self.cache.see_to(&self.shared.tags, freed));
         0
     }
 

@@ -9,7 +9,6 @@ use crate::pool_state::PoolState;
 use std::alloc::Global;
 use std::sync::Arc;
 use tag_cache::{Cache, Keeping};
-use tag_sets::Count;
 
 /// How many tags each hand of a pool may keep, and when.
 #[derive(Clone, Copy, Debug, PartialEq, Eq)]
@@ -36,7 +35,7 @@ impl CachedMember {
         ensures left { IsLeftWith self.cache result.hand }
     {
         let CachedMember { shared, cache } = self;
-        let (hand, _) = cache.into_hand::<Count>(&shared.tags);
+        let (hand, _) = cache.into_hand_quietly(&shared.tags);
         Member { shared, hand }
     }
 }

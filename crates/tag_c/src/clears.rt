@@ -7,7 +7,6 @@ use crate::cached::CachedMember;
 use crate::codes::done_code;
 use crate::handle::Handle;
 use crate::member::Member;
-use tag_sets::Count;
 
 /// Calls that give tags back.
 trait ClearCalls: AnyHand {
@@ -24,12 +23,12 @@ trait ClearCalls: AnyHand {
 impl ClearCalls for Member {
     #[inline(always)]
     fn clear(&mut self, tag: u32) -> i32 {
-        done_code(self.shared.tags.clear::<Count>(&mut self.hand, tag))
+        done_code(self.shared.tags.clear_quietly(&mut self.hand, tag))
     }
 
     #[inline(always)]
     fn clear_batch(&mut self, tags: &[u32]) -> i32 {
-        done_code(self.shared.tags.clear_batch::<Count>(&mut self.hand, tags))
+        done_code(self.shared.tags.clear_batch_quietly(&mut self.hand, tags))
     }
 }
 
@@ -40,7 +39,7 @@ impl CachedMember {
     fn clear_any(&mut self, tag: u32) -> i32
         ensures { CacheCalls (Through (DoesClear tag) code_of_done result) self.old self.new }
     {
-        done_code(self.cache.clear_any::<Count>(&self.shared.tags, tag))
+        done_code(self.cache.clear_any(&self.shared.tags, tag))
     }
 }
 
@@ -48,14 +47,15 @@ impl ClearCalls for CachedMember {
     #[inline(always)]
     fn clear(&mut self, tag: u32) -> i32 {
         if self.cache.has_place(tag) {
-            return done_code(Ok(self.cache.clear_placed::<Count>(&self.shared.tags, tag)));
+            self.cache.clear_placed(&self.shared.tags, tag);
+            return done_code(Ok(0));
         }
         self.clear_any(tag)
     }
 
     #[inline(never)]
     fn clear_batch(&mut self, tags: &[u32]) -> i32 {
-        done_code(self.cache.clear_batch::<Count>(&self.shared.tags, tags))
+        done_code(self.cache.clear_batch_quietly(&self.shared.tags, tags))
     }
 }
 

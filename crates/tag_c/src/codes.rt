@@ -1,11 +1,11 @@
-//! Turns the answers of `tag_sets` into the numbers that C sees. An error becomes its negative status of tags.h.
+//! Turns the answers of `tag_pool` into the numbers that C sees. An error becomes its negative status of tags.h.
 ghost use Rattle.std.specs.Prelude.{◌≡◌, ◌≤◌, IfOk, IfSome, pos, min};
 ghost use Rattle.tag_layout.specs.declared.layout.TheConstants.{MAX_DEPTH};
 ghost use Rattle.tag_c.specs.Left.{answer_of, left_of};
 ghost use Rattle.tag_c.specs.Codes.{IsRefusal, code_of_get, code_of_batch, code_of_done, done_of};
 
 use crate::status::{Status, fault_code};
-use tag_sets::{Found, MAX_DEPTH, TagFault};
+use tag_pool::{Found, MAX_DEPTH, TagFault};
 
 /// Writes how many tags the get left free, 0 if it was refused, and returns its answer without that number.
 #[inline]

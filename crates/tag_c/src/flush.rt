@@ -6,7 +6,6 @@ use crate::any_hand::{AnyHand, on_hand};
 use crate::cached::CachedMember;
 use crate::handle::Handle;
 use crate::member::Member;
-use tag_sets::Count;
 
 /// Calls that give kept tags back, of which a hand without a cache has none.
 trait FlushCalls: AnyHand {
@@ -34,7 +33,7 @@ impl FlushCalls for Member {
 impl FlushCalls for CachedMember {
     #[inline(never)]
     fn flush(&mut self) -> i32 {
-        let _ = self.cache.flush::<Count>(&self.shared.tags);
+        self.cache.flush_quietly(&self.shared.tags);
         0
     }
 

@@ -11,7 +11,7 @@ use crate::cached::CachedMember;
 use crate::codes::{batch_code, get_code, tell_left};
 use crate::handle::Handle;
 use crate::member::Member;
-use tag_sets::Unfinished;
+use tag_pool::Unfinished;
 
 /// Calls that take tags.
 trait GetCalls: AnyHand {
@@ -44,7 +44,7 @@ impl Member {
     fn get_whole(&mut self, left: &mut u64) -> i32
         ensures { HandCalls (Through (DoesGet left.new) code_of_found result) self.old self.new }
     {
-        let found = self.shared.tags.get_and_report(&mut self.hand);
+        let found = self.shared.tags.get_quietly(&mut self.hand);
         get_code(tell_left(found, left))
     }
 
@@ -102,19 +102,13 @@ impl GetCalls for Member {
 
     #[inline(always)]
     fn get_shallow(&mut self, depth: u32, left: &mut u64) -> i32 {
-        let found = self
-            .shared
-            .tags
-            .get_shallow_and_report(&mut self.hand, depth);
+        let found = self.shared.tags.get_shallow_quietly(&mut self.hand, depth);
         get_code(tell_left(found, left))
     }
 
     #[inline(always)]
     fn get_batch(&mut self, n: u32, won: &mut u64, left: &mut u64) -> i32 {
-        let answer = tell_left(
-            self.shared.tags.get_batch_and_report(&mut self.hand, n),
-            left,
-        );
+        let answer = tell_left(self.shared.tags.get_batch_quietly(&mut self.hand, n), left);
         if let Ok(Some((_, mask))) = answer {
             *won = mask;
         }
@@ -129,7 +123,7 @@ impl CachedMember {
     fn get_any(&mut self, left: &mut u64) -> i32
         ensures { CacheCalls (Through (DoesGet left.new) code_of_found result) self.old self.new }
     {
-        let found = self.cache.get_and_report(&self.shared.tags);
+        let found = self.cache.get_quietly(&self.shared.tags);
         get_code(tell_left(found, left))
     }
 }
@@ -152,13 +146,13 @@ impl GetCalls for CachedMember {
 
     #[inline(never)]
     fn get_shallow(&mut self, depth: u32, left: &mut u64) -> i32 {
-        let found = self.cache.get_shallow_and_report(&self.shared.tags, depth);
+        let found = self.cache.get_shallow_quietly(&self.shared.tags, depth);
         get_code(tell_left(found, left))
     }
 
     #[inline(never)]
     fn get_batch(&mut self, n: u32, won: &mut u64, left: &mut u64) -> i32 {
-        let answer = tell_left(self.cache.get_batch_and_report(&self.shared.tags, n), left);
+        let answer = tell_left(self.cache.get_batch_quietly(&self.shared.tags, n), left);
         if let Ok(Some((_, taken))) = answer {
             *won = taken;
         }

@@ -3,7 +3,7 @@ ghost use Rattle.std.specs.Prelude.{◌≡◌, IfSome, IfErr};
 ghost use Rattle.tag_c.specs.Sharing.{SharesTags};
 
 use counted_slot::{Counted, Fits};
-use tag_sets::Hand;
+use tag_pool::Hand;
 
 /// The state of a cell without a hand.
 const VACANT: u64 = 0;

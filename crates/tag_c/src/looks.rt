@@ -11,7 +11,7 @@ use crate::codes::number_code;
 use crate::handle::Handle;
 use crate::member::Member;
 use crate::status::Status;
-use tag_sets::{Kind, TagFault};
+use tag_pool::{Kind, TagFault};
 
 /// The sizes of a set, and sums over its words, each of which was loaded once.
 #[repr(C)]

@@ -7,7 +7,6 @@ use crate::cached::CachedMember;
 use crate::codes::done_code;
 use crate::handle::Handle;
 use crate::member::Member;
-use tag_sets::Count;
 
 /// A call that gives back the tags of a mask.
 trait MaskCalls: AnyHand {
@@ -23,7 +22,7 @@ impl MaskCalls for Member {
         done_code(
             self.shared
                 .tags
-                .clear_mask::<Count>(&mut self.hand, first, mask),
+                .clear_mask_quietly(&mut self.hand, first, mask),
         )
     }
 }
@@ -33,7 +32,7 @@ impl MaskCalls for CachedMember {
     fn clear_mask(&mut self, first: u32, mask: u64) -> i32 {
         done_code(
             self.cache
-                .clear_mask::<Count>(&self.shared.tags, first, mask),
+                .clear_mask_quietly(&self.shared.tags, first, mask),
         )
     }
 }

@@ -1,12 +1,12 @@
 //! A hand that a thread of the C program has.
 ghost use Rattle.std.specs.Prelude.{◌≡◌, IfErr};
 ghost use Rattle.std.specs.Arc.{arc_value};
-ghost use Rattle.tag_sets.specs.Hands.{IsHandOf};
+ghost use Rattle.tag_pool.specs.Hands.{IsHandOf};
 
 use crate::pool_state::PoolState;
 use std::alloc::Global;
 use std::sync::Arc;
-use tag_sets::Hand;
+use tag_pool::Hand;
 
 /// A hand outside its cell, and the pool that it belongs to.
 #[derive(Drop)]

@@ -1,13 +1,13 @@
 //! The object behind a handle.
 use crate::cached::CachedMember;
 use crate::member::Member;
-use crate::pool::Pool;
+use crate::pool::OpenPool;
 
 /// A hand, a pool, or a hand with a cache. What comes first is tested for first.
 #[derive(Drop)]
 pub enum Kind {
     Member(Member),
-    Pool(Pool),
+    Pool(OpenPool),
     Cached(CachedMember),
 }
 

@@ -5,10 +5,10 @@ ghost use Rattle.tag_c.specs.Exports.{options_of, sums_of, terms_of};
 use crate::cached::CacheTerms;
 use crate::structs::{ROUND_ROBIN, RequestedOptions, Sums, WHILE_HOLDING};
 use tag_cache::Keeping;
-use tag_sets::{MAX_CAP, MOST_WON, Options, QueueTotals, Waits};
+use tag_pool::{MOST_WON, Options, Totals};
 
-/// Returns the options as `tag_sets` takes them. A negative shift and a `min_shallow` of 0 become `None`, and each hand
-/// may win and count as much as the limits allow. Hands wait by the bell.
+/// Returns the options as `tag_pool` takes them. A negative shift and a `min_shallow` of 0 become `None`, and each hand
+/// may win as much as the limit allows.
 pub(crate) fn read_options(requested: &RequestedOptions) -> Options
     ensures { result ≡ options_of requested.now }
 {
@@ -23,13 +23,13 @@ pub(crate) fn read_options(requested: &RequestedOptions) -> Options
         Some(requested.min_shallow)
     };
     Options {
+        depth: requested.total,
+        reserved: requested.reserved,
+        hands: requested.hands,
         shift,
         round_robin: requested.flags == ROUND_ROBIN,
         min_shallow,
-        callers: requested.hands,
         life: MOST_WON,
-        cap: MAX_CAP,
-        waits: Waits::ByBell,
     }
 }
 
@@ -46,13 +46,13 @@ pub(crate) fn read_terms(most: u32, keeping: u32) -> CacheTerms
 }
 
 /// Returns the totals of a pool as C sees them.
-pub(crate) fn read_sums(totals: QueueTotals) -> Sums
+pub(crate) fn read_sums(totals: Totals) -> Sums
     ensures { result ≡ sums_of totals }
 {
     Sums {
-        got: totals.tags.got,
-        back: totals.tags.back,
-        held: totals.tags.held,
-        posted: totals.tags.posted,
+        got: totals.got,
+        back: totals.back,
+        held: totals.held,
+        posted: totals.posted,
     }
 }

@@ -12,7 +12,6 @@ use crate::codes::{done_code, get_code, tell_left};
 use crate::handle::Handle;
 use crate::member::Member;
 use crate::status::{Status, fault_code};
-use tag_sets::Count;
 
 /// Two calls in one.
 trait PairCalls: AnyHand {
@@ -31,7 +30,7 @@ trait PairCalls: AnyHand {
 impl PairCalls for Member {
     #[inline(always)]
     fn get_write(&mut self, value: u64, left: &mut u64) -> i32 {
-        let found = self.shared.tags.get_and_report(&mut self.hand);
+        let found = self.shared.tags.get_quietly(&mut self.hand);
         match tell_left(found, left) {
             Ok(Some(tag)) => {
                 // The hand has just won the tag, so the write is not refused.
@@ -50,14 +49,16 @@ impl PairCalls for Member {
             Err(fault) => return fault_code(fault),
         };
         *value = found;
-        done_code(self.shared.tags.clear::<Count>(&mut self.hand, tag))
+        // The hand has just read the tag's slot, so it holds the tag, and the clear needs no test.
+        self.shared.tags.clear_held_quietly(&mut self.hand, tag);
+        0
     }
 }
 
 impl PairCalls for CachedMember {
     #[inline(never)]
     fn get_write(&mut self, value: u64, left: &mut u64) -> i32 {
-        let found = self.cache.get_and_report(&self.shared.tags);
+        let found = self.cache.get_quietly(&self.shared.tags);
         match tell_left(found, left) {
             Ok(Some(tag)) => {
                 // The hand has just won the tag, so the write is not refused.
@@ -76,7 +77,7 @@ impl PairCalls for CachedMember {
             Err(fault) => return fault_code(fault),
         };
         *value = found;
-        done_code(self.cache.clear::<Count>(&self.shared.tags, tag))
+        done_code(self.cache.clear_quietly(&self.shared.tags, tag))
     }
 }
 

@@ -1,9 +1,9 @@
 //! Opens and closes the tags of a pool, and gives out its hands.
 ghost use Rattle.std.specs.Prelude.{◌≡◌, [], All, IfOk, IfErr, IfSome, IfNone, OnErr};
 ghost use Rattle.std.specs.Arc.{arc_value};
-ghost use Rattle.tag_sets.specs.Hands.{IsHandOf};
+ghost use Rattle.tag_pool.specs.Hands.{IsHandOf};
 ghost use Rattle.refusals.specs.Refusals.{RefusesOrRunsOut};
-ghost use Rattle.tag_sets.specs.Refusals.{open_checks};
+ghost use Rattle.tag_pool.specs.Refusals.{open_checks};
 ghost use Rattle.tag_c.specs.Pools.{Opens, LacksHand, Gathers, HasHands};
 
 use crate::cached::{CacheTerms, CachedMember};
@@ -14,44 +14,49 @@ use crate::status::Status;
 use std::alloc::Global;
 use std::sync::Arc;
 use tag_cache::Cache;
-use tag_sets::{Hand, Options, QueueTotals, SetFault, Tags};
+use tag_pool::{Hand, OpenFault, Options, Pool, Totals};
 
 /// An open pool, with the hands that did not join since it was opened or resized.
 #[derive(Drop)]
-pub struct Pool {
+pub struct OpenPool {
     pub shared: Arc<PoolState, Global>,
     /// The hand that joins next is the last.
     pub spare: Vec<Hand<u64>>,
     ghost own: { All (IsHandOf (arc_value shared).tags) spare.items },
 }
 
-impl Pool {
+impl OpenPool {
     ghost use Rattle.tag_c.specs.Joins.{JoinsAs, Takes};
 
     /// Opens a pool whose tags are all free and whose slots are all 0. Until the first hand leaves, its hands join in the
     /// order of their numbers.
     pub(crate) fn open(
         alloc: Global,
-        total: u32,
-        reserved: u32,
         options: Options,
         cache: CacheTerms,
-    ) -> Result<Pool, SetFault>
-        ensures ok { IfOk result (λ pool. Opens total reserved options (arc_value pool.shared).tags pool.spare.items) }
+    ) -> Result<OpenPool, OpenFault>
+        ensures ok { IfOk result (λ pool. Opens options (arc_value pool.shared).tags pool.spare.items) }
         ensures cache { IfOk result (λ pool. (arc_value pool.shared).cache ≡ cache) }
-        ensures refusals { RefusesOrRunsOut (open_checks total reserved options) SetFault.Memory result }
+        ensures refusals { RefusesOrRunsOut (open_checks options) OpenFault.Memory result }
     {
-        let (tags, hands) = Tags::open(alloc, total, reserved, options, 0)?;
+        let (tags, hands) = Pool::open(alloc, options, 0)?;
         let Ok(cells) = Vec::with_capacity(alloc, hands.len()) else {
             tags.discard();
-            return Err(SetFault::Memory);
+            return Err(OpenFault::Memory);
         };
-        let shared = PoolState::with_cells(tags, total, reserved, cache, hands.as_slice(), cells);
+        let shared = PoolState::with_cells(
+            tags,
+            options.depth,
+            options.reserved,
+            cache,
+            hands.as_slice(),
+            cells,
+        );
         let mut spare = hands;
         spare.reverse();
         match Arc::new(alloc, shared) {
-            Ok(shared) => Ok(Pool { shared, spare }),
-            Err(_) => Err(SetFault::Memory),
+            Ok(shared) => Ok(OpenPool { shared, spare }),
+            Err(_) => Err(OpenFault::Memory),
         }
     }
 
@@ -79,7 +84,7 @@ impl Pool {
         ensures err { OnErr result (self.new ≡ self.old) }
     {
         let Ok(shared) = Arc::try_clone(&self.shared) else {
-            return Err(Status::NotOpened(SetFault::Memory));
+            return Err(Status::NotOpened(OpenFault::Memory));
         };
         let Some(mut hand) = self.next_hand() else {
             return Err(Status::NoHand);
@@ -101,15 +106,15 @@ impl Pool {
 
     /// Closes the pool if all its hands are back, and otherwise returns it. `Ok(None)` means that a hand was missing
     /// from the cells. That is not expected, but it is not ruled out by a proof.
-    pub(crate) fn close(self) -> Result<Option<QueueTotals>, Pool>
+    pub(crate) fn close(self) -> Result<Option<Totals>, OpenPool>
         ensures ok { IfOk result (λ totals. IfSome totals (Gathers (arc_value self.shared).tags self.spare.items)) }
         ensures lost { IfOk result (λ totals. IfNone totals (¬ (HasHands (arc_value self.shared).tags self.spare.items))) }
         ensures err { IfErr result (λ back. back ≡ self) }
     {
-        let Pool { shared, spare } = self;
+        let OpenPool { shared, spare } = self;
         match Arc::try_unwrap(shared) {
             Ok(shared) => Ok(shared.gather(spare)),
-            Err(shared) => Err(Pool { shared, spare }),
+            Err(shared) => Err(OpenPool { shared, spare }),
         }
     }
 }

@@ -1,18 +1,17 @@
 //! The part of a pool that all its hands share.
 ghost use Rattle.std.specs.Prelude.{◌≡◌, ◌≤◌, ◌++◌, ℕ, length, List, [], All, IfSome, IfNone, IfErr, vec_len, vec_capacity};
 ghost use Rattle.tag_layout.specs.declared.layout.TheConstants.{MAX_DEPTH};
-ghost use Rattle.tag_sets.specs.declared.hand.Hand.{Hand};
-ghost use Rattle.tag_sets.specs.Gathering.{hands_of};
-ghost use Rattle.tag_sets.specs.Hands.{IsHandOf, reserved_of, total_of};
+ghost use Rattle.tag_pool.specs.declared.hand.Hand.{Hand};
+ghost use Rattle.tag_pool.specs.Hands.{IsHandOf, hands_of, reserved_of, total_of};
 ghost use Rattle.tag_c.specs.Pools.{Gathers, HasHands};
 
 use crate::cached::CacheTerms;
 use crate::hand_cells::{HandCell, empty_cell, put_into, take_from};
-use tag_sets::{Hand, QueueTotals, Tags, TagsGatherFault};
+use tag_pool::{Hand, Pool, PoolGatherFault, Totals};
 
 /// The tags of a pool, and the cells into which its hands leave.
 pub struct PoolState {
-    pub tags: Tags<u64>,
+    pub tags: Pool<u64>,
     /// Tags in both sets, at most `MAX_DEPTH`.
     pub total: u32,
     /// How many of them are reserved, from the first on.
@@ -60,7 +59,7 @@ impl PoolState {
     // In line, this and `part` make a resize, which moves whole pools, ten times as long.
     #[inline(never)]
     pub(crate) fn with_cells(
-        tags: Tags<u64>,
+        tags: Pool<u64>,
         total: u32,
         reserved: u32,
         cache: CacheTerms,
@@ -109,7 +108,7 @@ impl PoolState {
 
     /// Returns the tags, their spare hands with those that left, and the cells.
     #[inline(never)]
-    pub(crate) fn part(self, spare: Vec<Hand<u64>>) -> (Tags<u64>, Vec<Hand<u64>>, Vec<HandCell>)
+    pub(crate) fn part(self, spare: Vec<Hand<u64>>) -> (Pool<u64>, Vec<Hand<u64>>, Vec<HandCell>)
         requires { All (IsHandOf self.tags) spare.items }
         ensures tags { result.0 ≡ self.tags }
         ensures own { All (IsHandOf self.tags) result.1.items }
@@ -128,16 +127,16 @@ impl PoolState {
     }
 
     /// Ends the tags with the spare hands and those that left. `None` where a hand is missing.
-    pub(crate) fn gather(self, spare: Vec<Hand<u64>>) -> Option<QueueTotals>
+    pub(crate) fn gather(self, spare: Vec<Hand<u64>>) -> Option<Totals>
         requires { All (IsHandOf self.tags) spare.items }
         ensures some { IfSome result (Gathers self.tags spare.items) }
         ensures none { IfNone result (¬ (HasHands self.tags spare.items)) }
     {
         let (tags, hands, _) = self.part(spare);
-        match Tags::gather(tags, hands) {
+        match Pool::gather(tags, hands) {
             Ok(totals) => Some(totals),
             Err(fault) => {
-                let TagsGatherFault { tags, .. } = fault;
+                let PoolGatherFault { pool: tags, .. } = fault;
                 tags.discard();
                 None
             }

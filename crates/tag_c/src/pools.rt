@@ -1,6 +1,6 @@
 //! Opens and closes pools, and gives out and takes back their hands, through handles. Each call is described in tags.h.
 ghost use Rattle.std.specs.Prelude.{◌≡◌, ◌≢◌, ℕ, ◌⊎◌, ◌↔◌, pos, IsSome, None, IfOk, IfErr, IfSome, IsTrue, OnErr};
-ghost use Rattle.tag_sets.specs.declared.tags.Tags.{Tags};
+ghost use Rattle.tag_pool.specs.declared.pool.Pool.{Pool};
 ghost use Rattle.tag_c.specs.Codes.{code_of};
 ghost use Rattle.tag_c.specs.Exports.{HasHand, IsPoolIn, IsMemberIn, Refuses, Ends, IsRefusedJoin};
 ghost use Rattle.tag_c.specs.Exports.{OpensPool, RefusesOpen, JoinsKind, JoinsPool, RefusesHandOf, RefusesJoin, RefusesLeave, ClosesPool, RefusesClose};
@@ -9,11 +9,11 @@ ghost use Rattle.tag_c.specs.declared.status.Status.TheVariants.{Done, NotEmpty,
 use crate::handle::Handle;
 use crate::object::{Kind, Object};
 use crate::options::{read_options, read_sums, read_terms};
-use crate::pool::Pool;
+use crate::pool::OpenPool;
 use crate::status::Status;
 use crate::structs::{MAX_CACHE, ROUND_ROBIN, RequestedOptions, Sums, WHILE_HOLDING};
 use std::alloc::Global;
-use tag_sets::{QueueTotals, SetFault};
+use tag_pool::{OpenFault, Totals};
 
 /// The flag for a hand whose gets go on where they left off.
 const STAY: u32 = 1;
@@ -36,7 +36,7 @@ impl Object {
 
     /// Returns whether this is a hand.
     pub(crate) fn is_hand(&self) -> bool
-        ensures { IsTrue result ↔ ((tags : Tags ℕ) × IsMemberIn tags self.now.kind) }
+        ensures { IsTrue result ↔ ((tags : Pool ℕ) × IsMemberIn tags self.now.kind) }
     {
         match &self.kind {
             Kind::Member(_) => true,
@@ -47,7 +47,7 @@ impl Object {
 
     /// Puts the hand back into a cell of its pool, once it keeps nothing. `NoBerth` if no cell is free.
     pub(crate) fn leave(self) -> Status
-        requires { (tags : Tags ℕ) × IsMemberIn tags self.kind }
+        requires { (tags : Pool ℕ) × IsMemberIn tags self.kind }
         ensures { (result ≡ Done) ⊎ (result ≡ NoBerth) }
     {
         let Object { kind } = self;
@@ -64,8 +64,8 @@ impl Object {
 
     /// Returns whether all hands of this pool are back. Fails if this is a hand.
     pub(crate) fn has_all_hands(&self) -> Result<bool, Status>
-        ensures ok { IfOk result (λ _. (tags : Tags ℕ) × IsPoolIn tags self.now.kind) }
-        ensures err { IfErr result (λ status. (status ≡ BadHandle) × ¬ ((tags : Tags ℕ) × IsPoolIn tags self.now.kind)) }
+        ensures ok { IfOk result (λ _. (tags : Pool ℕ) × IsPoolIn tags self.now.kind) }
+        ensures err { IfErr result (λ status. (status ≡ BadHandle) × ¬ ((tags : Pool ℕ) × IsPoolIn tags self.now.kind)) }
     {
         match &self.kind {
             Kind::Pool(pool) => Ok(pool.has_all_hands()),
@@ -74,7 +74,7 @@ impl Object {
     }
 
     /// Closes the pool and returns its totals. `None` if this is a hand, or if a hand of the pool is out or missing.
-    pub(crate) fn close(self) -> Option<QueueTotals>
+    pub(crate) fn close(self) -> Option<Totals>
         ensures { IfSome result (Ends self.kind) }
     {
         let Object { kind } = self;
@@ -114,13 +114,7 @@ fn open_into(
     if most > MAX_CACHE {
         return Status::CacheTooLarge.code();
     }
-    let opened = match Pool::open(
-        alloc,
-        requested.total,
-        requested.reserved,
-        read_options(requested),
-        read_terms(most, keeping),
-    ) {
+    let opened = match OpenPool::open(alloc, read_options(requested), read_terms(most, keeping)) {
         Ok(opened) => opened,
         Err(fault) => return Status::NotOpened(fault).code(),
     };
@@ -130,7 +124,7 @@ fn open_into(
             kind: Kind::Pool(opened),
         },
     ) else {
-        return Status::NotOpened(SetFault::Memory).code();
+        return Status::NotOpened(OpenFault::Memory).code();
     };
     *pool = Handle::of(object);
     Status::Done.code()
@@ -187,7 +181,7 @@ pub extern "C" fn tags_join(alloc: Global, pool: &mut Handle, hand: &mut Handle,
         }
         Err(failed) => {
             failed.value.leave();
-            Status::NotOpened(SetFault::Memory).code()
+            Status::NotOpened(OpenFault::Memory).code()
         }
     }
 }

@@ -8,11 +8,11 @@ use crate::codes::number_code;
 use crate::handle::Handle;
 use crate::looks::Sizes;
 use crate::object::Kind as Behind;
-use crate::pool::Pool;
+use crate::pool::OpenPool;
 use crate::status::Status;
-use tag_sets::Kind;
+use tag_pool::Kind;
 
-impl Pool {
+impl OpenPool {
     /// Returns how many tags of both sets are busy. Bit `tag % 64` of `into[tag / 64]` becomes 1 for each of them, and
     /// every other bit becomes 0.
     fn busy(&self, into: &mut [u64]) -> i32

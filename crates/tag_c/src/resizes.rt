@@ -1,19 +1,19 @@
 //! Resizing a pool whose hands are all back.
 ghost use Rattle.std.specs.Prelude.{◌≡◌, All};
 ghost use Rattle.std.specs.Arc.{arc_value};
-ghost use Rattle.tag_sets.specs.Hands.{IsHandOf, reserved_of};
-ghost use Rattle.tag_sets.specs.Opening.{HasRange};
+ghost use Rattle.tag_pool.specs.Hands.{IsHandOf, reserved_of};
+ghost use Rattle.tag_pool.specs.Resizing.{HasRange};
 ghost use Rattle.tag_c.specs.Resizes.{status_of_cause, EndsResize, ResizesAs, ResizesBy};
 
 use crate::handle::Handle;
 use crate::object::{Kind, Object};
-use crate::pool::Pool;
+use crate::pool::OpenPool;
 use crate::pool_state::PoolState;
 use crate::status::Status;
 use core::mem::replace_with;
 use std::alloc::Global;
 use std::sync::Arc;
-use tag_sets::{Hand, MAX_DEPTH, ResizeCause, SetFault, Tags, TagsResizeFault};
+use tag_pool::{Hand, MAX_DEPTH, OpenFault, Pool, PoolResizeFault, ResizeCause};
 
 /// Returns the status for the cause that refused a resize.
 fn status_of(cause: ResizeCause) -> Status
@@ -21,10 +21,10 @@ fn status_of(cause: ResizeCause) -> Status
 {
     match cause {
         ResizeCause::Missing(_) => Status::HandLost,
-        ResizeCause::DepthTooLarge => Status::NotOpened(SetFault::TotalTooLarge),
+        ResizeCause::DepthTooLarge => Status::NotOpened(OpenFault::TotalTooLarge),
         ResizeCause::InUse(_, _) => Status::InUse,
         ResizeCause::Waiting(_) => Status::HandsWait,
-        ResizeCause::Memory => Status::NotOpened(SetFault::Memory),
+        ResizeCause::Memory => Status::NotOpened(OpenFault::Memory),
     }
 }
 
@@ -41,14 +41,20 @@ impl PoolState {
         let (alloc, total, spare) = request;
         let (former, reserved, cache) = (self.total, self.reserved, self.cache);
         let (tags, hands, mut cells) = self.part(spare);
-        match Tags::resize(alloc, tags, hands, total) {
+        match Pool::resize(alloc, tags, hands, total) {
             Ok((tags, hands)) => {
                 let members = &hands[..cells.len()];
                 cells.clear();
                 let shared = PoolState::with_cells(tags, total, reserved, cache, members, cells);
                 (shared, (hands, Status::Done))
             }
-            Err(TagsResizeFault { cause, tags, hands }) => {
+            Err(
+                PoolResizeFault {
+                    cause,
+                    pool: tags,
+                    hands,
+                },
+            ) => {
                 let shared = PoolState {
                     tags,
                     total: former,
@@ -62,27 +68,27 @@ impl PoolState {
     }
 }
 
-impl Pool {
+impl OpenPool {
     /// Continues with this many tags, as many of them reserved as before, if all hands are back, no tag is in use and no hand
-    /// is in a wait group.
-    pub(crate) fn resize(self, request: (Global, u32)) -> (Pool, Status)
+    /// waits.
+    pub(crate) fn resize(self, request: (Global, u32)) -> (OpenPool, Status)
         ensures ends { EndsResize request.1 (arc_value self.shared).tags self.spare.items result.1
             (arc_value result.0.shared).tags result.0.spare.items }
         ensures cache { (arc_value result.0.shared).cache ≡ (arc_value self.shared).cache }
     {
         let (alloc, total) = request;
         if total > MAX_DEPTH {
-            return (self, Status::NotOpened(SetFault::TotalTooLarge));
+            return (self, Status::NotOpened(OpenFault::TotalTooLarge));
         }
         if total < self.shared.reserved {
-            return (self, Status::NotOpened(SetFault::ReservedTooLarge));
+            return (self, Status::NotOpened(OpenFault::ReservedTooLarge));
         }
-        let Pool { mut shared, spare } = self;
+        let OpenPool { mut shared, spare } = self;
         let Some(inner) = Arc::get_mut(&mut shared) else {
-            return (Pool { shared, spare }, Status::HandsOut);
+            return (OpenPool { shared, spare }, Status::HandsOut);
         };
         let (spare, status) = replace_with(inner, (alloc, total, spare), PoolState::resize);
-        (Pool { shared, spare }, status)
+        (OpenPool { shared, spare }, status)
     }
 }
 
@@ -94,7 +100,7 @@ impl Object {
         let Kind::Pool(pool) = &mut self.kind else {
             return Status::BadHandle.code();
         };
-        replace_with(pool, (alloc, total), Pool::resize).code()
+        replace_with(pool, (alloc, total), OpenPool::resize).code()
     }
 }
 

@@ -1,15 +1,15 @@
 //! The statuses that calls return to C.
 ghost use Rattle.std.specs.Prelude.{◌≡◌};
-ghost use Rattle.tag_c.specs.Codes.{code_of, code_of_fault, code_of_set_fault};
+ghost use Rattle.tag_c.specs.Codes.{code_of, code_of_fault, code_of_open_fault};
 
-use tag_sets::{SetFault, TagFault};
+use tag_pool::{OpenFault, TagFault};
 
 /// How a call ended that has no tag or count to return.
 #[derive(Clone, Copy, Debug, PartialEq, Eq)]
 pub enum Status {
     /// Success.
     Done,
-    /// `tag_sets` refused the call.
+    /// `tag_pool` refused the call.
     Refused(TagFault),
     /// No free tag was found.
     NoTag,
@@ -28,7 +28,7 @@ pub enum Status {
     /// The call does not know the flag.
     BadFlag,
     /// The tags could not be opened, or not with another total.
-    NotOpened(SetFault),
+    NotOpened(OpenFault),
     /// No cell was free for a hand that came back.
     NoBerth,
     /// A hand was missing where all of them came together: at the end, and the pool ended without totals, or for a resize, and
@@ -36,14 +36,15 @@ pub enum Status {
     HandLost,
     /// Tags are held or posted.
     InUse,
-    /// Hands stand in a wait group, which no call of this crate lets them enter.
+    /// Hands are listed among those that wait. C is not told it, as its `tags_leave` first ends the hand's wait.
     HandsWait,
     /// A hand would keep more tags than a cache can.
     CacheTooLarge,
 }
 
 impl Status {
-    /// Returns the number of the status in tags.h: 0 for `Done`, and a negative one for each other.
+    /// Returns the number of the status in tags.h: 0 for `Done`, and a negative one for each other. The numbers between that
+    /// are missing here, as -8 and -9, are told by files in C, or by none.
     pub(crate) fn code(self) -> i32
         ensures { result ≡ code_of self }
     {
@@ -63,12 +64,12 @@ impl Status {
             Status::InUse => -29,
             Status::HandsWait => -30,
             Status::CacheTooLarge => -35,
-            Status::NotOpened(fault) => set_fault_code(fault),
+            Status::NotOpened(fault) => open_fault_code(fault),
         }
     }
 }
 
-/// Returns the number of a refusal by `tag_sets`.
+/// Returns the number of a refusal by `tag_pool`.
 pub(crate) fn fault_code(fault: TagFault) -> i32
     ensures { result ≡ code_of_fault fault }
 {
@@ -80,24 +81,19 @@ pub(crate) fn fault_code(fault: TagFault) -> i32
         TagFault::BadCount => -5,
         TagFault::TooShallow => -6,
         TagFault::Spent => -7,
-        TagFault::Waiting => -8,
-        TagFault::NotWaiting => -9,
-        // Never told to C: its pools are opened for the only kind of wait that it has.
-        TagFault::OtherWait => -37,
     }
 }
 
 /// Returns the number of the reason why the tags could not be opened.
-pub(crate) fn set_fault_code(fault: SetFault) -> i32
-    ensures { result ≡ code_of_set_fault fault }
+pub(crate) fn open_fault_code(fault: OpenFault) -> i32
+    ensures { result ≡ code_of_open_fault fault }
 {
     match fault {
-        SetFault::Memory => -21,
-        SetFault::TotalTooLarge => -22,
-        SetFault::ReservedTooLarge => -23,
-        SetFault::ShiftTooLarge => -24,
-        SetFault::CallerCount => -25,
-        SetFault::LifeTooLong => -26,
-        SetFault::CapTooLarge => -27,
+        OpenFault::Memory => -21,
+        OpenFault::TotalTooLarge => -22,
+        OpenFault::ReservedTooLarge => -23,
+        OpenFault::ShiftTooLarge => -24,
+        OpenFault::CallerCount => -25,
+        OpenFault::LifeTooLong => -26,
     }
 }

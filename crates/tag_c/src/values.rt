@@ -9,7 +9,6 @@ use crate::cached::CachedMember;
 use crate::codes::{done_alone, done_code, value_code};
 use crate::handle::Handle;
 use crate::member::Member;
-use tag_sets::Count;
 
 /// Calls that use the slots of held tags, and pass tags to other hands.
 trait SlotCalls: AnyHand {
@@ -69,8 +68,7 @@ impl SlotCalls for CachedMember {
 
     #[inline(never)]
     fn post(&mut self, tag: u32) -> i32 {
-        // Whom this grants a wakeup is not told: a program flushes before its last post.
-        done_code(done_alone(self.cache.post::<Count>(&self.shared.tags, tag)))
+        done_code(done_alone(self.cache.post_quietly(&self.shared.tags, tag)))
     }
 
     #[inline(never)]

@@ -1,12 +1,12 @@
 -- What a change of the hand, or of the kept tags, is for the user of a cache.
 use Rattle.tag_cache.proofs.Uses.{ap, AreOwn, Bool, Cache, count_ones, Err, false, false≢true, Hand, HoldsLess, HoldsMore, HoldsSame, IfErr, IfOk, inl, inr, IsIn, IsKept, IsKnown, IsLeftWith, IsOk, IsTrue, KeepsNone, KeepsSame, MOST_REUSED, NoSuchTag, NotPosted, Ok, OnErr, OnOk, refl, Result}
-use Rattle.tag_cache.proofs.Uses.{SameHand, SameTerms, subst, sym, TagFault, Tags, true, WhileHolding, Writes, ℕ, ⊎_elim, ◌∙◌}
+use Rattle.tag_cache.proofs.Uses.{SameHand, SameTerms, subst, sym, TagFault, Pool, true, WhileHolding, Writes, ℕ, ⊎_elim, ◌∙◌}
 use Rattle.tag_model.proofs.HoldingFacts.{same_itself}
 use Rattle.std.specs.Prelude.{◌+◌, ◌^◌, ◌<◌, ◌↔◌, ◌≡◌, ◌≢◌, ◌≤◌}
 use mathlib.Core.Bool.{not}
-use Rattle.tag_sets.specs.Hands as hands
-use Rattle.tag_sets.specs.Holding as hand_holding
-use Rattle.tag_sets.specs.Slots as hand_slots
+use Rattle.tag_pool.specs.Hands as hands
+use Rattle.tag_pool.specs.Holding as hand_holding
+use Rattle.tag_pool.specs.Slots as hand_slots
 
 -- what a test that failed says
 pub not_true : (b : Bool) (P : Type 0) → (IsTrue b ↔ P) → b ≡ false → ¬ P
@@ -24,10 +24,10 @@ not_ok (Err f) fault e ok = false≢true ok
 
 module _ {R : Type 0} where
   -- kept tags that the hand still holds are still the cache's own
-  pub own_after : (tags : Tags R) (first mask : ℕ) (a b : Hand R) → hands.IsHandOf tags a → hands.IsHandOf tags b
+  pub own_after : (pool : Pool R) (first mask : ℕ) (a b : Hand R) → hands.IsHandOf pool a → hands.IsHandOf pool b
       → AreOwn a first mask → ((tag : ℕ) → hands.Holds a tag → IsIn first mask tag → hands.Holds b tag)
       → AreOwn b first mask
-  own_after tags first mask a b ha hb own still = λ tag i. (
+  own_after pool first mask a b ha hb own still = λ tag i. (
     still tag (own tag i).0 i,
     subst (λ (s : ℕ). s ≤ tag) (ha.2 ∙ sym hb.2) (own tag i).1,
   )
@@ -64,20 +64,20 @@ module _ {R : Type 0} where
       (subst (λ (x : Hand R). AreOwn x cache.first cache.known) (sym e) cache.knows)
 
   -- another hand of the tags does, if it holds what the former one did
-  module _ (tags : Tags R) (cache : Cache R) (b : Hand R) (ha : hands.IsHandOf tags cache.hand)
-      (hb : hands.IsHandOf tags b) where
+  module _ (pool : Pool R) (cache : Cache R) (b : Hand R) (ha : hands.IsHandOf pool cache.hand)
+      (hb : hands.IsHandOf pool b) where
     pub owns : ((tag : ℕ) → hands.Holds cache.hand tag → hands.Holds b tag) → Owns cache b
     owns still = with_own cache b
-        (own_after tags cache.first cache.kept cache.hand b ha hb cache.own (λ tag h k. still tag h))
-        (own_after tags cache.first cache.known cache.hand b ha hb cache.knows (λ tag h l. still tag h))
+        (own_after pool cache.first cache.kept cache.hand b ha hb cache.own (λ tag h k. still tag h))
+        (own_after pool cache.first cache.known cache.hand b ha hb cache.knows (λ tag h l. still tag h))
 
     -- but for a tag that is neither kept nor known to be the user's
     pub owns_but : (tag : ℕ) → ¬ (IsKept cache tag) → ¬ (IsKnown cache tag)
         → ((other : ℕ) → other ≢ tag → hands.Holds cache.hand other → hands.Holds b other) → Owns cache b
     owns_but tag unkept unknown still = with_own cache b
-        (own_after tags cache.first cache.kept cache.hand b ha hb cache.own
+        (own_after pool cache.first cache.kept cache.hand b ha hb cache.own
         (λ other h k. still other (λ e. unkept (subst (λ (t : ℕ). IsKept cache t) e k)) h))
-        (own_after tags cache.first cache.known cache.hand b ha hb cache.knows
+        (own_after pool cache.first cache.known cache.hand b ha hb cache.knows
         (λ other h l. still other (λ e. unknown (subst (λ (t : ℕ). IsKnown cache t) e l)) h))
 
   -- a call that may have posted a tag leaves the hand the others
@@ -93,7 +93,7 @@ module _ {R : Type 0} where
   still_on a b (Ok v) P p e does tag h = does v p tag h
   still_on a b (Err f) P p e does tag h = subst (λ (x : Hand R). hands.Holds x tag) (sym e) h
 
-  unchanged_hand : (a b : Hand R) → b ≡ a → hand_holding.HoldsSame a b
+  pub unchanged_hand : (a b : Hand R) → b ≡ a → hand_holding.HoldsSame a b
   unchanged_hand a b e = subst (λ (x : Hand R). hand_holding.HoldsSame a x) (sym e)
       (same_itself a)
 

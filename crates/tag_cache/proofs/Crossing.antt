@@ -3,7 +3,7 @@ use denote.RattleType.{RattleType}
 use denote.Param.Send.{IsSend, recorded_send, struct_send, sendable}
 use denote.Struct.Declared.{shape as fields_of}
 use Rattle.std.proofs.Crossing.{crosses}
-use Rattle.tag_sets.proofs.Crossing.{hand_field_send}
+use Rattle.tag_pool.proofs.Crossing.{hand_field_send}
 use Rattle.tag_cache.specs.contracts.cache.Cache as cache
 
 pub cache_field_send : (R : RattleType) → IsSend R → IsSend (cache.the_field R).row

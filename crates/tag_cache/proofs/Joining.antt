@@ -1,7 +1,7 @@
 -- One more tag of the window is kept, and is no longer known to be the user's.
 use Rattle.std.specs.Prelude.{◌+◌, ◌-◌, ◌<◌, ◌^◌, ◌↔◌, ◌≡◌, ◌≢◌, ◌≤◌, ◌⊎◌}
 use Rattle.tag_cache.proofs.Uses.{AreOwn, arith, bit_at, Cache, count_of, count_ones, Holds, IsIn, IsKept, IsKnown, IsLast, MOST_REUSED, subst, sym, WhileHolding, ℕ, ⊎_elim}
-use Rattle.tag_sets.specs.Hands as hands
+use Rattle.tag_pool.specs.Hands as hands
 use Rattle.tag_cache.specs.Caches.{split_of}
 use Rattle.tag_cache.proofs.Reusing.{another_known}
 use Rattle.tag_cache.proofs.Windows.{joined_fits, not_set, now_in, ones_added, still_in, was_in, with_bit}

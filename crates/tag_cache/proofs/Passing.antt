@@ -1,38 +1,38 @@
--- A tag that is posted leaves the hand's steps on the wait groups as they are, and what it won and gave back.
-use Rattle.std.specs.Prelude.{◌≡◌}
-use Rattle.tag_cache.proofs.Uses.{Agent, ap, Cache, Changes, Err, Forgets, GrantsNone, GrantsUnrung, Hand, HoldsSame, IsKnown, IsLast, KeepsNone, KeepsSame, Kind, kind_of, NO_GRANTS, none_granted, Ok, OnErr, OnOk, Ordinary, Passes, PassesAlone, Posts, PostsLast, Record, refl, Reserved, Result}
-use Rattle.tag_cache.proofs.Uses.{SameTerms, SameWindow, split_of, subst, sym, TagFault, Tags, Tallies, Waiter, waiter_of, ℕ}
-use Rattle.tag_queue.specs.Agents as queue
-use Rattle.tag_queue.specs.Slots as queue_slots
+-- A tag that is posted changes nothing of what the hand won and gave back.
+use Rattle.std.specs.Prelude.{◌+◌, ◌≡◌}
+use Rattle.tag_cache.proofs.Uses.{ap, arith, back_of, Cache, Changes, Err, Forgets, Hand, HoldsSame, IsKnown, IsLast, KeepsNone, KeepsSame, Kind, kind_of, Ok, OnErr, OnOk, Ordinary, Passes, PassesAlone, Pool, Posts, PostsLast, Record, record_of, refl, Reserved, Result, SameTerms, SameWindow, Side}
+use Rattle.tag_cache.proofs.Uses.{split_of, subst, TagFault, Tallies, ℕ}
+use Rattle.tag_pool.specs.Sides as side
 use Rattle.tag_model.proofs.HoldingFacts.{same_then_less}
 use Rattle.tag_cache.proofs.Carrying.{keeps_twice, less, none_after, same_user, terms_twice}
 use Rattle.tag_cache.proofs.Looking.{knows_less_then_same, same_then_knows_less, unknown_less}
 use Rattle.tag_cache.proofs.Reusing.{last_unknown}
-use Rattle.tag_cache.proofs.Tallying.{Moves, moves_in, moves_tallies, unchanged_tallies}
+use Rattle.tag_cache.proofs.Tallying.{Moves, MovesSide, moves_in, moves_tallies, unchanged_tallies}
 
 module _ {R : Type 0} where
-  -- a change in one set in which the agent leaves its waiter as it is
-  waiter_in : (kind : Kind) (change : Agent R → Agent R → Type 0) (a b : Hand R)
-      → ((c d : Agent R) → change c d → queue.waiter_of d ≡ queue.waiter_of c) → Changes kind change a b
-      → waiter_of b ≡ waiter_of a
-  waiter_in Ordinary change a b same c = same a.ordinary b.ordinary c.changed
-  waiter_in Reserved change a b same c = ap (λ (x : Agent R). queue.waiter_of x) c.other
-
-  -- a post makes no step on the groups, and wakes nobody
-  pub posts_waiter : (tag : ℕ) (a b : Hand R) → Posts tag a b → waiter_of b ≡ waiter_of a
-  posts_waiter tag a b p = waiter_in (kind_of (split_of a) tag) _ a b
-      (λ c d (x : queue_slots.Posts _ c d). x.same_else.1.1) p.set
-
-  -- so it grants nobody a wakeup
-  pub grants_none : (a b : Hand R) → waiter_of b ≡ waiter_of a → GrantsNone a b
-  grants_none a b same = subst (λ (w : Waiter). GrantsUnrung NO_GRANTS (waiter_of a) w) (sym same)
-      (none_granted (waiter_of a))
-
-  pub posts_moves : (tag : ℕ) (a b : Hand R) → Posts tag a b → Moves 0 0 a b
-  posts_moves tag a b p = moves_in (kind_of (split_of a) tag) 0 0 _ a b (λ c d (x : queue_slots.Posts _ c d). record {
+  posts_side : (number : ℕ) (a b : Side R) → side.Posts number a b → MovesSide 0 0 a b
+  posts_side number a b x = record {
     won_is = ap (λ (r : Record R). r.won) x.step.known;
     back_is = ap (λ (r : Record R). r.back) x.step.known;
-  }) p.set
+  }
+
+  pub posts_moves : (tag : ℕ) (a b : Hand R) → Posts tag a b → Moves 0 0 a b
+  posts_moves tag a b p = moves_in (kind_of (split_of a) tag) 0 0 _ a b (λ c d x. posts_side _ c d x) p.set
+
+  -- nor of the ordinary tags that it gave back
+  back_in : (kind : Kind) (change : Side R → Side R → Type 0) (a b : Hand R)
+      → ((c d : Side R) → change c d → MovesSide 0 0 c d) → Changes kind change a b
+      → back_of b Ordinary ≡ back_of a Ordinary
+  back_in Ordinary change a b moves c = let m = moves a.ordinary b.ordinary c.changed in let k = m.back_is in omega arith
+  back_in Reserved change a b moves c = ap (λ (x : Side R). (record_of (side.caller_of x)).back) c.other
+
+  pub posts_back : (tag : ℕ) (a b : Hand R) → Posts tag a b → back_of b Ordinary ≡ back_of a Ordinary
+  posts_back tag a b p = back_in (kind_of (split_of a) tag) _ a b (λ c d x. posts_side _ c d x) p.set
+
+  pub posts_none_back : (tag : ℕ) (a b : Hand R) → (r : Result (Unit {0}) TagFault) → OnOk r (Posts tag a b)
+      → OnOk r (back_of b Ordinary ≡ back_of a Ordinary + 0)
+  posts_none_back tag a b (Ok u) p = let same = posts_back tag a b p in omega arith
+  posts_none_back tag a b (Err fault) p = tt
 
   -- the tallies of a cache that keeps the same tags, whatever the post answers
   pub posted_tallies : (tag : ℕ) (old new : Cache R) → KeepsSame old new → (r : Result (Unit {0}) TagFault)
@@ -41,14 +41,14 @@ module _ {R : Type 0} where
   posted_tallies tag old new keeps (Err x) p e = unchanged_tallies old new (record { hand = e; kept = keeps })
 
   -- where nothing is kept, nothing has to go back first
-  pub last_on : (tags : Tags R) (tag : ℕ) (old new : Cache R) → KeepsNone old → (r : Result (Unit {0}) TagFault)
-      → OnOk r (Posts tag old.hand new.hand) → OnOk r (PostsLast tags tag 0 old new)
-  last_on tags tag old new none (Ok u) p = record {
+  pub last_on : (pool : Pool R) (tag : ℕ) (old new : Cache R) → KeepsNone old → (r : Result (Unit {0}) TagFault)
+      → OnOk r (Posts tag old.hand new.hand) → OnOk r (PostsLast pool tag old new)
+  last_on pool tag old new none (Ok u) p = record {
     between = old.hand;
-    gives = record { none = λ _. (refl, refl); some = λ s. absurd (s none) };
+    gives = record { none = λ _. refl; some = λ s. absurd (s none) };
     posts = p;
   }
-  last_on tags tag old new none (Err e) p = tt
+  last_on pool tag old new none (Err e) p = tt
 
 -- what a post is for the user
 module _ {R : Type 0} (tag : ℕ) where

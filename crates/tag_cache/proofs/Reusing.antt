@@ -1,9 +1,9 @@
 -- What a change of the kept tags is for the user of a cache, and what is known of known ones.
 use Rattle.std.specs.Prelude.{◌+◌, ◌<◌, ◌^◌, ◌↔◌, ◌≡◌, ◌≢◌, ◌≤◌, ◌⊎◌}
-use Rattle.tag_cache.proofs.Uses.{ap, arith, Cache, cases_lt, count_of, count_ones, dite, GetsBy, Hand, Holds, HoldsLess, HoldsMore, inl, inr, IsIn, IsKept, IsKnown, IsLast, IsOrdinaryTag, IsWithin, KeepsAlso, KeepsNone, KeepsWithCare, ones_le_self, refl, Reuses, SameHand, Some, subst, sym, Tags}
+use Rattle.tag_cache.proofs.Uses.{ap, arith, Cache, cases_lt, count_of, count_ones, dite, Hand, Holds, HoldsLess, HoldsMore, inl, inr, IsIn, IsKept, IsKnown, IsLast, IsTagIn, IsWithin, KeepsAlso, KeepsNone, KeepsWithCare, ones_le_self, Ordinary, ordinary_above, Pool, SameHand, subst, sym}
 use Rattle.tag_cache.proofs.Uses.{TakesLeast, trailing_zeros, w64, WhileHolding, ℕ, ℕ_discrete, ⊎_elim}
-use Rattle.tag_sets.specs.Hands as hands
-use Rattle.tag_sets.specs.Holding as hand_holding
+use Rattle.tag_pool.specs.Hands as hands
+use Rattle.tag_pool.specs.Holding as hand_holding
 use Rattle.tag_cache.specs.Caches.{split_of}
 use Rattle.tag_cache.proofs.Below.{held_below}
 use Rattle.tag_cache.proofs.Windows.{below_end, emptied, none_else, none_in, some_in, least_in}
@@ -43,20 +43,12 @@ module _ {R : Type 0} where
   }
 
   -- the tag that is handed out again is an ordinary one
-  pub reuse_ordinary : (tags : Tags R) (old new : Cache R) (tag : ℕ) → hands.IsHandOf tags old.hand
-      → TakesLeast tag old new → IsOrdinaryTag tags tag
-  reuse_ordinary tags old new tag own p = let mine = old.own tag p.was in (
-    subst (λ (s : ℕ). s ≤ tag) own.2 mine.1,
-    held_below tags old.hand tag own mine.0,
+  pub reuse_ordinary : (pool : Pool R) (old new : Cache R) (tag : ℕ) → hands.IsHandOf pool old.hand
+      → TakesLeast tag old new → IsTagIn pool Ordinary tag
+  reuse_ordinary pool old new tag own p = let mine = old.own tag p.was in (
+    held_below pool old.hand tag own mine.0,
+    (ordinary_above (hands.reserved_of pool) tag (subst (λ (s : ℕ). s ≤ tag) own.2 mine.1)).kind,
   )
-
-  pub gets_kept : (gets : Hand R → Hand R → Type 0) (tags : Tags R) (old new : Cache R) (tag : ℕ)
-      → hands.IsHandOf tags old.hand → Reuses tag old new → GetsBy gets tags (Some tag) old new
-  gets_kept gets tags old new tag own r = record {
-    more = taken old new tag r.takes;
-    ordinary = λ t e. subst (λ (x : ℕ). IsOrdinaryTag tags x) (sym e) (reuse_ordinary tags old new tag own r.takes);
-    source = inl (record { tag = tag; answer_is = refl; reuses = r });
-  }
 
   -- a tag that the user is known to hold is held and not kept, ordinary, and in the window
   pub known_held : (cache : Cache R) (tag : ℕ) → IsKnown cache tag → Holds cache tag
@@ -65,9 +57,9 @@ module _ {R : Type 0} where
   pub known_ordinary : (cache : Cache R) (tag : ℕ) → IsKnown cache tag → split_of cache ≤ tag
   known_ordinary cache tag l = (cache.knows tag l).1
 
-  pub known_ordinary_of : (tags : Tags R) (cache : Cache R) (tag : ℕ) → hands.IsHandOf tags cache.hand
-      → IsKnown cache tag → hands.reserved_of tags ≤ tag
-  known_ordinary_of tags cache tag own l = subst (λ (s : ℕ). s ≤ tag) own.2 (known_ordinary cache tag l)
+  pub known_ordinary_of : (pool : Pool R) (cache : Cache R) (tag : ℕ) → hands.IsHandOf pool cache.hand
+      → IsKnown cache tag → hands.reserved_of pool ≤ tag
+  known_ordinary_of pool cache tag own l = subst (λ (s : ℕ). s ≤ tag) own.2 (known_ordinary cache tag l)
 
   pub known_within : (cache : Cache R) (tag : ℕ) → IsKnown cache tag → IsWithin cache tag
   known_within cache tag l = (l.0, below_end cache.first cache.known tag cache.wide.1 l)

@@ -1,8 +1,8 @@
 -- The tags of a mask as a mask of another window.
 use Rattle.tag_cache.proofs.Uses.{and_le_l, ap, arith, bit_and, bit_at, bit_at-lt, bit_at_and, bit_at_not, bit_from, bit_not, IsIn, mask_bit, place_one, sym, tags_in, w64, ℕ, ◌∙◌}
 use Rattle.std.specs.Prelude.{All, ◌%◌, ◌*◌, ◌+◌, ◌-◌, ◌/◌, ◌<◌, ◌^◌, ◌↔◌, ◌≡◌, ◌≤◌}
-use Rattle.tag_queue.proofs.MaskHolds.{all_in, each_in}
-use Rattle.tag_queue.proofs.MaskParts.{moved_up, moved_down}
+use Rattle.tag_pool.proofs.MaskHolds.{all_in, each_in}
+use Rattle.tag_pool.proofs.MaskParts.{moved_up, moved_down}
 use Rattle.tag_cache.proofs.Windows.{bit_low, below_end, emptied, none_in, not_set}
 
 module _ (start first mask : ℕ) (fits : mask < 2 ^ 64) (tag : ℕ) where

@@ -8,7 +8,7 @@ pub use Rattle.std.proofs.lemmas.Nat.{and_le_l, one_shl, ones_le_self, or_lt}
 pub use Rattle.std.proofs.lemmas.Nat.Bits.{bit_at-lt, bit_at-pow_other, bit_at-pow_same, bit_at-trailing_zeros, bit_at-zero, bit_at_above, bit_at_and, bit_at_clear_other, bit_at_clear_same, bit_at_not, bit_at_or, bit_at_set_other, bit_at_set_same, same_from_bits}
 pub use Rattle.std.proofs.lemmas.Result.{IfOk-weaker, on_ok_weaker}
 pub use Rattle.std.specs.Int.{bit_at, bit_not, trailing_zeros, w64}
-pub use Rattle.std.specs.Prelude.{bit_and, bit_or, Contains, count_ones, IsOk, IsOkAnd, IsSome, IsTrue, slice_index}
+pub use Rattle.std.specs.Prelude.{bit_and, bit_or, Contains, count_ones, IsOk, IsOkAnd, IsTrue, slice_index}
 pub use mathlib.Core.Logic.{dite}
 pub use native.Mathlib.Decide.{ℕ_discrete}
 pub use Rattle.refusals.specs.Refusals.{Checks, FailsFirst, PassesAll, RefusesBy}
@@ -25,44 +25,36 @@ pub use Rattle.tag_bell.specs.Calls.{nobody, OnlyAdds}
 pub use Rattle.tag_bell.specs.Sleeping.{told_by}
 pub use Rattle.tag_bell.specs.declared.sleeping.Woken.{Woken}
 pub use Rattle.tag_bell.specs.declared.told.Told.{Told}
-pub use Rattle.wake_book.specs.Groups.{GrantsUnrung, RingsGranted, RingsNobody, sighted_beside, sighted_steps, StandsAsBefore, steps_of}
-pub use Rattle.wake_book.specs.Waits.{active_at, moved_by}
-pub use Rattle.wake_book.specs.declared.grants.TheConstants.{NO_GRANTS}
-pub use Rattle.wake_book.specs.declared.groups.Waiter.{Waiter}
-pub use Rattle.wake_book.specs.declared.steps.GroupStep.{GroupStep}
-pub use Rattle.tag_queue.proofs.Granted.{granted_since, look_grants_none, none_granted}
-pub use Rattle.tag_queue.proofs.RunTags.{bit_from, one_in-tags, place_one, tags_in-length, tags_in-one}
-pub use Rattle.tag_queue.specs.Agents.{batch_of, caller_of, cap_of, group_steps, hint_of, sighting_of, teller_of}
-pub use Rattle.tag_queue.specs.Masks.{mask_bit, tags_in}
-pub use Rattle.tag_queue.specs.declared.agent.Agent.{Agent}
-pub use Rattle.tag_queue.specs.declared.queue.Waits.{Waits}
-pub use Rattle.tag_queue.specs.declared.queue.Waits.TheVariants.{ByBell, InGroups}
-pub use Rattle.tag_sets.proofs.Numbering.{IsOrdinary, IsReserved, ordinary_above, ordinary_at, reserved_at, reserved_below, stands}
-pub use Rattle.tag_sets.specs.Batches.{AreOrdinary, CountsTags, GivesBack}
-pub use Rattle.tag_sets.specs.Freed.{GetsAndLooks, LooksAfter}
-pub use Rattle.tag_sets.specs.Gets.{IsAnswer, IsInRun, IsOrdinaryTag, whole, whole_run}
-pub use Rattle.tag_sets.specs.Hands.{agent_of, Changes, IsHandOf, layout_of, reserved_of, split_of, standing_of, total_of, waiter_of, waits_of}
-pub use Rattle.tag_sets.specs.Sets.{kind_of, number_in_set, other_kind}
-pub use Rattle.tag_sets.specs.Slots.{Posts}
-pub use Rattle.tag_sets.specs.Tallies.{back_in_both, won_in_both, won_of}
-pub use Rattle.tag_sets.specs.Waits.{AgentStays, Enters, LooksInGroups, LookSteps, Stays}
-pub use Rattle.tag_sets.specs.declared.fault.TagFault.{TagFault}
-pub use Rattle.tag_sets.specs.declared.fault.TagFault.TheVariants.{BadCount, NoSuchTag, NotHeld, NotPosted}
-pub use Rattle.tag_sets.specs.declared.hand.Hand.{Hand}
-pub use Rattle.tag_sets.specs.declared.kind.Kind.{Kind}
-pub use Rattle.tag_sets.specs.declared.kind.Kind.TheVariants.{Ordinary, Reserved}
-pub use Rattle.tag_sets.specs.declared.tags.Tags.{Tags}
-pub use Rattle.tag_cache.specs.Batches.{answered_run, AreHeldOnce, AreLast, CallsForKept, GivesKeptAndList, GoesOn, LeavesNone, ListGoes, ListGoesAlone, ListGoesWithKept}
-pub use Rattle.tag_cache.specs.Bell.{DoesSeeTo, FindsNobody, LooksForWaiters, TellsWithKept}
+pub use Rattle.tag_pool.proofs.MaskTags.{bit_from, one_in-tags, place_one, tags_in-length, tags_in-one}
+pub use Rattle.tag_pool.proofs.Numbering.{IsOrdinary, IsReserved, ordinary_above, ordinary_at, reserved_at, reserved_below, stands}
+pub use Rattle.tag_pool.specs.Batches.{GivesBack as GivesBatch}
+pub use Rattle.tag_pool.specs.Gets.{IsAnswer, IsInRun, IsTagIn, LooksAfter, whole, whole_run}
+pub use Rattle.tag_pool.specs.Hands.{back_of, caller_of, Changes, IsHandOf, layout_of, reserved_of, split_of, total_of}
+pub use Rattle.tag_pool.specs.Lending.{side_of}
+pub use Rattle.tag_pool.specs.Lists.{AreOrdinary}
+pub use Rattle.tag_pool.specs.Masks.{mask_bit, tags_in}
+pub use Rattle.tag_pool.specs.Runs.{CountsTags}
+pub use Rattle.tag_pool.specs.Sets.{kind_of, number_in_set, other_kind}
+pub use Rattle.tag_pool.specs.Slots.{Posts}
+pub use Rattle.tag_pool.specs.Tallies.{back_in_both, won_in_both, won_of}
+pub use Rattle.tag_pool.specs.declared.fault.TagFault.{TagFault}
+pub use Rattle.tag_pool.specs.declared.fault.TagFault.TheVariants.{BadCount, NoSuchTag, NotHeld, NotPosted}
+pub use Rattle.tag_pool.specs.declared.hand.Hand.{Hand}
+pub use Rattle.tag_pool.specs.declared.kind.Kind.{Kind}
+pub use Rattle.tag_pool.specs.declared.kind.Kind.TheVariants.{Ordinary, Reserved}
+pub use Rattle.tag_pool.specs.declared.pool.Pool.{Pool}
+pub use Rattle.tag_pool.specs.declared.side.Side.{Side}
+pub use Rattle.tag_cache.specs.Batches.{answered_run, AreHeldOnce, AreLast, GivesKeptAndList, GoesOn, LeavesNone, ListGoes, ListGoesAlone}
+pub use Rattle.tag_cache.specs.Bell.{FindsNobody, LooksForWaiters, SeesTo, TellsWithKept}
 pub use Rattle.tag_cache.specs.Caches.{CanBeKept, count_of, HasNoPlace, Holds, IsCacheOf, IsFixed, IsKept, IsKnown, IsLast, IsWithin, keeping_of, KeepsNone, KeepsWithCare, kept_tags, LeavesWindow, reused_of}
-pub use Rattle.tag_cache.specs.Changes.{Forgets, IsUnchanged, KeepsAlso, KeepsOnly, KeepsSame, KnowsLess, KnowsNoneOf, Learns, Reuses, SameFields, SameHand, SameTerms, SameWindow, TakesLeast}
-pub use Rattle.tag_cache.specs.Clears.{CallsFor, GivesAlone, GivesKept, GivesList, GivesOne, GivesWith, Goes, GoesBy, GoesOrdinary, MayStay}
-pub use Rattle.tag_cache.specs.Gets.{Gets, GetsAndReports, GetsBy, WaitsFor}
+pub use Rattle.tag_cache.specs.Changes.{Forgets, IsUnchanged, KeepsAlso, KeepsOnly, KeepsSame, KnowsLess, KnowsNoneOf, Learns, Reuses, SameHand, SameTerms, SameWindow, TakesLeast}
+pub use Rattle.tag_cache.specs.Clears.{CallsFor, GivesAlone, GivesKept, GivesList, GivesOne, GivesWith, Goes, GoesBy, GoesOrdinary}
+pub use Rattle.tag_cache.specs.Gets.{Gets, GetsAndLooks, GetsBy}
 pub use Rattle.tag_cache.specs.Holding.{HoldsLess, HoldsMore, HoldsSame, IsLeftWith, Writes}
 pub use Rattle.tag_cache.specs.Refusals.{blocking_checks, tag_checks}
-pub use Rattle.tag_cache.specs.Rings.{GrantsNone, MakesNoStep, TellsSince}
 pub use Rattle.tag_cache.specs.Same.{SameTags}
-pub use Rattle.tag_cache.specs.Sleeping.{ClearsAndWakes, GetsSleeping, WakesFor}
+pub use Rattle.tag_cache.specs.Sleeping.{GetsBlocking, SeesToAndWakes, WakesFor}
+pub use Rattle.tag_cache.specs.Telling.{ClearsAndWakes, ClearsListAndWakes, EndsAndWakes, FlushesAndWakes, freed_with, PostsAndWakes}
 pub use Rattle.tag_cache.specs.Slots.{Passes, PassesAlone, PostsLast}
 pub use Rattle.tag_cache.specs.Tallies.{answered, Tallies}
 pub use Rattle.tag_cache.specs.Windows.{AreOwn, IsIn}

@@ -2,7 +2,7 @@
 use Rattle.std.specs.Prelude.{◌%◌, ◌*◌, ◌+◌, ◌-◌, ◌<◌, ◌^◌, ◌↔◌, ◌≡◌, ◌≢◌, ◌≤◌, ◌⊎◌}
 use Rattle.tag_cache.proofs.Uses.{and_le_l, ap, arith, bit_and, bit_at, bit_at-lt, bit_at-pow_other, bit_at-pow_same, bit_at-trailing_zeros, bit_at-zero, bit_at_above, bit_at_and, bit_at_clear_other, bit_at_clear_same, bit_at_or, bit_at_set_other, bit_at_set_same, bit_not, bit_or, cases_lt}
 use Rattle.tag_cache.proofs.Uses.{count_ones, dite, inl, inr, IsIn, one_shl, or_lt, same_from_bits, subst, sym, trailing_zeros, w64, ℕ, ℕ_discrete, ⊎_elim, ◌∙◌}
-use Rattle.tag_queue.proofs.Giving.{ones_more}
+use Rattle.tag_pool.proofs.RunMasks.{ones_more}
 
 -- the mask without the bit at this place
 abbrev pub without_bit : ℕ → ℕ → ℕ

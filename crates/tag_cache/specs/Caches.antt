@@ -1,8 +1,8 @@
 -- The terms in which contracts speak about a cache.
 use Rattle.std.specs.Prelude.{◌+◌, ◌<◌, ◌≡◌, ◌≤◌, ◌⊎◌}
-use Rattle.tag_cache.specs.Uses.{count_ones, Hand, List, Tags, tags_in, ℕ}
+use Rattle.tag_cache.specs.Uses.{count_ones, Hand, List, Pool, tags_in, ℕ}
 use mathlib.Core.Option as maybe
-use Rattle.tag_sets.specs.Hands as hands
+use Rattle.tag_pool.specs.Hands as hands
 use Rattle.tag_cache.specs.declared.cache.Cache.{Cache}
 use Rattle.tag_cache.specs.declared.cache.TheConstants.{MOST_REUSED}
 use Rattle.tag_cache.specs.declared.keeping.Keeping.{Keeping}
@@ -54,8 +54,8 @@ abbrev pub slot_of : {R : Type 0} → Cache R → ℕ → maybe.Option R
 slot_of cache tag = hands.slot_of cache.hand tag
 
 -- the cache belongs to the tags
-abbrev pub IsCacheOf : {R : Type 0} → Tags R → Cache R → Type 0
-IsCacheOf tags cache = hands.IsHandOf tags cache.hand
+abbrev pub IsCacheOf : {R : Type 0} → Pool R → Cache R → Type 0
+IsCacheOf pool cache = hands.IsHandOf pool cache.hand
 
 -- the number of reserved tags, as the cache's hand knows it
 abbrev pub split_of : {R : Type 0} → Cache R → ℕ

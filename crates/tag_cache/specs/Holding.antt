@@ -4,7 +4,7 @@ use mathlib.Core.Option as maybe
 use Rattle.tag_model.specs.Holding.{Holding}
 use Rattle.tag_model.specs.Holding as holding
 use Rattle.tag_cache.specs.Uses.{Hand, some, ℕ}
-use Rattle.tag_sets.specs.Hands as hands
+use Rattle.tag_pool.specs.Hands as hands
 use Rattle.tag_cache.specs.declared.cache.Cache.{Cache}
 use Rattle.tag_cache.specs.Caches.{Holds, slot_of}
 

@@ -1,6 +1,7 @@
 mod Uses
 pub mod Bell
 pub mod Sleeping
+pub mod Telling
 pub mod Windows
 pub mod Refusals
 pub mod Calls
@@ -12,6 +13,4 @@ pub mod Gets
 pub mod Clears
 pub mod Same
 pub mod Slots
-pub mod Waits
 pub mod Batches
-pub mod Rings

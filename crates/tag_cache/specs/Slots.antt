@@ -1,17 +1,17 @@
 -- How tags pass on from the users of caches.
 use Rattle.std.specs.Prelude.{◌≡◌}
-use Rattle.tag_cache.specs.Uses.{Hand, Tags, ℕ}
-use Rattle.tag_sets.specs.Slots as hands
+use Rattle.tag_cache.specs.Uses.{Hand, Pool, ℕ}
+use Rattle.tag_pool.specs.Slots as hands
 use Rattle.tag_cache.specs.declared.cache.Cache.{Cache}
 use Rattle.tag_cache.specs.Caches.{IsLast, KeepsNone, hand_of}
 use Rattle.tag_cache.specs.Changes.{KeepsSame, KnowsLess, SameTerms}
 use Rattle.tag_cache.specs.Clears.{GivesKept}
 use Rattle.tag_cache.specs.Holding.{HoldsLess}
 
--- the hand gave all kept tags back together and woke that many waiters, and then posted this tag
-pub record PostsLast {R : Type 0} (tags : Tags R) (tag woken : ℕ) (old new : Cache R) : Type 0 where
+-- the hand gave all kept tags back together, and then posted this tag
+pub record PostsLast {R : Type 0} (pool : Pool R) (tag : ℕ) (old new : Cache R) : Type 0 where
   pub between : Hand R
-  pub gives : GivesKept tags woken old (hand_of old) between
+  pub gives : GivesKept pool old (hand_of old) between
   pub posts : hands.Posts tag between (hand_of new)
 
 -- the hand posted this tag, which is the user's no more, and the same tags are kept

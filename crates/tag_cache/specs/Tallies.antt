@@ -1,6 +1,6 @@
 -- How many tags a cache has handed to its user and taken back.
 use Rattle.std.specs.Prelude.{◌≡◌, ℕ, ◌+◌, Option, Some, None}
-use Rattle.tag_sets.specs.Tallies.{won_in_both, back_in_both}
+use Rattle.tag_pool.specs.Tallies.{won_in_both, back_in_both}
 use Rattle.tag_cache.specs.declared.cache.Cache.{Cache}
 use Rattle.tag_cache.specs.Caches.{count_of, reused_of}
 

@@ -2,7 +2,7 @@
 use Rattle.std.specs.Prelude.{◌-◌, ◌≡◌, ◌≤◌}
 use Rattle.tag_cache.specs.Uses.{Hand, ℕ}
 use Rattle.std.specs.Int.{bit_at}
-use Rattle.tag_sets.specs.Hands as hands
+use Rattle.tag_pool.specs.Hands as hands
 
 -- the tag is in the window that begins with this number, and its bit there is 1
 abbrev pub IsIn : ℕ → ℕ → ℕ → Type 0

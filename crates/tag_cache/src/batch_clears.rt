@@ -1,82 +1,69 @@
-//! Clears of several ordinary tags at once.
+//! Clears of several ordinary tags at once that tell nobody.
 ghost use Rattle.std.specs.Prelude.{◌≢◌, ◌↔◌, ℕ, All, Contains, IsTrue};
-ghost use Rattle.tag_sets.specs.Batches.{CountsTags, AreOrdinary};
-ghost use Rattle.tag_sets.specs.Hands.{waiter_of};
-ghost use Rattle.tag_sets.specs.declared.hand.Hand.{Hand};
+ghost use Rattle.tag_pool.specs.Lists.{AreOrdinary};
+ghost use Rattle.tag_pool.specs.Runs.{CountsTags};
 ghost use Rattle.tag_cache.specs.Windows.{IsIn};
 ghost use Rattle.tag_cache.specs.Batches.{AreHeldOnce, GivesKeptAndList, ListGoes};
-ghost use Rattle.tag_cache.specs.Caches.{IsCacheOf, IsKept, IsKnown, hand_of};
+ghost use Rattle.tag_cache.specs.Caches.{IsCacheOf, IsKept, IsKnown};
 ghost use Rattle.tag_cache.specs.Changes.{KnowsNoneOf};
-ghost use Rattle.tag_cache.specs.Rings.{GrantsNone};
-ghost use Rattle.tag_cache.specs.Calls.{DoesClearBatch};
+ghost use Rattle.tag_cache.specs.Calls.{DoesClearBatch, GivesBack};
 
 use crate::cache::{Cache, WINDOW};
-use crate::grants::both;
-use crate::since::Since;
-use tag_sets::{Report, TagFault, Tags, Waking};
+use tag_pool::{Pool, TagFault};
 
 impl<R: Copy> Cache<R> {
-    /// Clears 1 to 64 ordinary tags that the user holds, as `Tags::clear_batch` does, and answers as `W` says whom this
-    /// granted a wakeup. It keeps none of them. If somebody waits, all kept tags go back first; so they do if tags are
-    /// kept only while the user holds one, and it is known to hold none but these. `NotHeld` also means that a tag is
+    /// Clears 1 to 64 ordinary tags that the user holds, as `Pool::clear_batch_quietly` does, and returns how many
+    /// ordinary tags went back, which the caller has to see to. It keeps none of them. All kept tags go back first if tags
+    /// are kept only while the user holds one, and it is known to hold none but these. `NotHeld` also means that a tag is
     /// kept. `BadCount` means no tag, or more than 64; `NoSuchTag` that a number is not below the total, or a tag is
     /// reserved. Nothing changes on an error.
-    pub fn clear_batch<W: Waking>(
-        &mut self,
-        tags: &Tags<R>,
-        list: &[u32],
-    ) -> Result<W::Answer, TagFault>
-        requires { IsCacheOf tags.now self.old }
-        ensures cache { IsCacheOf tags.now self.new }
-        ensures does { DoesClearBatch W.woken W.tells list.now tags.now result self.old self.new }
+    pub fn clear_batch_quietly(&mut self, pool: &Pool<R>, list: &[u32]) -> Result<u32, TagFault>
+        requires { IsCacheOf pool.now self.old }
+        ensures cache { IsCacheOf pool.now self.new }
+        ensures does { DoesClearBatch list.now pool.now result self.old self.new }
     {
-        tags.check_batch(&self.hand, list)?;
+        pool.check_batch(&self.hand, list)?;
         if !self.keeps_none_of(list) {
             return Err(TagFault::NotHeld);
         }
-        Ok(self.give_back_list::<W>(tags, list))
+        Ok(self.give_back_list(pool, list))
     }
 
-    /// Gives back a list of tags that the user holds, after all kept ones if somebody waits or none may be kept any more.
-    fn give_back_list<W: Waking>(&mut self, tags: &Tags<R>, list: &[u32]) -> W::Answer
-        requires cache { IsCacheOf tags.now self.old }
-        requires list { CountsTags list.now × AreOrdinary tags.now list.now }
+    /// Gives back a list of tags that the user holds, after all kept ones if none may be kept any more.
+    fn give_back_list(&mut self, pool: &Pool<R>, list: &[u32]) -> u32
+        requires cache { IsCacheOf pool.now self.old }
+        requires list { CountsTags list.now × AreOrdinary pool.now list.now }
         requires held { AreHeldOnce self.old list.now }
-        ensures cache { IsCacheOf tags.now self.new }
-        ensures way { ListGoes tags.now list.now (W.woken result) self.old self.new }
-        ensures tells { W.tells result (waiter_of (hand_of self.old)) (waiter_of (hand_of self.new)) }
+        ensures cache { IsCacheOf pool.now self.new }
+        ensures way { ListGoes pool.now list.now self.old self.new }
+        ensures freed { GivesBack result self.old self.new }
         ensures knows { KnowsNoneOf list.now self.old self.new }
     {
         let left = self.known_without_all(list);
-        if self.goes_on(tags, left) {
-            return tags.clear_batch_held::<Since<W>>(&mut self.hand, list);
+        if self.goes_on(left) {
+            pool.clear_batch_held_quietly(&mut self.hand, list);
+            return list.len() as u32;
         }
-        self.give_back_kept_and_list::<W>(tags, left, list)
+        self.give_back_kept_and_list(pool, left, list)
     }
 
     /// Gives all kept tags back and then a list of tags that the user holds, after which it is known to hold only the
-    /// tags that are `left`. It is out of line, so that a clear needs no memory for grants where the kept tags stay.
+    /// tags that are `left`.
     #[inline(never)]
-    fn give_back_kept_and_list<W: Waking>(
-        &mut self,
-        tags: &Tags<R>,
-        left: u64,
-        list: &[u32],
-    ) -> W::Answer
-        requires cache { IsCacheOf tags.now self.old }
+    fn give_back_kept_and_list(&mut self, pool: &Pool<R>, left: u64, list: &[u32]) -> u32
+        requires cache { IsCacheOf pool.now self.old }
         requires left { (other : ℕ) → IsIn self.old.first left other
             ↔ (IsKnown self.old other × ¬ (Contains list.now other)) }
-        requires list { CountsTags list.now × AreOrdinary tags.now list.now }
+        requires list { CountsTags list.now × AreOrdinary pool.now list.now }
         requires held { AreHeldOnce self.old list.now }
-        ensures cache { IsCacheOf tags.now self.new }
-        ensures gives { GivesKeptAndList tags.now list.now (W.woken result) self.old self.new }
-        ensures tells { (before : Hand R) → GrantsNone before (hand_of self.old)
-            → W.tells result (waiter_of before) (waiter_of (hand_of self.new)) }
+        ensures cache { IsCacheOf pool.now self.new }
+        ensures gives { GivesKeptAndList pool.now list.now self.old self.new }
+        ensures freed { GivesBack result self.old self.new }
         ensures knows { KnowsNoneOf list.now self.old self.new }
     {
-        let sooner = self.leave(tags, left);
-        let later = tags.clear_batch_held::<Report>(&mut self.hand, list);
-        self.tell::<W>(tags, both(sooner, later))
+        let kept = self.leave(pool, left);
+        pool.clear_batch_held_quietly(&mut self.hand, list);
+        kept + list.len() as u32
     }
 }
 

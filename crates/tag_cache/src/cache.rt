@@ -5,7 +5,7 @@ ghost use Rattle.tag_cache.specs.declared.keeping.Keeping.TheVariants.{WhileHold
 ghost use Rattle.tag_cache.specs.Windows.{IsIn, AreOwn};
 
 use crate::keeping::Keeping;
-use tag_sets::Hand;
+use tag_pool::Hand;
 
 /// Length of the window, and so the most tags that a cache keeps.
 pub(crate) const WINDOW: u32 = 64;

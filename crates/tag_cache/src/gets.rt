@@ -1,106 +1,116 @@
-//! Gets: the calls that take tags.
-ghost use Rattle.std.specs.Prelude.{◌≡◌, ◌<◌, IfOk, OnOk, None};
-ghost use Rattle.tag_queue.specs.declared.queue.Waits.TheVariants.{InGroups};
-ghost use Rattle.tag_sets.specs.Refusals as of_hand;
-ghost use Rattle.tag_sets.specs.Freed.{GetsAndLooks};
-ghost use Rattle.tag_sets.specs.Gets as hands;
-ghost use Rattle.tag_sets.specs.Waits as hand_waits;
-ghost use Rattle.tag_sets.specs.Gets.{IsOrdinaryTag};
+//! Gets: the calls that take tags, and then see to those that their sweeps freed and they did not take.
+ghost use Rattle.std.specs.Prelude.{◌≡◌, ◌<◌, false, IfOk, IsTrue, None};
+ghost use Rattle.tag_bell.specs.Calls.{nobody};
+ghost use Rattle.tag_bell.specs.Sleeping.{told_by};
+ghost use Rattle.tag_pool.specs.Refusals as of_hand;
+ghost use Rattle.tag_pool.specs.Refusals.{CountsBatch};
+ghost use Rattle.tag_pool.specs.declared.kind.Kind.TheVariants.{Ordinary};
+ghost use Rattle.tag_pool.specs.Hands.{hint_of};
+ghost use Rattle.tag_pool.specs.Gets as hands;
+ghost use Rattle.tag_pool.specs.Gets.{IsAnswer, IsInRun};
+ghost use Rattle.tag_cache.specs.Batches.{answered_run};
 ghost use Rattle.tag_cache.specs.Caches.{IsCacheOf, KeepsNone, hand_of};
-ghost use Rattle.tag_cache.specs.Changes.{IsUnchanged, KeepsSame, Learns};
+ghost use Rattle.tag_cache.specs.Changes.{IsUnchanged, KeepsSame, SameWindow};
 ghost use Rattle.tag_cache.specs.Holding.{HoldsMore};
 ghost use Rattle.tag_cache.specs.Tallies.{Tallies, answered};
-ghost use Rattle.tag_cache.specs.Gets.{Gets, WaitsFor, LearnsAnswer};
+ghost use Rattle.tag_cache.specs.Gets.{GetsAndLooks, LearnsAnswer};
 ghost use Rattle.refusals.specs.Refusals.{RefusesBy};
-ghost use Rattle.tag_cache.specs.Refusals.{get_checks, blocking_checks};
+ghost use Rattle.tag_cache.specs.Refusals.{get_checks};
 ghost use Rattle.tag_cache.specs.Calls.{DoesGetReserved};
 
 use crate::cache::Cache;
-use std::sync::Wait;
-use tag_sets::{TagFault, Tags, Waits};
+use tag_pool::{Got, Pool, TagFault, Woken};
 
 impl<R: Copy> Cache<R> {
-    /// Returns the least kept tag, by no step. If no tag is kept it takes a free ordinary tag as `Tags::get` does, and
-    /// looks for sleepers as that does. `Spent` means that the hand's life is used up.
+    /// Returns the least kept tag, by no step. If no tag is kept it takes a free ordinary tag as `Pool::get` does, and
+    /// sees to what it left free as that does. `Spent` means that the hand's life is used up.
     #[inline(always)]
-    pub fn get(&mut self, tags: &Tags<R>) -> Result<Option<u32>, TagFault>
-        requires { IsCacheOf tags.now self.old }
-        ensures cache { IsCacheOf tags.now self.new }
+    pub fn get(&mut self, pool: &Pool<R>) -> Result<Got<Option<u32>>, TagFault>
+        requires { IsCacheOf pool.now self.old }
+        ensures cache { IsCacheOf pool.now self.new }
         ensures refusals { RefusesBy (get_checks self.old) (IsUnchanged self.old self.new) result }
-        ensures gets { IfOk result (λ answer. Gets tags.now answer self.old self.new) }
-        ensures knows { IfOk result (λ answer. LearnsAnswer answer self.old self.new) }
-        ensures tally { IfOk result (λ answer. Tallies (answered answer) 0 self.old self.new) }
+        ensures gets { IfOk result (λ got. GetsAndLooks pool.now got.answer got.woken self.old self.new) }
+        ensures knows { IfOk result (λ got. LearnsAnswer got.answer self.old self.new) }
+        ensures tally { IfOk result (λ got. Tallies (answered got.answer) 0 self.old self.new) }
     {
         if self.keeps_none() {
-            return self.win(tags);
+            return self.win(pool);
         }
-        Ok(Some(self.reuse()))
+        Ok(Got {
+            answer: Some(self.reuse()),
+            woken: Woken::none(),
+        })
     }
 
     /// Has the hand get a tag. It is out of line, so that a get is short where a tag is kept.
     #[inline(never)]
-    fn win(&mut self, tags: &Tags<R>) -> Result<Option<u32>, TagFault>
-        requires cache { IsCacheOf tags.now self.old }
+    fn win(&mut self, pool: &Pool<R>) -> Result<Got<Option<u32>>, TagFault>
+        requires cache { IsCacheOf pool.now self.old }
         requires none { KeepsNone self.old }
-        ensures cache { IsCacheOf tags.now self.new }
+        ensures cache { IsCacheOf pool.now self.new }
         ensures refusals { RefusesBy (of_hand.get_checks (hand_of self.old)) (IsUnchanged self.old self.new) result }
-        ensures gets { IfOk result (λ answer. GetsAndLooks (hands.Gets tags.now answer) (hand_of self.old) (hand_of self.new)) }
+        ensures gets { IfOk result (λ got.
+            hands.GetsAndLooks (hands.Gets pool.now Ordinary got.answer) got.woken (hand_of self.old) (hand_of self.new)) }
         ensures kept { KeepsSame self.old self.new }
-        ensures knows { IfOk result (λ answer. LearnsAnswer answer self.old self.new) }
+        ensures knows { IfOk result (λ got. LearnsAnswer got.answer self.old self.new) }
     {
-        let Some(tag) = tags.get(&mut self.hand)? else {
-            return Ok(None);
+        let Got { answer, woken } = pool.get(&mut self.hand)?;
+        let Some(tag) = answer else {
+            return Ok(Got {
+                answer: None,
+                woken,
+            });
         };
         self.learn(tag);
-        Ok(Some(tag))
+        Ok(Got {
+            answer: Some(tag),
+            woken,
+        })
     }
 
-    /// Takes a free reserved tag as `Tags::get_reserved` does. `NoReserved` means that there are none, `Spent` that the
+    /// Takes a free reserved tag as `Pool::get_reserved` does. `NoReserved` means that there are none, `Spent` that the
     /// hand's life in the reserved set is used up.
-    pub fn get_reserved(&mut self, tags: &Tags<R>) -> Result<Option<u32>, TagFault>
-        requires { IsCacheOf tags.now self.old }
-        ensures cache { IsCacheOf tags.now self.new }
-        ensures does { DoesGetReserved tags.now result self.old self.new }
+    pub fn get_reserved(&mut self, pool: &Pool<R>) -> Result<Option<u32>, TagFault>
+        requires { IsCacheOf pool.now self.old }
+        ensures cache { IsCacheOf pool.now self.new }
+        ensures does { DoesGetReserved pool.now result self.old self.new }
     {
-        tags.get_reserved(&mut self.hand)
+        pool.get_reserved(&mut self.hand)
     }
 
-    /// Returns a kept tag, or takes a free ordinary tag and waits as long as it finds none, as `Tags::get_blocking` does.
-    /// `OtherWait` means that hands wait by the bell. If no tag is kept, `NoSuchTag` means that there are no ordinary tags,
-    /// `Waiting` that the hand is already in a wait group, `Spent` that its life is used up.
-    pub fn get_blocking<W: Wait>(&mut self, rt: &W, tags: &Tags<R>) -> Result<u32, TagFault>
-        requires { IsCacheOf tags.now self.old }
-        ensures cache { IsCacheOf tags.now self.new }
-        ensures refusals { RefusesBy (blocking_checks InGroups tags.now self.old) (IsUnchanged self.old self.new) result }
-        ensures more { IfOk result (λ tag. HoldsMore (λ other. other ≡ tag) self.old self.new) }
-        ensures ordinary { IfOk result (λ tag. IsOrdinaryTag tags.now tag) }
-        ensures waits { IfOk result (λ tag. WaitsFor tags.now tag self.old self.new) }
-        ensures knows { IfOk result (λ tag. Learns tag self.old self.new) }
-        ensures tally { OnOk result (Tallies 1 0 self.old self.new) }
-    {
-        if tags.waits() != Waits::InGroups {
-            return Err(TagFault::OtherWait);
-        }
-        if self.keeps_none() {
-            return self.wait_for(rt, tags);
-        }
-        Ok(self.reuse())
-    }
-
-    /// Has the hand get a tag and wait as long as it finds none.
-    #[inline(never)]
-    fn wait_for<W: Wait>(&mut self, rt: &W, tags: &Tags<R>) -> Result<u32, TagFault>
-        requires cache { IsCacheOf tags.now self.old }
-        requires none { KeepsNone self.old }
-        ensures cache { IsCacheOf tags.now self.new }
-        ensures refusals { RefusesBy (of_hand.blocking_checks InGroups tags.now (hand_of self.old)) (IsUnchanged self.old self.new) result }
-        ensures gets { IfOk result (λ tag. hands.BlockingGets tags.now tag (hand_of self.old) (hand_of self.new)) }
-        ensures waits { IfOk result (λ tag. hand_waits.WaitsFor tags.now tag (hand_of self.old) (hand_of self.new)) }
+    /// Takes a free ordinary tag as `Pool::get_shallow` does: never one that is kept, which may lie beyond the depth.
+    /// `TooShallow` means that `depth` is 0 or below the minimum shallow depth, `Spent` that the hand's life is used
+    /// up.
+    pub fn get_shallow(&mut self, pool: &Pool<R>, depth: u32) -> Result<Got<Option<u32>>, TagFault>
+        requires { IsCacheOf pool.now self.old }
+        ensures cache { IsCacheOf pool.now self.new }
+        ensures refusals { RefusesBy (of_hand.shallow_checks pool.now (hand_of self.old) depth) (IsUnchanged self.old self.new) result }
+        ensures gets { IfOk result (λ got.
+            hands.GetsAndLooks (hands.GetsShallow pool.now depth got.answer) got.woken (hand_of self.old) (hand_of self.new)) }
+        ensures more { IfOk result (λ got. HoldsMore (IsAnswer got.answer) self.old self.new) }
         ensures kept { KeepsSame self.old self.new }
-        ensures knows { IfOk result (λ tag. Learns tag self.old self.new) }
+        ensures window { SameWindow self.old self.new }
+        ensures tally { IfOk result (λ got. Tallies (answered got.answer) 0 self.old self.new) }
     {
-        let tag = tags.get_blocking(rt, &mut self.hand)?;
-        self.learn(tag);
-        Ok(tag)
+        pool.get_shallow(&mut self.hand, depth)
+    }
+
+    /// Takes up to `n` free ordinary tags out of `n` consecutive ones of one word, as `Pool::get_batch` does. It takes
+    /// none of the kept tags, so it may find more after a `flush`. `BadCount` means an `n` out of range, `Spent` that
+    /// the hand's life does not suffice for `n` more tags.
+    pub fn get_batch(&mut self, pool: &Pool<R>, n: u32) -> Result<Got<Option<(u32, u64)>>, TagFault>
+        requires { IsCacheOf pool.now self.old }
+        ensures cache { IsCacheOf pool.now self.new }
+        ensures refusals { RefusesBy (of_hand.batch_checks pool.now (hand_of self.old) n) (IsUnchanged self.old self.new) result }
+        ensures round_robin { CountsBatch pool.now n → IsTrue (hint_of (hand_of self.old) Ordinary).round_robin
+            → IfOk result (λ got. (got.answer ≡ None) × (told_by got.woken ≡ nobody)) × IsUnchanged self.old self.new }
+        ensures gets { (hint_of (hand_of self.old) Ordinary).round_robin ≡ false → IfOk result (λ got.
+            hands.GetsAndLooks (hands.GetsBatch pool.now n got.answer) got.woken (hand_of self.old) (hand_of self.new)) }
+        ensures more { IfOk result (λ got. HoldsMore (IsInRun got.answer) self.old self.new) }
+        ensures kept { KeepsSame self.old self.new }
+        ensures window { SameWindow self.old self.new }
+        ensures tally { IfOk result (λ got. Tallies (answered_run got.answer) 0 self.old self.new) }
+    {
+        pool.get_batch(&mut self.hand, n)
     }
 }

@@ -2,7 +2,6 @@
 #![tactic(auto)]
 
 mod batch_clears;
-mod batches;
 mod before;
 mod bell;
 mod cache;
@@ -10,7 +9,6 @@ mod clears;
 mod counts;
 mod flush;
 mod gets;
-mod grants;
 mod holds;
 mod keeping;
 mod kept;
@@ -19,16 +17,13 @@ mod looks;
 mod masks;
 mod meets;
 mod numbers;
-mod reporting;
-mod shallow;
-mod since;
+mod quietly;
 mod sleeps;
 mod slots;
-mod tells;
-mod waits;
+mod telling;
 mod way;
 mod window;
 
 pub use cache::Cache;
 pub use keeping::Keeping;
-pub use tag_sets::{Count, Found, Grants, Hand, Report, Ring, TagFault, Tags, Waking};
+pub use tag_pool::{Found, Got, Hand, Pool, TagFault};

@@ -1,5 +1,5 @@
 //! A cache's number among the hands.
-ghost use Rattle.tag_sets.specs.Hands.{number_of};
+ghost use Rattle.tag_pool.specs.Hands.{number_of};
 
 use crate::cache::Cache;
 use step_ledger::Numbered;

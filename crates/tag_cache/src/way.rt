@@ -4,7 +4,6 @@ ghost use Rattle.tag_cache.specs.Caches.{HasNoPlace};
 ghost use Rattle.tag_cache.specs.Clears.{CallsFor};
 
 use crate::cache::{Cache, WINDOW};
-use tag_sets::Tags;
 
 /// What becomes of an ordinary tag that is cleared.
 #[derive(Clone, Copy)]
@@ -19,32 +18,12 @@ pub(crate) enum Way {
     GiveBackAll,
 }
 
-impl<R: Copy> Cache<R> {
-    ghost use Rattle.tag_cache.specs.Caches.{IsCacheOf, hand_of};
-    ghost use Rattle.tag_cache.specs.Changes.{SameFields};
-    ghost use Rattle.tag_sets.specs.Waits.{LooksInGroups};
-
-    /// Looks for hands that wait in groups. It changes nothing but the list of the hand's steps.
-    #[inline(always)]
-    pub(crate) fn look(&mut self, tags: &Tags<R>) -> u64
-        requires { IsCacheOf tags.now self.old }
-        ensures cache { IsCacheOf tags.now self.new }
-        ensures looks { LooksInGroups tags.now result (hand_of self.old) (hand_of self.new) }
-        ensures fields { SameFields self.old self.new }
-    {
-        tags.active_in_groups(&mut self.hand)
-    }
-}
-
 impl<R> Cache<R> {
-    /// Decides what becomes of an ordinary tag that is cleared, after a look that found this many waiting.
+    /// Decides what becomes of an ordinary tag that is cleared.
     #[inline(always)]
-    pub(crate) fn way(&self, tag: u32, active: u64) -> Way
-        ensures { CallsFor result tag active self.now }
+    pub(crate) fn way(&self, tag: u32) -> Way
+        ensures { CallsFor result tag self.now }
     {
-        if active != 0 {
-            return Way::GiveBackAll;
-        }
         if self.is_last(tag) {
             return Way::GiveBackAll;
         }

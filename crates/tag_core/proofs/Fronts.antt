@@ -195,14 +195,20 @@ module _ (R : Type 0) (k : Shape) (id : ℕ) (me : Me R (View R)) (r : Record R)
       rest_of [] = []
       rest_of (x ∷ xs) = xs
 
--- the table allows a load that changes nothing, and by it a caller learns what the rule says of its seat
-pub idle_allowed : (R : Type 0) (k : Shape) (d id : ℕ) (me : Me R (View R)) (fact : Type 0)
-    → ((s : State R (View R)) → Shown k s → get_elem? s.views id ≡ some me.0 → fact)
-    → Allows (Shown k) d id me 0 (λ n. n) (λ _ me'. (me' ≡ me) × fact)
-idle_allowed R k d id me fact tells s sh deep at _ = (
+-- the table allows a load that changes nothing, and by it a caller learns what the rule says of its seat and of what it found
+pub load_allowed : (R : Type 0) (k : Shape) (d id : ℕ) (me : Me R (View R)) (i : ℕ) (fact : ℕ → Type 0)
+    → ((s : State R (View R)) → Shown k s → get_elem? s.views id ≡ some me.0 → fact (get_or s.words i 0))
+    → Allows (Shown k) d id me i (λ n. n) (λ n me'. (me' ≡ me) × fact n)
+load_allowed R k d id me i fact tells s sh deep at _ = (
   me.0,
   keeps,
   tt,
-  same_homes R k s s.homes sh (λ t l. refl) id 0 me.0 at,
+  same_homes R k s s.homes sh (λ t l. refl) id i me.0 at,
   (refl, tells s sh at),
 )
+
+-- the same of its seat alone
+pub idle_allowed : (R : Type 0) (k : Shape) (d id : ℕ) (me : Me R (View R)) (fact : Type 0)
+    → ((s : State R (View R)) → Shown k s → get_elem? s.views id ≡ some me.0 → fact)
+    → Allows (Shown k) d id me 0 (λ n. n) (λ _ me'. (me' ≡ me) × fact)
+idle_allowed R k d id me fact tells = load_allowed R k d id me 0 (λ _. fact) tells

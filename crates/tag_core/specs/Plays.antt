@@ -8,12 +8,13 @@ use Rattle.tag_core.specs.declared.step.Step.TheVariants.{Word, Post, Take, Bell
 use Rattle.tag_core.specs.declared.bell_step.BellStep.TheVariants.{Enlist, Sight, Tell, GetUp}
 use Rattle.tag_core.specs.declared.word_step.WordStep.TheVariants.{Look, LookAside, Claimed, Give, Put, Swap, Keep, Spill}
 use Rattle.tag_core.specs.declared.record.Record.{Record}
+use Rattle.tag_core.specs.declared.bell.TheConstants.{LISTS}
 use Rattle.tag_core.specs.Steps.{least_bit}
 use Rattle.tag_core.specs.Spacing.{list_at, word_at, aside_at, state_at}
 use Rattle.tag_core.specs.Histories.{event_of}
 use Rattle.tag_core.specs.Records.{record_after, held_after, tag_bit, value_of, tags_from, but, Carries}
 use Rattle.tag_core.specs.Meeting.{HasHistory, ShareHistory, AreApart}
-use Rattle.tag_core.specs.Settling.{HasRecords, AreSettled}
+use Rattle.tag_core.specs.Settling.{HasRecords, AreSettled, LeavesList}
 
 -- the caller of this record made the step: the slots of its tags are with it, and those of tags that it keeps have
 -- their values
@@ -166,3 +167,10 @@ module _ {R : Type 0} (st : table.Step R) (me : Me R (View R)) (found : ℕ) (me
       (me' ≡ me)
       × ((r : Record R) → get_elem? me.0.records.value 0 ≡ some r → HasRecords r.shape.callers me.0.records.value
       → (totals : Totals) × AreSettled r.shape me.0.records.value totals)
+
+  -- a load of a list by a seat that has the records of all callers: one history shows them, and leaves the list so
+  abbrev pub list_settled : Type 0
+  list_settled =
+      (me' ≡ me)
+      × ((list : ℕ) (r : Record R) → st.word ≡ list_at list → list < LISTS → get_elem? me.0.records.value 0 ≡ some r
+      → HasRecords r.shape.callers me.0.records.value → LeavesList r.shape me.0.records.value list found)

@@ -3,7 +3,7 @@ use Rattle.std.specs.Prelude.{◌+◌, ◌<◌, ◌≡◌, ◌≤◌}
 use Rattle.tag_core.specs.Uses.{AreTotals, get_elem?, length, List, some, Totals, ℕ}
 use Rattle.tag_core.specs.declared.shape.Shape.{Shape}
 use Rattle.tag_core.specs.declared.record.Record.{Record}
-use Rattle.tag_core.specs.Histories.{History, IsLawful, world_of}
+use Rattle.tag_core.specs.Histories.{History, IsLawful, cells_of, world_of}
 use Rattle.tag_core.specs.Rule.{IsKnown}
 use Rattle.tag_core.specs.Sizes.{total_of, size_of}
 
@@ -26,3 +26,11 @@ pub record AreSettled {R : Type 0} (k : Shape) (rs : List (Record R)) (totals : 
   pub held : totals.held ≡ total_of (λ (r : Record R). size_of r.held) rs
   pub totals_are : AreTotals k.layout k.callers (world_of k history) totals
   pub balance : totals.got ≡ totals.back + totals.held + totals.posted
+
+-- these are the records of all callers; one lawful history shows them all, and leaves the list so
+pub record LeavesList {R : Type 0} (k : Shape) (rs : List (Record R)) (list listed : ℕ) : Type 0 where
+  pub history : History R
+  pub lawful : IsLawful k history
+  pub each : (i : ℕ) (r : Record R) → get_elem? rs i ≡ some r → IsKnown k history r
+  pub every : HasRecords k.callers rs
+  pub listed_is : listed ≡ (cells_of history).lists list

@@ -1,7 +1,7 @@
 //! What each kind of step tells. These types are for the proofs alone.
 ghost use Rattle.std.specs.Prelude.{[]};
 ghost use Rattle.step_ledger.specs.Views.{viewing, first_view, other_views, both_views};
-ghost use Rattle.tag_core.specs.Plays.{looked, looked_aside, claimed, gave, put_aside, swapped, kept_least, spilled, posted, took, enlisted, sighted, told, got_up, turned, fronted, ordered, counted, met, settled};
+ghost use Rattle.tag_core.specs.Plays.{looked, looked_aside, claimed, gave, put_aside, swapped, kept_least, spilled, posted, took, enlisted, sighted, told, got_up, turned, fronted, ordered, counted, met, settled, list_settled};
 
 use crate::record::View;
 use atomic_table::{Join, Play, Split};
@@ -125,6 +125,12 @@ pub(crate) struct Settling;
 
 impl<R> Play<R, View<R>> for Settling {
     ghost then = { settled };
+}
+
+pub(crate) struct SettlingList;
+
+impl<R> Play<R, View<R>> for SettlingList {
+    ghost then = { list_settled };
 }
 
 impl<R> Split<View<R>> for HandOut {

@@ -5,9 +5,9 @@ pub use Rattle.std.proofs.lemmas.List.Elements.{All-pop, All-push, All-set}
 pub use Rattle.std.specs.Vec.Iter.{into_iter_items}
 pub use denote.Param.Send.{enum_send, IsSend, IsSync, recorded_send, recorded_sync, sendable, struct_sync}
 pub use denote.Struct.Field.{u64-field}
-pub use Rattle.tag_sets.proofs.Crossing.{hand_field_send, hand_send, tags_field_sync, tags_sync}
-pub use Rattle.tag_sets.specs.Hands.{IsHandOf}
-pub use Rattle.tag_sets.specs.declared.hand.Hand.{Hand}
-pub use Rattle.tag_sets.specs.declared.tags.Tags.{Tags}
-pub use Rattle.tag_tests.specs.Mixed.{hand_in, IsOwn}
+pub use Rattle.tag_pool.proofs.Crossing.{hand_field_send, pool_field_sync}
+pub use Rattle.tag_pool.specs.Hands.{IsHandOf}
+pub use Rattle.tag_pool.specs.declared.hand.Hand.{Hand}
+pub use Rattle.tag_pool.specs.declared.pool.Pool.{Pool}
+pub use Rattle.tag_tests.specs.Shared.{hand_in, IsOwn}
 pub use Rattle.tag_tests.specs.declared.caller.Caller.{Caller}

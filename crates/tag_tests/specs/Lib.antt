@@ -1,2 +1,2 @@
 pub mod Owning
-pub mod Mixed
+pub mod Shared

@@ -1,9 +1,9 @@
-//! What the tests of caches act through. It stands outside of them, since their definitions, which every check reads, name it.
+//! What the tests act through. It stands outside of them, since their definitions, which every check reads, name it.
 
 use tag_cache::Cache;
-use tag_sets::Hand;
+use tag_pool::Hand;
 
-/// A caller of tag sets.
+/// A caller of a pool.
 #[derive(Drop)]
 pub(crate) enum Caller {
     Bare(Hand<u64>),

@@ -1,4 +1,5 @@
-//! The tests of queues, tag sets and caches. They offer their callers the same calls, so what the tests need is here once.
+//! The tests of pools and caches, and of the waits in groups of queues. They offer their callers the same calls, so what the
+//! tests need is here once.
 #![tactic(auto)]
 
 mod caller;

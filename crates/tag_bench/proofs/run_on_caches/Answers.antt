@@ -1,4 +1,4 @@
--- Caches go to threads that share the tags.
+-- Caches go to threads that share the pool.
 use Rattle.tag_bench.proofs.Uses.{crosses, sendable}
 use Rattle.tag_cache.proofs.Crossing.{cache_send}
 use Rattle.tag_bench.proofs.Cached.{cached_sync}

@@ -1,36 +1,89 @@
 //! Answers to calls.
-use crate::tests::allocator::Kept;
-use tag_queue::Wakes;
-use tag_sets::{Shown as Sums, TagFault};
-use wake_book::Left as Leave;
 
-/// The answer to a call.
+use tag_pool::{Found, Got, Next, Shown as Sums, TagFault, Told, Woken};
+
+/// The answer to a call. Whom it told is a mask: a bit for the number of each hand, of either list.
 #[derive(Clone, Copy, Debug, PartialEq, Eq)]
 pub(crate) enum Answer {
+    /// A tag, which told nobody.
     Tag(u32),
+    /// A tag, and whom the get told.
+    TagAndTold(u32, u64),
     /// The first tag of a batch, and its mask.
     Batch(u32, u64),
+    /// A batch, and whom the get told.
+    BatchAndTold(u32, u64, u64),
     /// No tag, or nothing to show.
     Nothing,
+    /// No tag, and whom the get told.
+    NothingAndTold(u64),
+    /// A tag, and how many others the get left free.
+    TagAndLeft(u32, u64),
+    /// Whom the call told.
+    Told(u64),
+    /// A wait goes on.
+    Sleeps,
+    /// A wait is over, and whom its end told.
+    Over(u64),
+    /// The hand cannot wait.
+    CannotWait,
     /// Tags kept, handed to the user and taken back from it, and kept ones handed out again.
     Keeps(u32, u64, u64, u64),
     Value(u64),
     Held(bool),
+    /// Whether the hand was told, or did not wait.
+    WasTold(bool),
+    /// Whether anybody waits.
+    Waiters(bool),
     Done,
-    /// Waiters woken.
-    Woken(u32),
-    Group(u32),
-    Left(Leave),
-    /// Completions counted and charged, the wake index, and the active count.
-    Found(u64, u64, u32, u64),
-    Shown(Sums),
+    /// A set's depth, its tags busy and set aside, the bits of a word, and how many words there are.
+    Shown(u32, u32, u32, u32, u32),
     /// How many tags are busy, and which of the first 128.
     Busy(u32, u64, u64),
     /// How many bytes a dump takes, and the first three.
     Dumped(u32, u8, u8, u8),
     Refused(TagFault),
+    /// Waiters of a queue woken.
+    Woken(u32),
+    /// The wait group of a queue's agent.
+    Group(u32),
+    /// An agent left its group woken, or with no grant.
+    LeftWoken,
+    LeftUnwoken,
+    /// A queue's completions counted and charged, its wake index, and its active count.
+    Found(u64, u64, u32, u64),
+    /// Why a queue refuses a call of a wait: the agent waits, or does not, or agents wait in the other way.
+    Waits,
+    WaitsNot,
+    OtherWait,
+    /// The allocator has no such call.
+    NoSuchCall,
     /// No caller has this index.
     Nobody,
+}
+
+impl Answer {
+    /// What a get won, whomever it told.
+    pub(crate) fn won(self) -> Answer {
+        match self {
+            Answer::TagAndTold(tag, _) => Answer::Tag(tag),
+            Answer::BatchAndTold(first, mask, _) => Answer::Batch(first, mask),
+            Answer::NothingAndTold(_) => Answer::Nothing,
+            Answer::Over(_) => Answer::Nothing,
+            other => other,
+        }
+    }
+
+    /// Whether the call was neither refused nor unknown.
+    pub(crate) fn is_granted(self) -> bool {
+        match self {
+            Answer::Refused(_) => false,
+            Answer::Waits => false,
+            Answer::OtherWait => false,
+            Answer::NoSuchCall => false,
+            _ => true,
+        }
+    }
 }
 
 /// The answer of a call, or the fault for which it was refused.
@@ -39,6 +92,19 @@ pub(crate) fn answered(called: Result<Answer, TagFault>) -> Answer {
         Ok(answer) => answer,
         Err(fault) => Answer::Refused(fault),
     }
+}
+
+/// Who was told, of both lists.
+fn mask_of(told: Told) -> u64 {
+    told.sleepers | told.listeners
+}
+
+pub(crate) fn told(told: Told) -> Answer {
+    Answer::Told(mask_of(told))
+}
+
+pub(crate) fn woken(woken: Woken) -> Answer {
+    told(woken.told())
 }
 
 pub(crate) fn tag(found: Option<u32>) -> Answer {
@@ -55,34 +121,60 @@ pub(crate) fn batch(found: Option<(u32, u64)>) -> Answer {
     }
 }
 
-pub(crate) fn kept(found: Option<Kept>) -> Answer {
-    match found {
-        Some(kept) => Answer::Keeps(kept.count, kept.handed_out, kept.taken_back, kept.reused),
+fn and_told(answer: Option<u32>, mask: u64) -> Answer {
+    match answer {
+        Some(tag) if mask != 0 => Answer::TagAndTold(tag, mask),
+        None if mask != 0 => Answer::NothingAndTold(mask),
+        found => tag(found),
+    }
+}
+
+pub(crate) fn got(got: Got<Option<u32>>) -> Answer {
+    and_told(got.answer, mask_of(got.woken.told()))
+}
+
+pub(crate) fn got_one(got: Got<u32>) -> Answer {
+    and_told(Some(got.answer), mask_of(got.woken.told()))
+}
+
+pub(crate) fn got_batch(got: Got<Option<(u32, u64)>>) -> Answer {
+    match (got.answer, mask_of(got.woken.told())) {
+        (found, 0) => batch(found),
+        (Some((first, mask)), whom) => Answer::BatchAndTold(first, mask, whom),
+        (None, whom) => Answer::NothingAndTold(whom),
+    }
+}
+
+pub(crate) fn found(found: Found<u32>) -> Answer {
+    match found.answer {
+        Some(tag) => Answer::TagAndLeft(tag, found.left),
         None => Answer::Nothing,
     }
 }
 
-pub(crate) fn shown(found: Option<Sums>) -> Answer {
-    match found {
-        Some(sums) => Answer::Shown(sums),
-        None => Answer::Nothing,
+/// What a round of a wait came to, and whom it told.
+pub(crate) fn waited(next: Next, told: Told) -> Answer {
+    match next {
+        Next::Won(tag) => and_told(Some(tag), mask_of(told)),
+        Next::Over => Answer::Over(mask_of(told)),
+        Next::Sleep => Answer::Sleeps,
     }
 }
 
-pub(crate) fn busy(found: Option<(u32, u64, u64)>) -> Answer {
-    match found {
-        Some((count, low, high)) => Answer::Busy(count, low, high),
-        None => Answer::Nothing,
+/// The tag that a wait won, or `None` where it is over, and whom it told.
+pub(crate) fn won_or_over(answer: Option<u32>, told: Told) -> Answer {
+    match answer {
+        Some(tag) => waited(Next::Won(tag), told),
+        None => waited(Next::Over, told),
     }
 }
 
-pub(crate) fn dumped(found: Option<(u32, u8, u8, u8)>) -> Answer {
-    match found {
-        Some((count, first, second, third)) => Answer::Dumped(count, first, second, third),
-        None => Answer::Nothing,
-    }
-}
-
-pub(crate) fn counts(found: Wakes) -> Answer {
-    Answer::Found(found.counted, found.charged, found.index, found.active)
+pub(crate) fn shown(sums: Sums) -> Answer {
+    Answer::Shown(
+        sums.depth,
+        sums.busy,
+        sums.cleared,
+        sums.bits_per_word,
+        sums.map_nr,
+    )
 }

@@ -6,8 +6,7 @@ use crate::tests::stage::Stage;
 use std::alloc::Global;
 use std::mem::replace;
 use std::test::Fail;
-use step_ledger::GatherCause;
-use tag_queue::{QueueTotals, ResizeCause};
+use tag_pool::{GatherCause, ResizeCause, Totals};
 
 /// Puts the caller after the others.
 fn put_back<T: TagAllocator>(
@@ -140,7 +139,7 @@ impl<T: TagAllocator> Stage<T> {
         drop(self.take_out(at));
     }
 
-    pub(crate) fn gather(self) -> Result<QueueTotals, (GatherCause, Stage<T>)> {
+    pub(crate) fn gather(self) -> Result<Totals, (GatherCause, Stage<T>)> {
         let Stage {
             tags,
             callers,
@@ -159,7 +158,7 @@ impl<T: TagAllocator> Stage<T> {
         }
     }
 
-    pub(crate) fn close(self) -> Result<QueueTotals, Fail> {
+    pub(crate) fn close(self) -> Result<Totals, Fail> {
         match self.gather() {
             Ok(totals) => Ok(totals),
             Err(_) => Err(Fail::new("a caller is missing")),

@@ -1,7 +1,7 @@
 //! What threads do with tags that they share.
 use crate::tests::allocator::TagAllocator;
 use crate::tests::answers::Answer;
-use crate::tests::calls::{Call, act};
+use crate::tests::calls::Call;
 use crate::tests::jobs::everything::{do_everything, keep};
 use crate::tests::jobs::waits::{
     clear_for_a_waiter, clear_once, wait_for_a_tag, wait_for_one_clear, wait_on_and_off,
@@ -18,23 +18,23 @@ mod waits;
 /// What the threads of a test do.
 #[derive(Clone, Copy)]
 pub(crate) enum Job {
-    /// The workers make these calls in turn, and spend the tags that they win; `Take` stands for taking and clearing every
-    /// posted tag, `PrepareWait` for a wait that is given up. The last thread clears what is posted and what it gets until
-    /// they have finished, so that none of them sleeps forever.
+    /// The workers make these calls in turn, and spend the tags that they win; `Take` stands for taking and clearing
+    /// every posted tag, `WaitInVain` for a wait that is given up. The last thread clears what is posted and what it
+    /// gets until they have finished, so that none of them sleeps forever.
     Everything([Call; 8]),
-    /// The workers make this call, and clear the tag that they win. A thread beyond them enters and leaves a wait until
-    /// they have finished.
+    /// The workers make this call, and clear the tag that they win; at the end they give back what they keep. A
+    /// thread beyond them begins and ends a wait until they have finished.
     Gets(Call),
-    /// The workers make this call, and then a get; they clear what the get won first. At the end they give back what they
-    /// keep.
+    /// The workers make this call, and then a get; they clear what the get won first. At the end they give back what
+    /// they keep.
     Pairs(Call),
-    /// The workers make this call, wait until each of them has its tag, and then clear it. There is a tag for each, so that
-    /// none of them may sleep for long.
+    /// The workers make this call, wait until each of them has its tag, and then clear it. There is a tag for each,
+    /// so that none of them may sleep for long.
     Meet(Call),
     /// One thread gets tag 0, and clears it once the other one waits for it.
     PassOn,
-    /// In each round one thread gets tag 0 and clears it, and the other makes a blocking get of it at about the same time.
-    /// Nobody else would wake a thread that sleeps although the tag is free.
+    /// In each round one thread gets tag 0 and clears it, and the other makes a blocking get of it at about the same
+    /// time. Nobody else would wake a thread that sleeps although the tag is free.
     OneClear,
 }
 
@@ -92,18 +92,18 @@ pub(crate) fn win_and_clear<R: Wait, T: TagAllocator>(
     requires { T.is_own tags.now caller.old }
     ensures { T.is_own tags.now caller.new }
 {
-    match act(rt, tags, caller, call) {
+    match tags.act(rt, caller, call).won() {
         Answer::Tag(tag) => {
             tally.wins(tag);
             tally.goes(tag);
-            tally.cleared(1, tags.clear(caller, tag));
+            tally.cleared(1, tags.act(rt, caller, Call::Clear(tag)));
         }
         Answer::Nothing => (),
         _ => tally.check(false),
     }
 }
 
-/// Makes a get of one tag in each round, and clears the tag if it won one.
+/// Makes a get of one tag in each round, and clears the tag if it won one. It gives back what it keeps at the end.
 fn get_and_clear<R: Wait, T: TagAllocator>(
     rt: &R,
     tags: &T,
@@ -118,6 +118,7 @@ fn get_and_clear<R: Wait, T: TagAllocator>(
     for _ in 0..rounds {
         win_and_clear(rt, tags, caller, tally, call);
     }
+    tally.cleared(0, tags.act(rt, caller, Call::Flush));
     tally.finished.fetch_add(1, SeqCst);
 }
 
@@ -132,12 +133,12 @@ fn win_two<R: Wait, T: TagAllocator>(
     requires { T.is_own tags.now caller.old }
     ensures { T.is_own tags.now caller.new }
 {
-    match act(rt, tags, caller, call) {
+    match tags.act(rt, caller, call).won() {
         Answer::Tag(tag) => {
             tally.wins(tag);
             win_and_clear(rt, tags, caller, tally, Call::Get);
             tally.goes(tag);
-            tally.cleared(1, tags.clear(caller, tag));
+            tally.cleared(1, tags.act(rt, caller, Call::Clear(tag)));
         }
         _ => tally.check(false),
     }
@@ -158,11 +159,11 @@ fn get_two<R: Wait, T: TagAllocator>(
     for _ in 0..rounds {
         win_two(rt, tags, caller, tally, call);
     }
-    tally.cleared(0, Ok(tags.flush(caller)));
+    tally.cleared(0, tags.act(rt, caller, Call::Flush));
 }
 
-/// Wins a tag in each round, and clears it once as many tags were won as there are workers. It gives back what it keeps at
-/// the end.
+/// Wins a tag in each round, and clears it once as many tags were won as there are workers. It gives back what it
+/// keeps at the end.
 fn meet<R: Wait, T: TagAllocator>(
     rt: &R,
     tags: &T,
@@ -177,17 +178,17 @@ fn meet<R: Wait, T: TagAllocator>(
     let mut wins = 0u64;
     for _ in 0..plan.rounds {
         wins = wins.wrapping_add(plan.workers as u64);
-        match act(rt, tags, caller, call) {
+        match tags.act(rt, caller, call).won() {
             Answer::Tag(tag) => {
                 tally.wins(tag);
                 wait_until(rt, &tally.won, wins);
                 tally.goes(tag);
-                tally.cleared(1, tags.clear(caller, tag));
+                tally.cleared(1, tags.act(rt, caller, Call::Clear(tag)));
             }
             _ => tally.check(false),
         }
     }
-    tally.cleared(0, Ok(tags.flush(caller)));
+    tally.cleared(0, tags.act(rt, caller, Call::Flush));
 }
 
 /// Waits until a count has come to this number.

@@ -6,8 +6,7 @@ use crate::tests::stage::Stage;
 use std::process::Abort;
 use std::sync::Wait;
 use std::test::*;
-use step_ledger::GatherCause;
-use tag_queue::{QueueTotals, ResizeCause};
+use tag_pool::{GatherCause, ResizeCause, Totals};
 
 /// What is done with a stage, and what must come of it.
 #[derive(Clone, Copy)]
@@ -16,7 +15,7 @@ pub(crate) enum Step<'a> {
     Calls(&'a [(usize, Call, Answer)]),
     /// A caller makes this many gets, each of which wins a tag.
     Gets(usize, u32),
-    /// A caller clears each of the tags below this number, which wakes nobody.
+    /// A caller clears each of the tags below this number, which tells nobody.
     Clears(usize, u32),
     /// A caller clears these tags in a batch, and has this answer.
     ClearBatch(usize, &'a [u32], Answer),
@@ -57,7 +56,7 @@ impl<T: TagAllocator> Stage<T> {
         self,
         rt: &R,
         steps: &[Step<'_>],
-        totals: QueueTotals,
+        totals: Totals,
     ) -> Result<(), Fail> {
         let sums = self.play(rt, steps)?.close()?;
         assert_eq!(rt; sums, totals);
@@ -105,7 +104,7 @@ impl<T: TagAllocator> Stage<T> {
     fn expect_clears<R: Abort + Wait>(mut self, rt: &R, at: usize, count: u32) -> Stage<T> {
         for tag in 0..count {
             let found = self.act(rt, at, Call::Clear(tag));
-            assert_eq!(rt; found, Some(Answer::Woken(0)), "to the clear of {tag}");
+            assert_eq!(rt; found, Some(Answer::Told(0)), "to the clear of {tag}");
         }
         self
     }
@@ -174,21 +173,5 @@ impl<T: TagAllocator> Stage<T> {
         let (found, stage) = self.refused(rt.alloc(), count)?;
         assert_eq!(rt; found, cause);
         Ok(stage)
-    }
-
-    /// Resizes the tags. If an allocation fails, all is handed back, and a second resize succeeds.
-    pub(crate) fn resized_at_last<R: Abort + AllocGlobal>(
-        self,
-        rt: &R,
-        count: u32,
-    ) -> Result<Stage<T>, Fail> {
-        let present = self.count();
-        match self.resize(rt.alloc(), count) {
-            Ok(resized) => Ok(resized),
-            Err((cause, stage)) => {
-                assert_eq!(rt; (cause, stage.count()), (ResizeCause::Memory, present));
-                stage.resized(rt.alloc(), count)
-            }
-        }
     }
 }

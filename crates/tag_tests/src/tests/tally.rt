@@ -1,8 +1,8 @@
 //! What threads observe while they work.
+use crate::tests::answers::Answer;
 use std::alloc::{AllocError, Global};
 use std::sync::atomic::AtomicU64;
 use std::sync::atomic::Ordering::SeqCst;
-use tag_sets::TagFault;
 
 /// Numbers that all threads of a test add to.
 #[derive(Drop)]
@@ -17,8 +17,8 @@ pub(crate) struct Tally {
     pub(crate) posted: AtomicU64,
     /// Posted tags that were taken.
     pub(crate) taken: AtomicU64,
-    /// Waiters woken, as the clears returned them.
-    pub(crate) woken: AtomicU64,
+    /// Hands told or waiters woken, as the clears returned them.
+    pub(crate) told: AtomicU64,
     /// Whatever should not have happened: a tag won while another thread held it, a slot that did not name the tag's
     /// holder, a call that was refused, sums that do not agree.
     pub(crate) wrong: AtomicU64,
@@ -43,7 +43,7 @@ impl Tally {
             back: AtomicU64::new(0),
             posted: AtomicU64::new(0),
             taken: AtomicU64::new(0),
-            woken: AtomicU64::new(0),
+            told: AtomicU64::new(0),
             wrong: AtomicU64::new(0),
             finished: AtomicU64::new(0),
             held: AtomicU64::new(0),
@@ -79,15 +79,18 @@ impl Tally {
         self.held.fetch_and(!(1u64 << (tag & 63)), SeqCst);
     }
 
-    /// Counts tags that were cleared, and how many waiters their clear woke.
-    pub(crate) fn cleared(&self, tags: u64, woken: Result<u32, TagFault>) {
-        match woken {
-            Ok(woken) => {
-                self.back.fetch_add(tags, SeqCst);
-                self.woken.fetch_add(woken as u64, SeqCst);
+    /// Counts tags that were cleared, and how many hands or waiters their clear told.
+    pub(crate) fn cleared(&self, tags: u64, answer: Answer) {
+        let told = match answer {
+            Answer::Told(mask) => u64::from(mask.count_ones()),
+            Answer::Woken(woken) => u64::from(woken),
+            _ => {
+                self.check(false);
+                return;
             }
-            Err(_) => self.check(false),
-        }
+        };
+        self.back.fetch_add(tags, SeqCst);
+        self.told.fetch_add(told, SeqCst);
     }
 
     /// Keeps what the holder writes into the tag's slot.
@@ -98,8 +101,8 @@ impl Tally {
     }
 
     /// Checks that the slot of a tag contains what was written last.
-    pub(crate) fn reads(&self, tag: u32, found: Result<u64, TagFault>) {
+    pub(crate) fn reads(&self, tag: u32, found: Answer) {
         let written = self.written.get(tag as usize).map(|it| it.load(SeqCst));
-        self.check(found.ok() == written);
+        self.check(Some(found) == written.map(Answer::Value));
     }
 }

@@ -1,6 +1,6 @@
--- The hand remains one of the tags'.
-use Rattle.tag_sets.specs.Hands.{IsHandOf}
+-- The hand remains one of the pool's.
+use Rattle.tag_pool.specs.Hands.{IsHandOf}
 use Rattle.request_pool.proofs.pool.serve.Given as goal
 
 abbrev pub invariant-loop-number : goal.invariant-loop-number
-invariant-loop-number g l = IsHandOf l.tags l.hand
+invariant-loop-number g l = IsHandOf l.pool l.hand

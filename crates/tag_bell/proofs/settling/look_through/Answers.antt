@@ -1,8 +1,9 @@
 -- Each word in which no free tag is seen is done with.
 use Rattle.std.specs.Prelude.{◌*◌, ◌+◌, ◌<◌, ◌≡◌}
-use Rattle.tag_bell.proofs.Uses.{ap, arith, Layout, layout_of, nobody, words, ◌∙◌}
+use Rattle.tag_bell.proofs.Uses.{ap, arith, inr, Layout, layout_of, nobody, words, ◌∙◌}
 use Rattle.tag_bell.proofs.Choosing.{few_after}
 use Rattle.tag_bell.proofs.Rung.{one_more, tells_after, tells_within}
+use Rattle.tag_bell.proofs.Seeing.{saw_before, saw_after}
 use Rattle.tag_bell.proofs.settling.look_through.Goals as goal
 
 pub returns-then-has_free-clause-told : goal.returns-then-has_free-clause-told
@@ -22,6 +23,13 @@ returns-then-has_free-clause-few g c =
     let so_far = tells_after (2 * w) 2 nobody c.args.caller.now c.loop-word.caller new c.loop-word.invariant.told
     c.has_free.ensures.told in
     few_after 1 c.see_to.result c.args.caller.now new c.see_to.new.caller so_far.steps so_far.only c.see_to.ensures.few
+
+pub returns-then-has_free-clause-saw : goal.returns-then-has_free-clause-saw
+returns-then-has_free-clause-saw g c =
+    let first = c.args.caller.now in let old = c.loop-word.caller in let new = c.has_free.new.caller in
+    let so_far = c.loop-word.invariant.told in let tells = c.see_to.ensures.told in
+    inr (saw_before first new c.see_to.new.caller tells.steps tells.only
+    (saw_after first old new so_far.steps so_far.only (c.has_free.ensures.free c.if-has_free.true)))
 
 pub loop-word-preserved : goal.loop-word-preserved
 loop-word-preserved g c =

@@ -1,8 +1,9 @@
 -- Where nobody is listed, the looks at the lists end what the caller has to see to.
 use Rattle.std.specs.Prelude.{◌*◌, ◌+◌}
-use Rattle.tag_bell.proofs.Uses.{arith, layout_of, le_or_l, le_or_r, words}
+use Rattle.tag_bell.proofs.Uses.{arith, inl, inr, layout_of, le_or_l, le_or_r, words, ⊎_elim}
 use Rattle.tag_bell.proofs.Choosing.{few_after}
 use Rattle.tag_bell.proofs.Rung.{tells_after, tells_within, each_list}
+use Rattle.tag_bell.proofs.Seeing.{saw_after}
 use Rattle.tag_bell.proofs.settling.settle.Goals as goal
 
 pub returns-then-sleepers-listeners-eq0-clause-done : goal.returns-then-sleepers-listeners-eq0-clause-done
@@ -21,3 +22,8 @@ pub returns-clause-few : goal.returns-clause-few
 returns-clause-few g c = let seen = c.sight_lists-sleepers in let looks = seen.ensures.told in
     few_after 1 c.look_through.result c.args.caller.now seen.new.caller c.look_through.new.caller looks.steps looks.only
     c.look_through.ensures.few
+
+pub returns-clause-saw : goal.returns-clause-saw
+returns-clause-saw g c = let seen = c.sight_lists-sleepers in let looks = seen.ensures.told in
+    ⊎_elim (λ none. inl none) (λ saw. inr (saw_after c.args.caller.now seen.new.caller c.look_through.new.caller
+    looks.steps looks.only saw)) c.look_through.ensures.saw

@@ -1,7 +1,7 @@
 -- The pool that fills the handle was opened with the converted options; each early return has a reason of its own.
 use Rattle.std.specs.Prelude.{◌≡◌, ◌⊎◌}
 use Rattle.tag_c.proofs.Uses.{arc_value, arith, BadFlag, CacheTooLarge, FailsFirst, Handle, inl, inr, Memory, None, NotEmpty, NotOpened, Object, open_checks, Opens, OpensPool, Option, options_of, PassesAll, refl, RefusesOpen, Some, subst, sym, ◌∙◌}
-use Rattle.tag_queue.specs.declared.queue.Options.{Options}
+use Rattle.tag_pool.specs.declared.options.Options.{Options}
 use Rattle.tag_c.proofs.Refusing.{refuses, refused, fault_below}
 use Rattle.tag_c.proofs.Flags.{is_some_of, not_some_of, empty_of}
 use Rattle.tag_c.proofs.pools.open_into.Goals as goal
@@ -58,7 +58,7 @@ returns-in-Err-clause-why c = λ _. let code = c.code-in-Err in let requested = 
         omega (arith, c.if-keeping-gt-WHILE_HOLDING.false),
         omega (arith, c.if-most-gt-MAX_CACHE.false),
       ),
-      subst (λ (o : Options). let checks = open_checks requested.total requested.reserved o in
+      subst (λ (o : Options). let checks = open_checks o in
           FailsFirst checks fault ⊎ (PassesAll checks × (fault ≡ Memory))) c.read_options.ensures
           c.in-Err.ensures.refusals.first,
     ))))
@@ -77,8 +77,7 @@ returns-in_default-clause-why c = λ _. let code = c.code-in_default in
         omega (arith, c.if-most-gt-MAX_CACHE.false),
       ),
       inr (
-        subst (λ (o : Options). PassesAll (open_checks c.args.requested.now.total c.args.requested.now.reserved o))
-            c.read_options.ensures c.in-Ok.ensures.ok.can,
+        subst (λ (o : Options). PassesAll (open_checks o)) c.read_options.ensures c.in-Ok.ensures.ok.can,
         refl,
       ),
     ))))
@@ -90,8 +89,8 @@ returns-in_default-clause-not_empty c = λ some. let pool = c.args.pool.now in
 pub returns-clause-opens : goal.returns-clause-opens
 returns-clause-opens c = λ _. let requested = c.args.requested.now in let state = arc_value c.in-Ok.opened.shared in
     let most = c.args.most in let keeping = c.args.keeping in
-    let opens : Opens requested.total requested.reserved (options_of requested) state.tags c.in-Ok.opened.spare.items =
-    subst (λ (o : Options). Opens requested.total requested.reserved o state.tags c.in-Ok.opened.spare.items)
+    let opens : Opens (options_of requested) state.tags c.in-Ok.opened.spare.items =
+    subst (λ (o : Options). Opens o state.tags c.in-Ok.opened.spare.items)
     c.read_options.ensures c.in-Ok.ensures.ok in
     subst (λ (x : Option Object). OpensPool requested most keeping x) (sym c.of.ensures)
     (subst (λ (x : Object). OpensPool requested most keeping (Some x)) (sym c.in-Ok-new.ensures.ok) (

@@ -1,6 +1,6 @@
 -- The pool's handle keeps its pool in every case; the other was empty, and is filled only with a hand of it.
 use Rattle.std.specs.Prelude.{◌≡◌}
-use Rattle.tag_c.proofs.Uses.{BadHandle, GaveBackBy, Handle, inl, inr, IsMemberIn, IsPoolOf, JoinsKind, JoinsPool, Memory, None, NotEmpty, NotOpened, Object, Option, refl, RefusesJoin, rules, Some, subst, sym, Tags, ℕ, ◌∙◌}
+use Rattle.tag_c.proofs.Uses.{BadHandle, GaveBackBy, Handle, inl, inr, IsMemberIn, IsPoolOf, JoinsKind, JoinsPool, Memory, None, NotEmpty, NotOpened, Object, Option, refl, RefusesJoin, rules, Some, subst, sym, Pool, ℕ, ◌∙◌}
 use Rattle.tag_c.proofs.Calling.{stored}
 use Rattle.tag_c.proofs.Refusing.{refuses, refused, no_pool, join_below, refuses_join, joiner, joined}
 use Rattle.tag_c.proofs.Flags.{is_some_of, not_some_of, empty_of}
@@ -8,7 +8,7 @@ use Rattle.tag_c.proofs.pools.tags_join.Goals as goal
 
 -- the object is a hand
 abbrev IsHand : Object → Type 0
-IsHand object = (tags : Tags ℕ) × IsMemberIn tags object.kind
+IsHand object = (tags : Pool ℕ) × IsMemberIn tags object.kind
 
 -- a handle that is not full is empty
 empty : (handle : Handle) → handle.full ≡ 0 → handle.object.value ≡ None

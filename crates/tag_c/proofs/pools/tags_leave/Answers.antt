@@ -1,11 +1,11 @@
 -- Only an object that is a hand is taken apart; a pool is put back, and an empty handle stays empty.
 use Rattle.std.specs.Prelude.{◌≡◌}
-use Rattle.tag_c.proofs.Uses.{BadHandle, inl, IsHandIn, IsMemberIn, None, Object, Option, refl, RefusesLeave, rules, subst, sym, Tags, ℕ}
+use Rattle.tag_c.proofs.Uses.{BadHandle, inl, IsHandIn, IsMemberIn, None, Object, Option, refl, RefusesLeave, rules, subst, sym, Pool, ℕ}
 use Rattle.tag_c.proofs.Refusing.{refuses, no_hand, hand_there}
 use Rattle.tag_c.proofs.pools.tags_leave.Goals as goal
 
 abbrev IsHand : Object → Type 0
-IsHand object = (tags : Tags ℕ) × IsMemberIn tags object.kind
+IsHand object = (tags : Pool ℕ) × IsMemberIn tags object.kind
 
 pub returns-in_default-clause-why : goal.returns-in_default-clause-why
 returns-in_default-clause-why c = λ _. let value = c.args.hand.now.object.value in

@@ -1,48 +1,39 @@
 //! Clears that keep their tags, and those that do not.
-use crate::tests::answers::Answer::{
-    Busy, Found, Group, Held, Keeps, Left, Nothing, Refused, Tag, Woken,
-};
-use crate::tests::cache::callers::Terms;
-use crate::tests::cache::stages::{expect, expect_steps, one};
-use crate::tests::calls::Call;
+use crate::tests::answers::Answer;
+use crate::tests::answers::Answer::{Done, Held, Keeps, Nothing, Refused, Tag, Told, WasTold};
 use crate::tests::calls::Call::{
-    Clear, FinishWait, Flush, Get, GetReserved, Holds, Kept, Post, PrepareWait, Read, Take, Wakes,
-    Write,
+    Busy, Clear, Flush, Get, GetReserved, GetUp, Holds, Kept, ListSelf, Post, Read, Take, Write,
 };
+use crate::tests::shared::stages::{expect, expect_steps, pool};
 use crate::tests::steps::Step::{Calls, Clears, Gets, Meet};
-use crate::tests::totals::options;
 use std::test::Fail;
-use tag_cache::Keeping;
-use tag_sets::TagFault::{NoSuchTag, NotHeld, NotPosted};
-use wake_book::Left as Leave;
+use tag_pool::TagFault::{NoSuchTag, NotHeld, NotPosted};
+use tag_pool::{LISTENERS, SLEEPERS};
 
 /// The second caller, a bare hand, does not find a kept tag.
 #[test]
 fn a_kept_tag_is_found_by_its_cache_alone(rt: HostRuntime) -> Result<(), Fail> {
     expect(
         &rt,
-        4,
-        0,
-        options(2),
-        one(2),
+        pool(4, 0, 2).with_caches(1, 2),
         &[
             (0, Get, Tag(0)),
             (0, Get, Tag(1)),
             (0, Get, Tag(2)),
-            (0, Clear(2), Woken(0)),
+            (0, Clear(2), Told(0)),
             (0, Kept, Keeps(1, 3, 1, 0)),
             (0, Holds(2), Held(false)),
             (1, Get, Tag(3)),
             (1, Get, Nothing),
-            (0, Clear(1), Woken(0)),
+            (0, Clear(1), Told(0)),
             (0, Kept, Keeps(2, 3, 2, 0)),
             // As many tags are kept as may be, so these go back and this one is kept.
-            (0, Clear(0), Woken(0)),
+            (0, Clear(0), Told(0)),
             (0, Kept, Keeps(1, 3, 3, 0)),
             (1, Get, Tag(1)),
             (0, Get, Tag(0)),
             (0, Kept, Keeps(0, 4, 3, 1)),
-            (0, Flush, Woken(0)),
+            (0, Flush, Told(0)),
             (0, Kept, Keeps(0, 4, 3, 1)),
             (1, Get, Tag(2)),
             (1, Kept, Nothing),
@@ -54,13 +45,10 @@ fn a_kept_tag_is_found_by_its_cache_alone(rt: HostRuntime) -> Result<(), Fail> {
 fn a_kept_tag_is_not_held(rt: HostRuntime) -> Result<(), Fail> {
     expect(
         &rt,
-        4,
-        0,
-        options(2),
-        one(2),
+        pool(4, 0, 2).with_caches(1, 2),
         &[
             (0, Get, Tag(0)),
-            (0, Clear(0), Woken(0)),
+            (0, Clear(0), Told(0)),
             (0, Clear(0), Refused(NotHeld)),
             (0, Read(0), Refused(NotHeld)),
             (0, Write(0, 1), Refused(NotHeld)),
@@ -82,41 +70,34 @@ fn a_kept_tag_is_not_held(rt: HostRuntime) -> Result<(), Fail> {
 fn a_clear_that_finds_a_waiter_gives_all_back(rt: HostRuntime) -> Result<(), Fail> {
     expect(
         &rt,
-        4,
-        0,
-        options(2),
-        one(4),
+        pool(4, 0, 2).with_caches(1, 4),
         &[
             (0, Get, Tag(0)),
             (0, Get, Tag(1)),
             (0, Get, Tag(2)),
-            (0, Clear(0), Woken(0)),
-            (1, PrepareWait, Group(0)),
-            (0, Clear(1), Woken(1)),
+            (0, Clear(0), Told(0)),
+            (1, ListSelf(SLEEPERS), Done),
+            (0, Clear(1), Told(0b10)),
             (0, Kept, Keeps(0, 3, 2, 0)),
-            (1, Wakes, Found(2, 2, 1, 1)),
-            (1, FinishWait, Left(Leave::Woken)),
-            (0, Clear(2), Woken(0)),
+            (1, GetUp(SLEEPERS), WasTold(true)),
+            (0, Clear(2), Told(0)),
             (0, Kept, Keeps(1, 3, 3, 0)),
         ],
     )
 }
 
 #[test]
-fn a_flush_wakes(rt: HostRuntime) -> Result<(), Fail> {
+fn a_flush_tells(rt: HostRuntime) -> Result<(), Fail> {
     expect(
         &rt,
-        4,
-        0,
-        options(2),
-        one(4),
+        pool(4, 0, 2).with_caches(1, 4),
         &[
             (0, Get, Tag(0)),
-            (0, Clear(0), Woken(0)),
-            (1, PrepareWait, Group(0)),
-            (0, Flush, Woken(1)),
-            (0, Flush, Woken(0)),
-            (1, FinishWait, Left(Leave::Woken)),
+            (0, Clear(0), Told(0)),
+            (1, ListSelf(LISTENERS), Done),
+            (0, Flush, Told(0b10)),
+            (0, Flush, Told(0)),
+            (1, GetUp(LISTENERS), WasTold(true)),
         ],
     )
 }
@@ -125,13 +106,10 @@ fn a_flush_wakes(rt: HostRuntime) -> Result<(), Fail> {
 fn a_cache_for_no_tag_is_a_bare_hand(rt: HostRuntime) -> Result<(), Fail> {
     expect(
         &rt,
-        4,
-        0,
-        options(2),
-        one(0),
+        pool(4, 0, 2).with_caches(1, 0),
         &[
             (0, Get, Tag(0)),
-            (0, Clear(0), Woken(0)),
+            (0, Clear(0), Told(0)),
             (0, Kept, Keeps(0, 1, 1, 0)),
             (1, Get, Tag(0)),
         ],
@@ -143,10 +121,7 @@ fn a_cache_for_no_tag_is_a_bare_hand(rt: HostRuntime) -> Result<(), Fail> {
 fn a_cache_keeps_a_window_of_tags(rt: HostRuntime) -> Result<(), Fail> {
     expect_steps(
         &rt,
-        128,
-        0,
-        options(2),
-        one(100),
+        pool(128, 0, 2).with_caches(1, 100),
         &[
             Gets(0, 70),
             Clears(0, 70),
@@ -164,38 +139,27 @@ fn a_cache_keeps_a_window_of_tags(rt: HostRuntime) -> Result<(), Fail> {
 fn reserved_tags_are_not_kept(rt: HostRuntime) -> Result<(), Fail> {
     expect(
         &rt,
-        4,
-        2,
-        options(2),
-        one(4),
+        pool(4, 2, 2).with_caches(1, 4),
         &[
             (0, GetReserved, Tag(0)),
             (0, Get, Tag(2)),
-            (0, Clear(0), Woken(0)),
+            (0, Clear(0), Told(0)),
             (0, Kept, Keeps(0, 2, 1, 0)),
-            (0, Clear(2), Woken(0)),
+            (0, Clear(2), Told(0)),
             (0, Kept, Keeps(1, 2, 2, 0)),
             (1, GetReserved, Tag(1)),
             (1, GetReserved, Tag(0)),
             (1, GetReserved, Nothing),
-            (1, Call::Busy, Busy(3, 7, 0)),
+            (1, Busy, Answer::Busy(3, 7, 0)),
         ],
     )
 }
 
 #[test]
 fn two_caches_meet(rt: HostRuntime) -> Result<(), Fail> {
-    let two = Terms {
-        caches: 2,
-        most: 8,
-        keeping: Keeping::Always,
-    };
     expect_steps(
         &rt,
-        16,
-        0,
-        options(2),
-        two,
+        pool(16, 0, 2).with_caches(2, 8),
         &[
             Gets(0, 4),
             Gets(1, 4),

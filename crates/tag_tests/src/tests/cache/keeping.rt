@@ -1,35 +1,29 @@
 //! Caches that keep tags only while their user holds another.
-use crate::tests::answers::Answer::{Done, Group, Keeps, Left, Tag, Woken};
-use crate::tests::cache::stages::{careful, expect};
-use crate::tests::calls::Call::{
-    Clear, FinishWait, Get, GetReserved, Kept, Post, PrepareWait, Take,
-};
-use crate::tests::totals::options;
+use crate::tests::answers::Answer::{Done, Keeps, Tag, Told};
+use crate::tests::calls::Call::{Clear, Get, GetReserved, Kept, ListSelf, Post, Take};
+use crate::tests::shared::stages::{expect, pool};
 use std::test::Fail;
-use wake_book::Left as Leave;
+use tag_pool::SLEEPERS;
 
 #[test]
 fn the_last_clear_gives_all_back(rt: HostRuntime) -> Result<(), Fail> {
     expect(
         &rt,
-        4,
-        0,
-        options(2),
-        careful(4),
+        pool(4, 0, 2).with_caches(1, 4).careful(),
         &[
             (0, Get, Tag(0)),
-            (0, Clear(0), Woken(0)),
+            (0, Clear(0), Told(0)),
             (0, Kept, Keeps(0, 1, 1, 0)),
             (0, Get, Tag(0)),
             (0, Get, Tag(1)),
             (0, Get, Tag(2)),
-            (0, Clear(0), Woken(0)),
-            (0, Clear(2), Woken(0)),
+            (0, Clear(0), Told(0)),
+            (0, Clear(2), Told(0)),
             (0, Kept, Keeps(2, 4, 3, 0)),
             (0, Get, Tag(0)),
-            (0, Clear(1), Woken(0)),
+            (0, Clear(1), Told(0)),
             (0, Kept, Keeps(2, 5, 4, 1)),
-            (0, Clear(0), Woken(0)),
+            (0, Clear(0), Told(0)),
             (0, Kept, Keeps(0, 5, 5, 1)),
             (1, Get, Tag(0)),
         ],
@@ -40,14 +34,11 @@ fn the_last_clear_gives_all_back(rt: HostRuntime) -> Result<(), Fail> {
 fn the_last_post_gives_all_back(rt: HostRuntime) -> Result<(), Fail> {
     expect(
         &rt,
-        4,
-        0,
-        options(2),
-        careful(4),
+        pool(4, 0, 2).with_caches(1, 4).careful(),
         &[
             (0, Get, Tag(0)),
             (0, Get, Tag(1)),
-            (0, Clear(1), Woken(0)),
+            (0, Clear(1), Told(0)),
             (0, Kept, Keeps(1, 2, 1, 0)),
             (0, Post(0), Done),
             (0, Kept, Keeps(0, 2, 1, 0)),
@@ -61,37 +52,30 @@ fn the_last_post_gives_all_back(rt: HostRuntime) -> Result<(), Fail> {
 fn a_reserved_tag_does_not_count(rt: HostRuntime) -> Result<(), Fail> {
     expect(
         &rt,
-        4,
-        1,
-        options(2),
-        careful(4),
+        pool(4, 1, 2).with_caches(1, 4).careful(),
         &[
             (0, GetReserved, Tag(0)),
             (0, Get, Tag(1)),
-            (0, Clear(1), Woken(0)),
+            (0, Clear(1), Told(0)),
             (0, Kept, Keeps(0, 2, 1, 0)),
         ],
     )
 }
 
-/// A waiter that came after a tag was kept is woken at the next clear.
+/// A hand that came to wait after a tag was kept is told by the next clear.
 #[test]
 fn a_thread_that_keeps_tags_has_a_clear_to_come(rt: HostRuntime) -> Result<(), Fail> {
     expect(
         &rt,
-        2,
-        0,
-        options(2),
-        careful(4),
+        pool(2, 0, 2).with_caches(1, 4).careful(),
         &[
             (0, Get, Tag(0)),
             (0, Get, Tag(1)),
-            (0, Clear(1), Woken(0)),
-            (1, PrepareWait, Group(0)),
+            (0, Clear(1), Told(0)),
+            (1, ListSelf(SLEEPERS), Done),
             (0, Kept, Keeps(1, 2, 1, 0)),
-            (0, Clear(0), Woken(1)),
+            (0, Clear(0), Told(0b10)),
             (0, Kept, Keeps(0, 2, 2, 0)),
-            (1, FinishWait, Left(Leave::Woken)),
         ],
     )
 }

@@ -1,23 +1,20 @@
 //! Slots through a cache, and tags that pass from thread to thread.
-use crate::tests::answers::Answer::{Done, Keeps, Refused, Tag, Value, Woken};
-use crate::tests::cache::stages::{expect, one};
+use crate::tests::answers::Answer::{Done, Keeps, Refused, Tag, Told, Value};
 use crate::tests::calls::Call::{Clear, Get, Kept, Post, Read, Take, Write};
-use crate::tests::totals::{FILL, options};
+use crate::tests::shared::stages::{expect, pool};
+use crate::tests::totals::FILL;
 use std::test::Fail;
-use tag_sets::TagFault::NotPosted;
+use tag_pool::TagFault::NotPosted;
 
 #[test]
 fn a_kept_tag_keeps_its_value(rt: HostRuntime) -> Result<(), Fail> {
     expect(
         &rt,
-        4,
-        0,
-        options(1),
-        one(4),
+        pool(4, 0, 1).with_caches(1, 4),
         &[
             (0, Get, Tag(0)),
             (0, Write(0, 7), Value(FILL)),
-            (0, Clear(0), Woken(0)),
+            (0, Clear(0), Told(0)),
             (0, Get, Tag(0)),
             (0, Read(0), Value(7)),
             (0, Write(0, 8), Value(7)),
@@ -29,10 +26,7 @@ fn a_kept_tag_keeps_its_value(rt: HostRuntime) -> Result<(), Fail> {
 fn a_taken_tag_is_kept_like_any_other(rt: HostRuntime) -> Result<(), Fail> {
     expect(
         &rt,
-        4,
-        0,
-        options(2),
-        one(4),
+        pool(4, 0, 2).with_caches(1, 4),
         &[
             (0, Get, Tag(0)),
             (0, Write(0, 7), Value(FILL)),
@@ -43,7 +37,7 @@ fn a_taken_tag_is_kept_like_any_other(rt: HostRuntime) -> Result<(), Fail> {
             (1, Post(0), Done),
             (0, Take(0), Done),
             (0, Read(0), Value(7)),
-            (0, Clear(0), Woken(0)),
+            (0, Clear(0), Told(0)),
             (0, Kept, Keeps(1, 1, 1, 0)),
         ],
     )
@@ -54,24 +48,21 @@ fn a_taken_tag_is_kept_like_any_other(rt: HostRuntime) -> Result<(), Fail> {
 fn a_thread_that_only_clears_keeps_few(rt: HostRuntime) -> Result<(), Fail> {
     expect(
         &rt,
-        4,
-        0,
-        options(2),
-        one(2),
+        pool(4, 0, 2).with_caches(1, 2),
         &[
             (1, Get, Tag(0)),
             (1, Post(0), Done),
             (0, Take(0), Done),
-            (0, Clear(0), Woken(0)),
+            (0, Clear(0), Told(0)),
             (1, Get, Tag(1)),
             (1, Post(1), Done),
             (0, Take(1), Done),
-            (0, Clear(1), Woken(0)),
+            (0, Clear(1), Told(0)),
             (0, Kept, Keeps(2, 0, 2, 0)),
             (1, Get, Tag(2)),
             (1, Post(2), Done),
             (0, Take(2), Done),
-            (0, Clear(2), Woken(0)),
+            (0, Clear(2), Told(0)),
             (0, Kept, Keeps(1, 0, 3, 0)),
             (1, Get, Tag(0)),
             (1, Get, Tag(1)),

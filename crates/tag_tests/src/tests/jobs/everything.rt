@@ -3,45 +3,56 @@ ghost use Rattle.std.specs.Prelude.{◌≤◌};
 
 use crate::tests::allocator::TagAllocator;
 use crate::tests::answers::Answer;
-use crate::tests::calls::{Call, act};
-use crate::tests::jobs::waits::wait_in_vain;
+use crate::tests::calls::Call;
 use crate::tests::jobs::win_and_clear;
 use crate::tests::tally::Tally;
 use std::sync::Wait;
 use std::sync::atomic::Ordering::SeqCst;
 
 /// Counts a tag that was won, and writes its slot.
-fn mark<T: TagAllocator>(tags: &T, caller: &mut T::Caller, tally: &Tally, tag: u32, value: u64)
+fn mark<R: Wait, T: TagAllocator>(
+    rt: &R,
+    tags: &T,
+    caller: &mut T::Caller,
+    tally: &Tally,
+    tag: u32,
+    value: u64,
+)
     requires { T.is_own tags.now caller.old }
     ensures { T.is_own tags.now caller.new }
 {
     tally.wins(tag);
-    tally.check(tags.write(caller, tag, value).is_ok());
-    tally.writes(tag, value);
+    match tags.act(rt, caller, Call::Write(tag, value)) {
+        Answer::Value(_) => tally.writes(tag, value),
+        _ => tally.check(false),
+    }
 }
 
-/// Marks a tag, reads its slot again after other calls, and then posts or clears the tag. `value / 8` counts the turns
+/// Marks a tag, reads its slot again after another call, and then posts or clears the tag. `value / 8` counts the turns
 /// through the eight calls.
-fn spend<T: TagAllocator>(tags: &T, caller: &mut T::Caller, tally: &Tally, tag: u32, value: u64)
+fn spend<R: Wait, T: TagAllocator>(
+    rt: &R,
+    tags: &T,
+    caller: &mut T::Caller,
+    tally: &Tally,
+    tag: u32,
+    value: u64,
+)
     requires { T.is_own tags.now caller.old }
     ensures { T.is_own tags.now caller.new }
 {
-    mark(tags, caller, tally, tag, value);
-    let found = tags.wakes(caller);
-    tally.check(found.charged <= found.counted);
+    mark(rt, tags, caller, tally, tag, value);
     if value / 8 % 8 == 1 {
-        tally.check(tags.agrees(caller, tag));
+        tally.check(tags.act(rt, caller, Call::Agrees(tag)) == Answer::Held(true));
     }
-    tally.check(tags.read(caller, tag) == Ok(value));
+    tally.check(tags.act(rt, caller, Call::Read(tag)) == Answer::Value(value));
     tally.goes(tag);
-    match value / 8 % 4 {
-        0 => {
-            tally.posted.fetch_add(1, SeqCst);
-            tally.check(tags.post(caller, tag).is_ok());
-        }
-        1 => tally.cleared(1, tags.clear_uncounted(caller, tag)),
-        _ => tally.cleared(1, tags.clear(caller, tag)),
+    if value / 8 % 4 == 0 {
+        tally.posted.fetch_add(1, SeqCst);
+        tally.check(tags.act(rt, caller, Call::Post(tag)) == Answer::Done);
+        return;
     }
+    tally.cleared(1, tags.act(rt, caller, Call::Clear(tag)));
 }
 
 /// Returns the tags of a batch of up to three, and how many they are.
@@ -60,7 +71,8 @@ fn tags_of(first: u32, mask: u64) -> ([u32; 3], usize)
 }
 
 /// Marks the tags of a batch, and clears them at once.
-fn spend_batch<T: TagAllocator>(
+fn spend_batch<R: Wait, T: TagAllocator>(
+    rt: &R,
     tags: &T,
     caller: &mut T::Caller,
     tally: &Tally,
@@ -71,26 +83,26 @@ fn spend_batch<T: TagAllocator>(
     ensures { T.is_own tags.now caller.new }
 {
     for tag in won {
-        mark(tags, caller, tally, *tag, value);
+        mark(rt, tags, caller, tally, *tag, value);
     }
     for tag in won {
-        tally.check(tags.read(caller, *tag) == Ok(value));
+        tally.check(tags.act(rt, caller, Call::Read(*tag)) == Answer::Value(value));
         tally.goes(*tag);
     }
     tally.cleared(won.len() as u64, tags.clear_batch(caller, won));
 }
 
 /// Takes each posted tag, whose slot names who posted it, and clears it.
-fn take_posted<T: TagAllocator>(tags: &T, caller: &mut T::Caller, tally: &Tally)
+fn take_posted<R: Wait, T: TagAllocator>(rt: &R, tags: &T, caller: &mut T::Caller, tally: &Tally)
     requires { T.is_own tags.now caller.old }
     ensures { T.is_own tags.now caller.new }
 {
     for tag in 0..tally.count {
-        if tags.take(caller, tag).is_ok() {
+        if tags.act(rt, caller, Call::Take(tag)) == Answer::Done {
             tally.takes(tag);
-            tally.reads(tag, tags.read(caller, tag));
+            tally.reads(tag, tags.act(rt, caller, Call::Read(tag)));
             tally.goes(tag);
-            tally.cleared(1, tags.clear(caller, tag));
+            tally.cleared(1, tags.act(rt, caller, Call::Clear(tag)));
         }
     }
 }
@@ -107,11 +119,11 @@ fn win_and_spend<R: Wait, T: TagAllocator>(
     requires { T.is_own tags.now caller.old }
     ensures { T.is_own tags.now caller.new }
 {
-    match act(rt, tags, caller, call) {
-        Answer::Tag(tag) => spend(tags, caller, tally, tag, value),
+    match tags.act(rt, caller, call).won() {
+        Answer::Tag(tag) => spend(rt, tags, caller, tally, tag, value),
         Answer::Batch(first, mask) => {
             let (won, count) = tags_of(first, mask);
-            spend_batch(tags, caller, tally, &won[..count], value);
+            spend_batch(rt, tags, caller, tally, &won[..count], value);
         }
         Answer::Nothing => (),
         _ => tally.check(false),
@@ -130,11 +142,13 @@ pub(crate) fn do_everything<R: Wait, T: TagAllocator>(
     requires { T.is_own tags.now caller.old }
     ensures { T.is_own tags.now caller.new }
 {
-    tags.place(caller);
+    tags.act(rt, caller, Call::Place);
     for round in 0..rounds {
         match calls[(round % 8) as usize] {
-            Call::Take(_) => take_posted(tags, caller, tally),
-            Call::PrepareWait => wait_in_vain(rt, tags, caller, tally),
+            Call::Take(_) => take_posted(rt, tags, caller, tally),
+            Call::WaitInVain => {
+                tally.check(tags.act(rt, caller, Call::WaitInVain).is_granted());
+            }
             call => {
                 let value = ((number as u64) << 32) | u64::from(round);
                 win_and_spend(rt, tags, caller, tally, call, value);
@@ -157,7 +171,7 @@ pub(crate) fn keep<R: Wait, T: TagAllocator>(
 {
     for _ in rt.forever() {
         let last = tally.finished.load(SeqCst) == workers as u64;
-        take_posted(tags, caller, tally);
+        take_posted(rt, tags, caller, tally);
         if last {
             break;
         }

@@ -1,5 +1,7 @@
 //! Threads that wait, and one that wakes another.
 use crate::tests::allocator::TagAllocator;
+use crate::tests::answers::Answer;
+use crate::tests::calls::Call;
 use crate::tests::jobs::wait_until;
 use crate::tests::tally::Tally;
 use std::sync::Wait;
@@ -10,21 +12,7 @@ use std::thread;
 /// How often a thread yields before it takes another for asleep: some seconds.
 const PATIENCE: u32 = 1 << 24;
 
-/// Starts a wait and gives it up.
-pub(crate) fn wait_in_vain<R: Wait, T: TagAllocator>(
-    rt: &R,
-    tags: &T,
-    caller: &mut T::Caller,
-    tally: &Tally,
-)
-    requires { T.is_own tags.now caller.old }
-    ensures { T.is_own tags.now caller.new }
-{
-    tally.check(tags.prepare_wait(caller).is_ok());
-    tally.check(tags.finish_wait(rt, caller).is_ok());
-}
-
-/// Enters and leaves a wait until the workers have finished.
+/// Begins and ends a wait until the workers have finished.
 pub(crate) fn wait_on_and_off<R: Wait, T: TagAllocator>(
     rt: &R,
     tags: &T,
@@ -39,7 +27,7 @@ pub(crate) fn wait_on_and_off<R: Wait, T: TagAllocator>(
         if tally.finished.load(SeqCst) == workers as u64 {
             break;
         }
-        wait_in_vain(rt, tags, caller, tally);
+        tally.check(tags.act(rt, caller, Call::WaitInVain).is_granted());
     }
 }
 
@@ -53,12 +41,8 @@ pub(crate) fn wait_for_a_tag<R: Wait, T: TagAllocator>(
     requires { T.is_own tags.now caller.old }
     ensures { T.is_own tags.now caller.new }
 {
-    for _ in rt.forever() {
-        if tally.won.load(SeqCst) != 0 {
-            break;
-        }
-    }
-    tally.check(tags.get_blocking(rt, caller) == Ok(0));
+    wait_until(rt, &tally.won, 1);
+    tally.check(tags.act(rt, caller, Call::GetBlocking) == Answer::Tag(0));
 }
 
 /// Gets tag 0, and clears it once somebody waits.
@@ -71,18 +55,18 @@ pub(crate) fn clear_for_a_waiter<R: Wait, T: TagAllocator>(
     requires { T.is_own tags.now caller.old }
     ensures { T.is_own tags.now caller.new }
 {
-    tally.check(tags.get(caller) == Ok(Some(0)));
+    tally.check(tags.act(rt, caller, Call::Get) == Answer::Tag(0));
     tally.wins(0);
     for _ in rt.forever() {
-        if tags.wakes(caller).active > 0 {
+        if tags.act(rt, caller, Call::FindsWaiters) == Answer::Waiters(true) {
             break;
         }
     }
-    tally.cleared(1, tags.clear(caller, 0));
+    tally.cleared(1, tags.act(rt, caller, Call::Clear(0)));
 }
 
-/// Gets tag 0 in each round, and clears it a little later, before or after the other thread has begun to wait. A round in
-/// which the other thread doesn't come to the tag counts as wrong; a second clear then wakes it.
+/// Gets tag 0 in each round, and clears it a little later, before or after the other thread has begun to wait. A
+/// round in which the other thread doesn't come to the tag counts as wrong; a second clear then wakes it.
 pub(crate) fn clear_once<R: Wait, T: TagAllocator>(
     rt: &R,
     tags: &T,
@@ -96,16 +80,17 @@ pub(crate) fn clear_once<R: Wait, T: TagAllocator>(
     let mut wins = 0u64;
     for round in 0..rounds {
         wins = wins.wrapping_add(2);
-        tally.check(tags.get(caller) == Ok(Some(0)));
+        tally.check(tags.act(rt, caller, Call::Get) == Answer::Tag(0));
         tally.wins(0);
         for _ in 0..round % 512 {
             tally.check(tally.won.load(SeqCst) < wins);
         }
         tally.goes(0);
-        tally.cleared(1, tags.clear(caller, 0));
+        tally.cleared(1, tags.act(rt, caller, Call::Clear(0)));
         if !comes_to(&tally.won, wins) {
             tally.check(false);
-            tally.check(tags.get(caller) == Ok(Some(0)) && tags.clear(caller, 0).is_ok());
+            tags.act(rt, caller, Call::Get);
+            tags.act(rt, caller, Call::Clear(0));
         }
         wait_until(rt, &tally.back, wins);
     }
@@ -125,10 +110,10 @@ pub(crate) fn wait_for_one_clear<R: Wait, T: TagAllocator>(
     let mut wins = 1u64;
     for _ in 0..rounds {
         wait_until(rt, &tally.won, wins);
-        tally.check(tags.get_blocking(rt, caller) == Ok(0));
+        tally.check(tags.act(rt, caller, Call::GetBlocking) == Answer::Tag(0));
         tally.wins(0);
         tally.goes(0);
-        tally.cleared(1, tags.clear(caller, 0));
+        tally.cleared(1, tags.act(rt, caller, Call::Clear(0)));
         wins = wins.wrapping_add(2);
     }
 }

@@ -1,12 +1,14 @@
 //! Clears, and what they count.
-use crate::tests::answers::Answer::{Found, Group, Held, Refused, Tag, Woken};
-use crate::tests::calls::Call::{Clear, ClearBoth, ClearUncounted, Get, Holds, PrepareWait, Wakes};
-use crate::tests::queue::stages::{expect, expect_steps, expect_totals};
+use crate::tests::answers::Answer::{Batch, Found, Group, Refused, Tag, Woken};
+use crate::tests::calls::Call::{
+    Clear, ClearMask, ClearUncounted, Get, GetBatch, PrepareWait, Wakes,
+};
+use crate::tests::queue::stages::{all_totals, expect, expect_totals, in_words, options};
 use crate::tests::steps::Step::{Calls, ClearBatch, Gets};
-use crate::tests::totals::{all_totals, options, totals};
+use crate::tests::totals::totals;
 use std::test::Fail;
+use tag_pool::TagFault::{NoSuchTag, NotHeld};
 use tag_queue::QueueTotals;
-use tag_sets::TagFault::{BadCount, NoSuchTag, NotHeld};
 use wake_book::GroupTotals;
 
 #[test]
@@ -23,29 +25,6 @@ fn a_clear_of_a_tag_that_is_not_held_is_refused(rt: HostRuntime) -> Result<(), F
             (0, ClearUncounted(4), Refused(NoSuchTag)),
             (0, Clear(0), Woken(0)),
             (0, Clear(0), Refused(NotHeld)),
-        ],
-    )
-}
-
-#[test]
-fn a_batch_clear_is_refused_for_its_first_fault(rt: HostRuntime) -> Result<(), Fail> {
-    expect_steps(
-        &rt,
-        4,
-        options(1),
-        &[
-            Calls(&[(0, Get, Tag(0))]),
-            ClearBatch(0, &[], Refused(BadCount)),
-            ClearBatch(0, &[4; 65], Refused(BadCount)),
-            ClearBatch(0, &[4; 64], Refused(NoSuchTag)),
-            Calls(&[
-                (0, ClearBoth(1, 4), Refused(NoSuchTag)),
-                (0, ClearBoth(0, 1), Refused(NotHeld)),
-                (0, ClearBoth(0, 0), Refused(NotHeld)),
-                (0, Holds(0), Held(true)),
-            ]),
-            ClearBatch(0, &[0], Woken(0)),
-            Calls(&[(0, Holds(0), Held(false)), (0, Get, Tag(0))]),
         ],
     )
 }
@@ -79,5 +58,20 @@ fn a_batch_clear_counts_all_its_tags_and_charges_one_batch(rt: HostRuntime) -> R
             ]),
         ],
         sums,
+    )
+}
+
+#[test]
+fn the_tags_of_a_mask_are_counted_together(rt: HostRuntime) -> Result<(), Fail> {
+    expect(
+        &rt,
+        16,
+        in_words(4, 2),
+        &[
+            (0, GetBatch(16), Batch(0, 0xffff)),
+            (1, PrepareWait, Group(0)),
+            (0, ClearMask(0, 0b11), Woken(1)),
+            (0, Wakes, Found(2, 2, 0, 1)),
+        ],
     )
 }

@@ -1,5 +1,5 @@
 //! The first example of the README of `tag_queue`.
-use crate::tests::totals::options;
+use crate::tests::queue::stages::options;
 use std::test::Fail;
 use tag_queue::Queue;
 use wake_book::Ring;

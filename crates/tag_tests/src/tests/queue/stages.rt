@@ -3,13 +3,53 @@ use crate::tests::answers::Answer;
 use crate::tests::calls::Call;
 use crate::tests::stage::Stage;
 use crate::tests::steps::Step;
-use crate::tests::totals::FILL;
+use crate::tests::totals::{FILL, totals};
 use std::alloc::Global;
 use std::process::Abort;
 use std::sync::Wait;
 use std::test::*;
 use step_ledger::GatherCause;
+use tag_model::Totals;
 use tag_queue::{Options, Queue, QueueTotals};
+use wake_book::{BookTotals, GroupTotals};
+
+/// The default options for this many callers.
+pub(crate) fn options(callers: u32) -> Options {
+    Options::new(callers)
+}
+
+/// Options with words of `2^shift` tags, and the highest life and cap.
+pub(crate) fn in_words(shift: u32, callers: u32) -> Options {
+    options(callers).with_shift(shift)
+}
+
+/// Totals after a run in which no wakeup is outstanding and nobody waits: of tags, completions counted and charged, in
+/// how many charges, and wakeups, each of which was used.
+pub(crate) fn all_totals(
+    tags: Totals,
+    (counted, charged, charges): (u64, u64, u64),
+    issued: u64,
+) -> QueueTotals {
+    QueueTotals {
+        tags,
+        book: BookTotals {
+            counted,
+            charged,
+            charges,
+        },
+        groups: GroupTotals {
+            issued,
+            used: issued,
+            granted: 0,
+            waiting: 0,
+        },
+    }
+}
+
+/// Totals after a run in which nobody waits, so that no completion is counted: tags got, given back, held and posted.
+pub(crate) fn unwaited(got: u64, back: u64, held: u64, posted: u64) -> QueueTotals {
+    all_totals(totals(got, back, held, posted), (0, 0, 0), 0)
+}
 
 impl Stage<Queue<u64>> {
     /// Opens a queue whose slots contain `FILL`.
@@ -22,14 +62,30 @@ impl Stage<Queue<u64>> {
         Ok(Stage::of(alloc, queue, agents))
     }
 
-    /// Opens such a queue with its agents placed.
-    pub(crate) fn of_queue_placed(
-        alloc: Global,
-        depth: u32,
-        options: Options,
-    ) -> Result<Stage<Queue<u64>>, Fail> {
-        let (queue, agents) = Queue::open_placed(alloc, depth, options, FILL)?;
-        Ok(Stage::of(alloc, queue, agents))
+    /// Takes the steps, and closes the queue, whose totals must be these.
+    pub(crate) fn play_to_sums<R: Abort + AllocGlobal + Wait>(
+        self,
+        rt: &R,
+        steps: &[Step<'_>],
+        sums: QueueTotals,
+    ) -> Result<(), Fail> {
+        let found = self.play(rt, steps)?.close_queue()?;
+        assert_eq!(rt; found, sums);
+        Ok(())
+    }
+
+    /// Gathers the agents, and returns all totals.
+    pub(crate) fn close_queue(self) -> Result<QueueTotals, Fail> {
+        let Stage {
+            tags,
+            callers,
+            away,
+        } = self;
+        drop(away);
+        match Queue::gather(tags, callers) {
+            Ok(sums) => Ok(sums),
+            Err(_) => Err(Fail::new("an agent is missing")),
+        }
     }
 
     /// Returns how many tags are held and how many are posted.
@@ -92,5 +148,5 @@ pub(crate) fn expect_totals<R: Abort + AllocGlobal + Wait>(
     steps: &[Step<'_>],
     totals: QueueTotals,
 ) -> Result<(), Fail> {
-    Stage::of_queue(rt.alloc(), depth, options)?.play_to(rt, steps, totals)
+    Stage::of_queue(rt.alloc(), depth, options)?.play_to_sums(rt, steps, totals)
 }

@@ -1,13 +1,14 @@
 //! Waits, and which agents are woken.
-use crate::tests::answers::Answer::{Found, Group, Left, Refused, Tag, Woken};
+use crate::tests::answers::Answer::{
+    Found, Group, LeftUnwoken, LeftWoken, OtherWait, Refused, Tag, Waits, WaitsNot, Woken,
+};
 use crate::tests::calls::Call::{Clear, FinishWait, Get, GetBlocking, PrepareWait, Wakes};
-use crate::tests::queue::stages::{expect, expect_totals};
+use crate::tests::queue::stages::{all_totals, expect, expect_totals, options};
 use crate::tests::steps::Step::Calls;
-use crate::tests::totals::{all_totals, options, totals};
+use crate::tests::totals::totals;
 use std::test::*;
+use tag_pool::TagFault::NoSuchTag;
 use tag_queue::{Options, Queue, QueueFault, SLEEPERS, Turn};
-use tag_sets::TagFault::{NoSuchTag, NotWaiting, OtherWait, Waiting};
-use wake_book::Left as Leave;
 
 #[test]
 fn a_batch_of_completions_wakes_a_waiter(rt: HostRuntime) -> Result<(), Fail> {
@@ -23,7 +24,7 @@ fn a_batch_of_completions_wakes_a_waiter(rt: HostRuntime) -> Result<(), Fail> {
             (1, PrepareWait, Group(0)),
             (0, Clear(1), Woken(0)),
             (0, Clear(2), Woken(1)),
-            (1, FinishWait, Left(Leave::Woken)),
+            (1, FinishWait, LeftWoken),
         ])],
         all_totals(totals(3, 3, 0, 0), (2, 2, 1), 1),
     )
@@ -44,10 +45,10 @@ fn a_clear_past_the_cap_wakes_nobody(rt: HostRuntime) -> Result<(), Fail> {
             (0, Get, Tag(1)),
             (1, PrepareWait, Group(0)),
             (0, Clear(0), Woken(1)),
-            (1, FinishWait, Left(Leave::Woken)),
+            (1, FinishWait, LeftWoken),
             (1, PrepareWait, Group(1)),
             (0, Clear(1), Woken(0)),
-            (1, FinishWait, Left(Leave::Unwoken)),
+            (1, FinishWait, LeftUnwoken),
         ])],
         all_totals(totals(2, 2, 0, 0), (1, 1, 1), 1),
     )
@@ -62,15 +63,15 @@ fn a_wait_is_refused_to_who_stands_and_its_end_to_who_does_not(
         8,
         options(2),
         &[
-            (1, FinishWait, Refused(NotWaiting)),
+            (1, FinishWait, WaitsNot),
             (0, Get, Tag(0)),
             (1, PrepareWait, Group(0)),
-            (1, PrepareWait, Refused(Waiting)),
-            (1, GetBlocking, Refused(Waiting)),
+            (1, PrepareWait, Waits),
+            (1, GetBlocking, Waits),
             (0, Clear(0), Woken(1)),
             (0, Wakes, Found(1, 1, 1, 1)),
-            (1, FinishWait, Left(Leave::Woken)),
-            (1, FinishWait, Refused(NotWaiting)),
+            (1, FinishWait, LeftWoken),
+            (1, FinishWait, WaitsNot),
             (1, Wakes, Found(1, 1, 1, 0)),
         ],
     )
@@ -85,8 +86,8 @@ fn agents_that_wait_by_the_bell_wait_in_no_group_and_count_nothing(
         8,
         options(1).with_bell(),
         &[
-            (0, PrepareWait, Refused(OtherWait)),
-            (0, GetBlocking, Refused(OtherWait)),
+            (0, PrepareWait, OtherWait),
+            (0, GetBlocking, OtherWait),
             (0, Get, Tag(0)),
             (0, Clear(0), Woken(0)),
             (0, Wakes, Found(0, 0, 0, 0)),

@@ -1,14 +1,14 @@
 -- A first try that wins is the get, and otherwise the call after it is made last.
 use Rattle.tag_c.proofs.Uses.{Ok, refl, Some, subst, Unfinished}
 use Rattle.tag_search.specs.declared.search.Unfinished.TheVariants.{Full, Lost}
-use Rattle.tag_sets.specs.Begun.{BeginsGet}
+use Rattle.tag_pool.specs.FirstTry.{BeginsGet}
 use Rattle.tag_c.proofs.Begun.{called, seen_in}
 use Rattle.tag_c.proofs.Runs.{ordinary_fits}
 use Rattle.tag_c.proofs.gets.MemberGetCalls.get.Goals as goal
 
 pub get_code-requires : goal.get_code-requires
 get_code-requires c = ordinary_fits c.deref.result.now (Ok (record { answer = Some c.in-Ok.won; left = 0 })) refl
-    c.in-Ok.ensures.won.gets.ordinary
+    c.in-Ok.ensures.won.gets.tag
 
 pub get_past_full-requires : goal.get_past_full-requires
 get_past_full-requires c = (

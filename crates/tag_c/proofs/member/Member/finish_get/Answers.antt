@@ -1,5 +1,5 @@
--- What finishes the get is with its first try what the call of `tag_sets` does, and its number fits into 32 bits.
-use Rattle.tag_c.proofs.Uses.{ap, arc_value, code_of_found, DoesGet, Ok, sym, ◌∙◌}
+-- What finishes the get is with its first try what the call of `tag_pool` does, and its number fits into 32 bits.
+use Rattle.tag_c.proofs.Uses.{Ok}
 use Rattle.tag_c.proofs.Begun.{tried_in, finished}
 use Rattle.tag_c.proofs.Runs.{ordinary_fits}
 use Rattle.tag_c.proofs.member.Member.finish_get.Goals as goal
@@ -12,7 +12,7 @@ pub get_code-requires : goal.get_code-requires
 get_code-requires c = let begun = c.requires in let found = c.finish_get-found.result in
     ordinary_fits c.deref.result.now (Ok found) c.tell_left.ensures.answer
     (c.finish_get-found.ensures.finishes begun.0.hand
-    (tried_in c.args.rest begun.0 c.args.self.now c.deref.result.now c.deref.ensures begun.1)).gets.ordinary
+    (tried_in c.args.rest begun.0 c.args.self.now c.deref.result.now c.deref.ensures begun.1)).gets.tag
 
 pub returns : goal.returns
 returns c = λ before tried. finished before c.args.self.now c.deref.result.now c.finish_get-found.new.hand

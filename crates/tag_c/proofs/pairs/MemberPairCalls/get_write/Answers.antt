@@ -5,12 +5,12 @@ use Rattle.tag_c.proofs.Runs.{each, ordinary_fits}
 use Rattle.tag_c.proofs.pairs.MemberPairCalls.get_write.Goals as goal
 
 pub get_code-requires : goal.get_code-requires
-get_code-requires c = let found = c.get_and_report-found.result in
+get_code-requires c = let found = c.get_quietly-found.result in
     ordinary_fits c.deref.result.now found (ap Ok (sym c.in-Ok-Some.field-0-is) ∙ c.in-Ok-Some.ensures.answer)
-    (each found (λ known gets. gets.ordinary) c.get_and_report-found.ensures.does.gets)
+    (each found (λ known gets. gets.tag) c.get_quietly-found.ensures.does.gets)
 
 pub returns-in-Ok-Some : goal.returns-in-Ok-Some
-returns-in-Ok-Some c = let get = c.get_and_report-found in let does = c.write.ensures.does in (
+returns-in-Ok-Some c = let get = c.get_quietly-found in let does = c.write.ensures.does in (
   refl,
   get_written c.deref.ensures c.get_code.type_inv (Bare c.args.self.now.hand) (Bare get.new.hand)
       c.deref-in-Ok-Some.ensures (Bare c.write.new.hand) get.result c.write.result c.get_code.ensures
@@ -19,7 +19,7 @@ returns-in-Ok-Some c = let get = c.get_and_report-found in let does = c.write.en
 )
 
 pub returns-in-Ok-None : goal.returns-in-Ok-None
-returns-in-Ok-None c = let get = c.get_and_report-found in (
+returns-in-Ok-None c = let get = c.get_quietly-found in (
   refl,
   get_alone c.deref.ensures c.code.type_inv (Bare c.args.self.now.hand) (Bare get.new.hand) get.result c.code.ensures
       (sym c.in-Ok-None.ensures.answer ∙ ap Ok c.in-Ok-None.field-0-is) refl
@@ -27,7 +27,7 @@ returns-in-Ok-None c = let get = c.get_and_report-found in (
 )
 
 pub returns-in-Err : goal.returns-in-Err
-returns-in-Err c = let get = c.get_and_report-found in (
+returns-in-Err c = let get = c.get_quietly-found in (
   refl,
   get_alone c.deref.ensures c.fault_code.type_inv (Bare c.args.self.now.hand) (Bare get.new.hand) get.result
       c.fault_code.ensures (sym c.in-Err.ensures.answer) tt (get.ensures.does, c.tell_left.ensures.left),

@@ -1,11 +1,11 @@
 -- The spare hands and those that were in the cells belong to the tags, and they are those that are gathered.
-use Rattle.tag_c.proofs.Uses.{All, IsHandOf, refl, subst, sym, Tags, ℕ}
+use Rattle.tag_c.proofs.Uses.{All, IsHandOf, refl, subst, sym, Pool, ℕ}
 use Rattle.tag_c.proofs.Collected.{gathers, misses_one}
 use Rattle.tag_c.proofs.pool_state.PoolState.gather.Goals as goal
 
 pub gather-requires : goal.gather-requires
 gather-requires c = let parted = c.part-tags.ensures in
-    subst (λ (tags : Tags ℕ). All (IsHandOf tags) c.part-tags.result.1.items) (sym parted.tags) parted.own
+    subst (λ (tags : Pool ℕ). All (IsHandOf tags) c.part-tags.result.1.items) (sym parted.tags) parted.own
 
 pub returns-in-Ok-clause-some : goal.returns-in-Ok-clause-some
 returns-in-Ok-clause-some c = let parted = c.part-tags.ensures in

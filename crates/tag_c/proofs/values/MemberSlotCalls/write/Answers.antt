@@ -1,4 +1,4 @@
--- The hand does what the call of `tag_sets` does, and its number fits into 32 bits.
+-- The hand does what the call of `tag_pool` does, and its number fits into 32 bits.
 use Rattle.std.proofs.Common.{rules}
 use Rattle.tag_c.proofs.Calling.{through}
 use Rattle.tag_c.proofs.values.MemberSlotCalls.write.Goals as goal

@@ -1,10 +1,11 @@
 -- The hand keeps its tags.
 use Rattle.std.proofs.Common.{rules}
-use Rattle.tag_cache.proofs.Steady.{busy_rests, owns_rests, same_tags}
+use Rattle.tag_cache.proofs.Reporting.{busy_rests}
+use Rattle.tag_cache.proofs.Steady.{owns_rests, same_tags}
 use Rattle.tag_cache.proofs.cache.Cache.busy.Goals as goal
 
 pub invariant_of-self : goal.invariant_of-self
-invariant_of-self g c = owns_rests c.args.tags.now c.args.self.now c.busy.new.hand c.requires.cache c.busy.ensures.hand
+invariant_of-self g c = owns_rests c.args.pool.now c.args.self.now c.busy.new.hand c.requires.cache c.busy.ensures.hand.0
     (busy_rests _ _ _ _ _ c.busy.ensures.lists)
 
 pub returns-clause-same : goal.returns-clause-same

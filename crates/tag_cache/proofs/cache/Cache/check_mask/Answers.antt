@@ -1,14 +1,14 @@
 -- The hand's refusals are the user's, and a tag that is kept is one that the user does not hold.
 use Rattle.std.specs.Prelude.{◌≡◌, ◌≤◌}
 use Rattle.tag_cache.proofs.Uses.{All, AreOrdinary, arith, BadCount, bit_and, Holds, inl, inr, NoSuchTag, NotHeld, refl, rules, tags_in}
-use Rattle.tag_sets.specs.Hands as hands
+use Rattle.tag_pool.specs.Hands as hands
 use Rattle.tag_cache.proofs.Refused.{refused_user}
 use Rattle.tag_cache.proofs.Shifting.{no_common}
 use Rattle.tag_cache.proofs.cache.Cache.check_mask.Goals as goal
 
 pub returns-in_err-check_mask : goal.returns-in_err-check_mask
 returns-in_err-check_mask g c = let cache = c.args.self.now in let list = tags_in c.args.first c.args.mask in
-    let first = refused_user (1 ≤ c.args.mask) (AreOrdinary c.args.tags.now list) BadCount NoSuchTag NotHeld
+    let first = refused_user (1 ≤ c.args.mask) (AreOrdinary c.args.pool.now list) BadCount NoSuchTag NotHeld
     (All (hands.Holds cache.hand) list) (All (Holds cache) list) (λ held k d l. (held k d l).0) _
     c.from_residual.result c.from_residual.ensures.1 c.in_err-check_mask.ensures.refusals.first in search rules
 

@@ -1,53 +1,24 @@
--- The hand's refusals are the user's, and a tag that is kept is one that the user does not hold.
-use Rattle.tag_cache.proofs.Uses.{AreHeldOnce, AreOrdinary, BadCount, CountsTags, inl, inr, NoSuchTag, NotHeld, refl, rules}
-use Rattle.tag_sets.specs.Batches as hand_batches
-use Rattle.tag_cache.proofs.Listing.{hand_holds, user_holds, none_is_kept, list_less, list_tallies}
-use Rattle.tag_cache.proofs.Refused.{refused_user}
+-- The list goes its way, and what the hand then sees to changes nothing that the user holds.
+use Rattle.std.specs.Prelude.{◌+◌}
+use Rattle.tag_model.proofs.HoldingFacts.{less_then_same}
+use Rattle.tag_bell.specs.Sleeping.{told_by}
+use Rattle.tag_cache.specs.Sleeping.{SeesToAndWakes}
+use Rattle.tag_cache.proofs.Tallying.{tallies_on}
+use Rattle.tag_cache.proofs.Rested.{knows_none_then_same, saw}
+use Rattle.tag_cache.proofs.Uses.{ap, count_of, length, subst, ℕ}
 use Rattle.tag_cache.proofs.cache.Cache.clear_batch.Goals as goal
 
-pub returns-in_err-check_batch-clause-does : goal.returns-in_err-check_batch-clause-does
-returns-in_err-check_batch-clause-does g c = let list = c.args.list.now in let cache = c.args.self.now in
-    let first = refused_user (CountsTags list) (AreOrdinary c.args.tags.now list) BadCount NoSuchTag NotHeld
-    (hand_batches.AreHeldOnce cache.hand list) (AreHeldOnce cache list) (hand_holds cache list) _
-    c.from_residual.result c.from_residual.ensures.1 c.in_err-check_batch.ensures.refusals.first in
-    search rules
-
-pub returns-then-not-keeps_none_of-clause-does : goal.returns-then-not-keeps_none_of-clause-does
-returns-then-not-keeps_none_of-clause-does g c = let list = c.args.list.now in let cache = c.args.self.now in
-    let passed = c.in_ok-check_batch.ensures.refusals.passes in
-    let not_held : ¬ (AreHeldOnce cache list) = λ held.
-    let none = c.keeps_none_of.ensures.1 (none_is_kept cache list held) in
-    let some = c.if-not-keeps_none_of.true in cc in record {
-      refusals = record {
-        first = inr (passed.0, inr (passed.1.0, inl (not_held, refl)));
-        passes = tt;
-        same = search rules;
-      };
-      less = search rules;
-      way = search rules;
-      tells = search rules;
-      knows = search rules;
-      tally = search rules;
-    }
-
-pub give_back_list-requires-clause-held : goal.give_back_list-requires-clause-held
-give_back_list-requires-clause-held g c = user_holds c.args.self.now c.args.list.now
-    c.in_ok-check_batch.ensures.refusals.passes.1.1.0
-    (c.keeps_none_of.ensures.0 (let some = c.if-not-keeps_none_of.false in cc))
-
-pub returns-clause-does : goal.returns-clause-does
-returns-clause-does g c = let list = c.args.list.now in let cache = c.args.self.now in
-    let new = c.give_back_list.new.self in let passed = c.in_ok-check_batch.ensures.refusals.passes in
-    let none = c.keeps_none_of.ensures.0 (let some = c.if-not-keeps_none_of.false in cc) in
-    let e = c.give_back_list.ensures in record {
-      refusals = record {
-        first = tt;
-        passes = (passed.0, (passed.1.0, (user_holds cache list passed.1.1.0 none, tt)));
-        same = tt;
-      };
-      less = list_less c.args.tags.now list _ cache new e.way;
-      way = e.way;
-      tells = e.tells;
-      knows = e.knows;
-      tally = list_tallies c.args.tags.now list _ cache new e.way;
+pub returns : goal.returns
+returns g c = let pool = c.args.pool.now in let old = c.args.self.now in let mid = c.clear_batch_quietly.new.self in
+    let list = c.args.list.now in
+    let new = c.wake.new.self in let does = c.in_ok-clear_batch_quietly.ensures.does in
+    let wakes = subst (λ (n : ℕ). SeesToAndWakes n pool c.wake.result mid new)
+    (ap (λ (n : ℕ). n + length list) c.count-kept.ensures.count) c.wake.ensures.wakes in
+    let rested = saw pool (count_of old + length list) (told_by c.wake.result) mid new wakes in record {
+      cache = c.wake.ensures.cache;
+      refusals = record { first = tt; passes = does.refusals.passes; same = tt };
+      less = less_then_same does.less rested.same;
+      wakes = record { between = mid; goes = does.way; wakes = wakes };
+      knows = knows_none_then_same list old mid new does.knows rested.window.knows;
+      tally = tallies_on 0 (length list) old mid new does.tally rested.tally;
     }

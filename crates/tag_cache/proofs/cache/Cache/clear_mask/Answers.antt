@@ -1,26 +1,24 @@
--- What is said of the list of the mask's tags is said of the mask.
-use Rattle.std.specs.Prelude.{◌≤◌}
-use Rattle.tag_cache.proofs.Uses.{All, AreOrdinary, BadCount, Holds, NoSuchTag, NotHeld, rules, subst, tags_in, tags_in-length, Tallies, ℕ}
-use Rattle.tag_cache.proofs.Listing.{list_less, list_tallies}
-use Rattle.tag_cache.proofs.Refused.{refused_user}
+-- The tags of the mask go their way, and what the hand then sees to changes nothing that the user holds.
+use Rattle.std.specs.Prelude.{◌+◌}
+use Rattle.tag_model.proofs.HoldingFacts.{less_then_same}
+use Rattle.tag_bell.specs.Sleeping.{told_by}
+use Rattle.tag_cache.specs.Sleeping.{SeesToAndWakes}
+use Rattle.tag_cache.proofs.Tallying.{tallies_on}
+use Rattle.tag_cache.proofs.Rested.{knows_none_then_same, saw}
+use Rattle.tag_cache.proofs.Uses.{arith, count_of, count_ones, length, subst, tags_in, tags_in-length, ℕ}
 use Rattle.tag_cache.proofs.cache.Cache.clear_mask.Goals as goal
 
-pub returns-in_err-check_mask-clause-does : goal.returns-in_err-check_mask-clause-does
-returns-in_err-check_mask-clause-does g c = let list = tags_in c.args.first c.args.mask in
-    let held = All (Holds c.args.self.now) list in
-    let first = refused_user (1 ≤ c.args.mask) (AreOrdinary c.args.tags.now list) BadCount NoSuchTag NotHeld held held
-    (λ h. h) _ c.from_residual.result c.from_residual.ensures.1 c.in_err-check_mask.ensures.refusals.first in
-    search rules
-
-pub returns-clause-does : goal.returns-clause-does
-returns-clause-does g c = let tags = c.args.tags.now in let old = c.args.self.now in
-    let new = c.give_back_mask.new.self in let list = tags_in c.args.first c.args.mask in
-    let e = c.give_back_mask.ensures in record {
-      refusals = record { first = tt; passes = c.in_ok-check_mask.ensures.refusals.passes; same = tt };
-      less = list_less tags list _ old new e.way;
-      way = e.way;
-      tells = e.tells;
-      knows = e.knows;
-      tally = subst (λ (n : ℕ). Tallies 0 n old new) (tags_in-length c.args.first c.args.mask c.ranges.mask.fits)
-          (list_tallies tags list _ old new e.way);
+pub returns : goal.returns
+returns g c = let pool = c.args.pool.now in let old = c.args.self.now in let mid = c.clear_mask_quietly.new.self in
+    let list = tags_in c.args.first c.args.mask in
+    let new = c.wake.new.self in let does = c.in_ok-clear_mask_quietly.ensures.does in
+    let many = tags_in-length c.args.first c.args.mask c.ranges.mask.fits in let kept = c.count-kept.ensures.count in
+    let wakes = subst (λ (n : ℕ). SeesToAndWakes n pool c.wake.result mid new) (omega arith) c.wake.ensures.wakes in
+    let rested = saw pool (count_of old + length list) (told_by c.wake.result) mid new wakes in record {
+      cache = c.wake.ensures.cache;
+      refusals = record { first = tt; passes = does.refusals.passes; same = tt };
+      less = less_then_same does.less rested.same;
+      wakes = record { between = mid; goes = does.way; wakes = wakes };
+      knows = knows_none_then_same list old mid new does.knows rested.window.knows;
+      tally = tallies_on 0 (count_ones c.args.mask) old mid new does.tally rested.tally;
     }

@@ -1,10 +1,11 @@
 -- The hand keeps its tags.
 use Rattle.std.proofs.Common.{rules}
-use Rattle.tag_cache.proofs.Steady.{around_rests, owns_rests, same_tags}
+use Rattle.tag_cache.proofs.Reporting.{around_rests}
+use Rattle.tag_cache.proofs.Steady.{owns_rests, same_tags}
 use Rattle.tag_cache.proofs.cache.Cache.dump.Goals as goal
 
 pub invariant_of-self : goal.invariant_of-self
-invariant_of-self g c = owns_rests c.args.tags.now c.args.self.now c.dump.new.hand c.requires.cache c.dump.ensures.hand
+invariant_of-self g c = owns_rests c.args.pool.now c.args.self.now c.dump.new.hand c.requires.cache c.dump.ensures.hand.0
     (around_rests _ _ _ _ _ c.dump.ensures.dumps.packed.around)
 
 pub returns-clause-same : goal.returns-clause-same

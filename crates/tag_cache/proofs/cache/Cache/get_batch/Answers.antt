@@ -6,13 +6,13 @@ use Rattle.tag_cache.proofs.cache.Cache.get_batch.Goals as goal
 
 pub invariant_of-self : goal.invariant_of-self
 invariant_of-self g c = let cache = c.args.self.now in let call = c.get_batch in
-    owns c.args.tags.now cache call.new.hand c.requires call.ensures.hand (gained_still
-    (batch_call c.args.tags.now c.args.n cache.hand call.new.hand _ call.result call.ensures.refusals
+    owns c.args.pool.now cache call.new.hand c.requires call.ensures.hand.0 (gained_still
+    (batch_call c.args.pool.now cache.hand call.new.hand c.args.n _ call.result call.ensures.refusals
     call.ensures.round_robin call.ensures.gets))
 
 pub returns : goal.returns
 returns g c = let cache = c.args.self.now in let call = c.get_batch in
-    let gain = batch_call c.args.tags.now c.args.n cache.hand call.new.hand _ call.result call.ensures.refusals
+    let gain = batch_call c.args.pool.now cache.hand call.new.hand c.args.n _ call.result call.ensures.refusals
     call.ensures.round_robin call.ensures.gets in record {
       cache = search rules;
       refusals = search rules;

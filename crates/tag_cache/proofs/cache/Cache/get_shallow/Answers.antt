@@ -6,13 +6,13 @@ use Rattle.tag_cache.proofs.cache.Cache.get_shallow.Goals as goal
 
 pub invariant_of-self : goal.invariant_of-self
 invariant_of-self g c = let cache = c.args.self.now in let call = c.get_shallow in
-    owns c.args.tags.now cache call.new.hand c.requires call.ensures.hand (gained_still
-    (shallow_call c.args.tags.now c.args.depth cache.hand call.new.hand call.result
+    owns c.args.pool.now cache call.new.hand c.requires call.ensures.hand.0 (gained_still
+    (shallow_call c.args.pool.now cache.hand call.new.hand c.args.depth call.result
     call.ensures.gets call.ensures.refusals.same))
 
 pub returns : goal.returns
 returns g c = let cache = c.args.self.now in let call = c.get_shallow in
-    let gain = shallow_call c.args.tags.now c.args.depth cache.hand call.new.hand call.result
+    let gain = shallow_call c.args.pool.now cache.hand call.new.hand c.args.depth call.result
     call.ensures.gets call.ensures.refusals.same in record {
       cache = search rules;
       refusals = search rules;

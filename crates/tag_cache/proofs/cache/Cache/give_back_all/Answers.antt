@@ -1,10 +1,10 @@
--- The kept tags go back, and then this one; telling makes no step.
+-- The kept tags go back, and then this one.
 use Rattle.std.specs.Prelude.{◌≤◌}
-use Rattle.tag_cache.proofs.Uses.{arith, GivesWith, granted_since, inl, none_granted, refl, subst, sym, waiter_of, ℕ, ◌∙◌}
+use Rattle.tag_cache.proofs.Uses.{arith, inl, refl, subst, sym, ℕ, ◌∙◌}
 use Rattle.tag_cache.proofs.Carrying.{none_after, terms_twice}
-use Rattle.tag_cache.proofs.Giving.{flushed, gives_few}
-use Rattle.tag_cache.proofs.Looking.{knows_less_then_same, same_known, same_then_knows_less}
-use Rattle.tag_cache.proofs.Told.{HasTold, none_still, with_told}
+use Rattle.tag_cache.proofs.Giving.{flushed, kept_back}
+use Rattle.tag_cache.proofs.Going.{ordinary_back}
+use Rattle.tag_cache.proofs.Looking.{same_known, same_then_knows_less}
 use Rattle.tag_cache.proofs.cache.Cache.give_back_all.Goals as goal
 
 pub give_back-requires-clause-other : goal.give_back-requires-clause-other
@@ -15,67 +15,43 @@ returns-then-keeps_none-clause-goes g c = let none = c.keeps_none.ensures.0 c.if
     let back = c.give_back.ensures.goes in record {
       gives = record {
         between = c.args.self.now.hand;
-        sooner = 0;
-        kept = record { none = λ n. (refl, refl); some = λ some. absurd (some none) };
-        later = g.W.Waking.woken c.give_back.result;
+        kept = record { none = λ n. refl; some = λ some. absurd (some none) };
         gives = back.gives;
-        woken_is = omega arith;
       };
       none = none_after c.args.self.now c.give_back.new.self none back.kept;
       terms = back.kept.terms;
       reused = back.kept.reused;
     }
 
-pub give_back-later-requires-clause-held : goal.give_back-later-requires-clause-held
-give_back-later-requires-clause-held g c = let e = c.give_back_kept-sooner.ensures in
-    ((flushed c.args.tags.now c.args.self.now c.give_back_kept-sooner.new.self c.give_back_kept-sooner.result.woken
-    e.gives e.none).kept c.args.tag c.requires.held).0
+pub returns-then-keeps_none-clause-freed : goal.returns-then-keeps_none-clause-freed
+returns-then-keeps_none-clause-freed g c = ordinary_back c.args.pool.now c.args.tag c.args.self.now.hand
+    c.give_back.new.self.hand c.requires.cache.2 c.requires.ordinary c.give_back.ensures.goes.gives
 
-pub give_back-later-requires-clause-other : goal.give_back-later-requires-clause-other
-give_back-later-requires-clause-other g c = inl c.give_back_kept-sooner.ensures.none
+pub give_back-requires-2-clause-held : goal.give_back-requires-2-clause-held
+give_back-requires-2-clause-held g c = let e = c.give_back_kept-kept.ensures in
+    ((flushed c.args.pool.now c.args.self.now c.give_back_kept-kept.new.self e.gives e.none).kept c.args.tag
+    c.requires.held).0
 
-pub both-requires-clause-few : goal.both-requires-clause-few
-both-requires-clause-few g c = (
-  c.give_back_kept-sooner.ensures.few,
-  gives_few c.args.tags.now c.args.tag c.give_back-later.result.woken _ _ c.give_back-later.ensures.goes.gives,
-)
-
-pub both-requires-clause-sums : goal.both-requires-clause-sums
-both-requires-clause-sums g c = (
-  c.give_back_kept-sooner.ensures.grants.are.sum_is,
-  (c.give_back-later.ensures.tells c.give_back_kept-sooner.new.self.hand (none_granted _)).are.sum_is,
-)
+pub give_back-requires-2-clause-other : goal.give_back-requires-2-clause-other
+give_back-requires-2-clause-other g c = inl c.give_back_kept-kept.ensures.none
 
 pub returns-clause-goes : goal.returns-clause-goes
-returns-clause-goes g c = let old = c.args.self.now in let s = c.give_back_kept-sooner.ensures in
-    let back = c.give_back-later.ensures.goes in let mid = c.give_back-later.new.self in let t = c.tell.ensures in
-    let told : HasTold c.both.result.woken mid c.tell.new.self = record { none = t.none; hand = t.hand; same = t.same } in record {
-      gives = subst (λ (n : ℕ). GivesWith c.args.tags.now c.args.tag n old old.hand c.tell.new.self.hand) (sym t.woken)
-          (with_told c.both.result.woken mid c.tell.new.self told c.args.tags.now old c.args.tag
-          c.give_back-later.ensures.cache (subst (λ (n : ℕ). n ≤ c.args.tag) c.requires.cache.2 c.requires.ordinary)
-          (record {
-            between = c.give_back_kept-sooner.new.self.hand;
-            sooner = c.give_back_kept-sooner.result.woken;
-            kept = s.gives;
-            later = c.give_back-later.result.woken;
-            gives = back.gives;
-            woken_is = c.both.ensures.woken;
-          }));
-      none = none_still c.both.result.woken mid c.tell.new.self told
-          (none_after c.give_back_kept-sooner.new.self mid s.none back.kept);
-      terms = terms_twice (terms_twice s.terms back.kept.terms) t.same.kept.terms;
-      reused = t.same.kept.reused ∙ back.kept.reused ∙ s.reused;
-    }
+returns-clause-goes g c = let s = c.give_back_kept-kept.ensures in let back = c.give_back-2.ensures.goes in record {
+  gives = record { between = c.give_back_kept-kept.new.self.hand; kept = s.gives; gives = back.gives };
+  none = none_after c.give_back_kept-kept.new.self c.give_back-2.new.self s.none back.kept;
+  terms = terms_twice s.terms back.kept.terms;
+  reused = back.kept.reused ∙ s.reused;
+}
 
-pub returns-clause-tells : goal.returns-clause-tells
-returns-clause-tells g c = let mid = waiter_of c.give_back_kept-sooner.new.self.hand in
-    λ before none. c.tell.ensures.tells before (granted_since c.both.result _ (waiter_of c.args.self.now.hand) _ none
-    (c.both.ensures.grants (waiter_of c.args.self.now.hand) mid _ c.give_back_kept-sooner.ensures.grants
-    (c.give_back-later.ensures.tells c.give_back_kept-sooner.new.self.hand (none_granted mid))))
+pub returns-clause-freed : goal.returns-clause-freed
+returns-clause-freed g c = let s = c.give_back_kept-kept.ensures in let mid = c.give_back_kept-kept.new.self in
+    let kept = kept_back c.args.pool.now c.args.self.now c.args.self.now.hand mid.hand s.gives in let count = s.freed in
+    let one = ordinary_back c.args.pool.now c.args.tag mid.hand c.give_back-2.new.self.hand s.cache.2
+    (subst (λ (n : ℕ). n ≤ c.args.tag) (c.requires.cache.2 ∙ sym s.cache.2) c.requires.ordinary)
+    c.give_back-2.ensures.goes.gives in omega arith
 
 pub returns-clause-knows : goal.returns-clause-knows
-returns-clause-knows g c = let w = c.give_back_kept-sooner.ensures.window in let old = c.args.self.now in
-    let mid = c.give_back_kept-sooner.new.self in
-    knows_less_then_same c.args.tag old c.give_back-later.new.self c.tell.new.self
-    (same_then_knows_less c.args.tag old mid c.give_back-later.new.self (same_known old mid w.0 w.1)
-    c.give_back-later.ensures.knows) c.tell.ensures.same.window.knows
+returns-clause-knows g c = let w = c.give_back_kept-kept.ensures.window in let old = c.args.self.now in
+    let mid = c.give_back_kept-kept.new.self in
+    same_then_knows_less c.args.tag old mid c.give_back-2.new.self (same_known old mid w.0 w.1)
+    c.give_back-2.ensures.knows

@@ -1,49 +1,43 @@
--- The kept tags go first, and then the list; telling makes no step.
-use Rattle.tag_cache.proofs.Uses.{granted_since, refl, waiter_of, ◌∙◌}
-use Rattle.tag_cache.proofs.Carrying.{own_after, same_fields}
-use Rattle.tag_cache.proofs.Giving.{flushed, list_few}
+-- The kept tags go first, and then the list.
+use Rattle.tag_cache.proofs.Uses.{arith}
+use Rattle.tag_cache.proofs.Carrying.{own_after}
+use Rattle.tag_cache.proofs.Giving.{flushed, kept_back}
 use Rattle.tag_cache.proofs.Listing.{all_still}
-use Rattle.tag_cache.proofs.Told.{both_told}
 use Rattle.tag_cache.proofs.cache.Cache.give_back_kept_and_list.Goals as goal
 
-pub clear_batch_held-later-requires-clause-held : goal.clear_batch_held-later-requires-clause-held
-clear_batch_held-later-requires-clause-held g c = let e = c.leave-sooner.ensures in let mid = c.leave-sooner.new.self in
+pub clear_batch_held_quietly-requires-clause-held : goal.clear_batch_held_quietly-requires-clause-held
+clear_batch_held_quietly-requires-clause-held g c = let e = c.leave-kept.ensures in let mid = c.leave-kept.new.self in
     let held = all_still c.args.self.now mid c.args.list.now
-    (flushed c.args.tags.now c.args.self.now mid c.leave-sooner.result.woken e.gives e.none) c.requires.held.0 in
+    (flushed c.args.pool.now c.args.self.now mid e.gives e.none) c.requires.held.0 in
     ((λ k d l. (held k d l).0), c.requires.held.1)
 
 pub invariant_of-self-clause-own : goal.invariant_of-self-clause-own
-invariant_of-self-clause-own g c = λ other i. absurd (c.leave-sooner.ensures.none other i)
+invariant_of-self-clause-own g c = λ other i. absurd (c.leave-kept.ensures.none other i)
 
 pub invariant_of-self-clause-knows : goal.invariant_of-self-clause-knows
-invariant_of-self-clause-knows g c = let mid = c.leave-sooner.new.self in let e = c.clear_batch_held-later.ensures in
-    own_after c.args.tags.now mid.first mid.known mid.hand c.clear_batch_held-later.new.hand
-    c.leave-sooner.ensures.cache e.hand mid.knows (λ other h i. (e.gives.less.kept other
-    (λ inside. ((c.requires.left other).0 ((c.leave-sooner.ensures.knows other).0 i)).1 inside) h).0)
-
-pub both-requires-clause-few : goal.both-requires-clause-few
-both-requires-clause-few g c = let e = c.clear_batch_held-later.ensures in (
-  c.leave-sooner.ensures.few,
-  list_few c.args.tags.now c.args.list.now c.clear_batch_held-later.result.woken c.leave-sooner.new.self.hand
-      c.clear_batch_held-later.new.hand (record { gives = e.gives; back = e.back; counts = e.counts }),
-)
+invariant_of-self-clause-knows g c = let mid = c.leave-kept.new.self in let e = c.clear_batch_held_quietly.ensures in
+    own_after c.args.pool.now mid.first mid.known mid.hand c.clear_batch_held_quietly.new.hand
+    c.leave-kept.ensures.cache e.hand.0 mid.knows (λ other h i. (e.gives.less.kept other
+    (λ inside. ((c.requires.left other).0 ((c.leave-kept.ensures.knows other).0 i)).1 inside) h).0)
 
 pub returns-clause-gives : goal.returns-clause-gives
-returns-clause-gives g c = let s = c.leave-sooner.ensures in let e = c.clear_batch_held-later.ensures in
-    let t = c.tell.ensures in both_told c.both.result.woken _ c.tell.new.self
-    (record { none = t.none; hand = t.hand; same = t.same }) c.args.tags.now c.args.self.now c.args.list.now
-    c.leave-sooner.result.woken c.clear_batch_held-later.result.woken c.leave-sooner.new.self s.gives s.none s.terms
-    s.reused (record { gives = e.gives; back = e.back; counts = e.counts })
-    (same_fields c.leave-sooner.new.self _ refl refl refl refl refl) _ (t.woken ∙ c.both.ensures.woken)
+returns-clause-gives g c = let mid = c.leave-kept.new.self in let s = c.leave-kept.ensures in
+    let e = c.clear_batch_held_quietly.ensures in record {
+      between = mid.hand;
+      kept = s.gives;
+      gives = record { gives = e.gives; back = e.back };
+      none = λ tag k. s.none tag k;
+      terms = record { most = s.terms.most; keeping = s.terms.keeping };
+      reused = s.reused;
+    }
 
-pub returns-clause-tells : goal.returns-clause-tells
-returns-clause-tells g c = λ before none. c.tell.ensures.tells before (granted_since c.both.result _
-    (waiter_of c.args.self.now.hand) _ none (c.both.ensures.grants (waiter_of c.args.self.now.hand)
-    (waiter_of c.leave-sooner.new.self.hand) (waiter_of c.clear_batch_held-later.new.hand)
-    c.leave-sooner.ensures.grants c.clear_batch_held-later.ensures.tells))
+pub returns-clause-freed : goal.returns-clause-freed
+returns-clause-freed g c = let s = c.leave-kept.ensures in let back = c.clear_batch_held_quietly.ensures.back in
+    let kept = kept_back c.args.pool.now c.args.self.now c.args.self.now.hand c.leave-kept.new.self.hand s.gives in
+    let count = s.freed in omega arith
 
 pub returns-clause-knows : goal.returns-clause-knows
-returns-clause-knows g c = let told = c.tell.ensures.same.window.knows in λ other. (
-  (λ l. (c.requires.left other).0 ((c.leave-sooner.ensures.knows other).0 ((told other).0 l))),
-  (λ l. (told other).1 ((c.leave-sooner.ensures.knows other).1 ((c.requires.left other).1 l))),
+returns-clause-knows g c = λ other. (
+  (λ l. (c.requires.left other).0 ((c.leave-kept.ensures.knows other).0 l)),
+  (λ l. (c.leave-kept.ensures.knows other).1 ((c.requires.left other).1 l)),
 )

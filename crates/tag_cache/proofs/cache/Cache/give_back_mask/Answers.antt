@@ -1,61 +1,73 @@
 -- If the kept tags may stay the tags of the mask go alone, and otherwise after them.
-use Rattle.tag_cache.proofs.Uses.{refl, tags_in, waiter_of}
-use Rattle.tag_cache.proofs.Carrying.{own_after, same_fields}
+use Rattle.std.specs.Prelude.{◌↔◌}
+use Rattle.tag_cache.specs.Calls.{GivesBack}
+use Rattle.tag_cache.proofs.Uses.{All, ap, arith, back_of, Cache, Contains, GivesKeptAndList, Hand, Holds, inr, IsHandOf, IsIn, IsKnown, KnowsNoneOf, Ordinary, refl, subst, sym, tags_in}
+use Rattle.tag_cache.proofs.Carrying.{own_after, same_fields, same_user}
 use Rattle.tag_cache.proofs.Giving.{mask_gives}
-use Rattle.tag_cache.proofs.Granting.{looked_none}
-use Rattle.tag_cache.proofs.Listing.{all_still, call_same, goes_after, goes_alone, left_still, learns_after, learns_alone, not_listed, on_same}
+use Rattle.tag_cache.proofs.Listing.{all_still, goes_alone, last_one, learns_alone, not_listed}
 use Rattle.tag_cache.proofs.cache.Cache.give_back_mask.Goals as goal
 
-pub clear_mask_held-requires-clause-held : goal.clear_mask_held-requires-clause-held
-clear_mask_held-requires-clause-held g c = let old = c.args.self.now in let mid = c.goes_on.new.self in
-    let same = on_same c.args.tags.now c.known_outside-left.result old mid (c.goes_on.ensures.on c.if-goes_on.true) in
+pub clear_mask_held_quietly-requires-clause-hand : goal.clear_mask_held_quietly-requires-clause-hand
+clear_mask_held_quietly-requires-clause-hand g c = subst (λ (h : Hand g.row.R.Denot). IsHandOf c.args.pool.now h)
+    (sym (c.goes_on.ensures.on c.if-goes_on.true).same.hand) c.requires.cache
+
+pub clear_mask_held_quietly-requires-clause-held : goal.clear_mask_held_quietly-requires-clause-held
+clear_mask_held_quietly-requires-clause-held g c = let old = c.args.self.now in let mid = c.goes_on.new.self in
+    let same = same_user old mid (c.goes_on.ensures.on c.if-goes_on.true).same in
     λ k d l. (all_still old mid (tags_in c.args.first c.args.mask) same c.requires.held k d l).0
 
 pub invariant_of-self-clause-own : goal.invariant_of-self-clause-own
 invariant_of-self-clause-own g c = let old = c.args.self.now in let mid = c.goes_on.new.self in
-    let list = tags_in c.args.first c.args.mask in let e = c.clear_mask_held.ensures in
-    let same = on_same c.args.tags.now c.known_outside-left.result old mid (c.goes_on.ensures.on c.if-goes_on.true) in
-    own_after c.args.tags.now mid.first mid.kept mid.hand c.clear_mask_held.new.hand c.goes_on.ensures.cache e.hand
+    let list = tags_in c.args.first c.args.mask in let e = c.clear_mask_held_quietly.ensures in
+    let on = (c.goes_on.ensures.on c.if-goes_on.true).same in let same = same_user old mid on in
+    let mine = subst (λ (h : Hand g.row.R.Denot). IsHandOf c.args.pool.now h) (sym on.hand) c.requires.cache in
+    own_after c.args.pool.now mid.first mid.kept mid.hand c.clear_mask_held_quietly.new.hand mine e.hand.0
     mid.own (λ other h i. (e.gives.less.kept other
     (λ inside. not_listed mid list (all_still old mid list same c.requires.held) other inside i) h).0)
 
 pub invariant_of-self-clause-knows : goal.invariant_of-self-clause-knows
-invariant_of-self-clause-knows g c = let mid = c.goes_on.new.self in let e = c.clear_mask_held.ensures in
+invariant_of-self-clause-knows g c = let mid = c.goes_on.new.self in let e = c.clear_mask_held_quietly.ensures in
     let on = c.goes_on.ensures.on c.if-goes_on.true in
-    own_after c.args.tags.now mid.first mid.known mid.hand c.clear_mask_held.new.hand c.goes_on.ensures.cache e.hand
+    let mine = subst (λ (h : Hand g.row.R.Denot). IsHandOf c.args.pool.now h) (sym on.same.hand) c.requires.cache in
+    own_after c.args.pool.now mid.first mid.known mid.hand c.clear_mask_held_quietly.new.hand mine e.hand.0
     mid.knows (λ other h i. (e.gives.less.kept other
     (λ inside. ((c.known_outside-left.ensures other).0 ((on.knows other).0 i)).1 inside) h).0)
 
 pub returns-then-goes_on : goal.returns-then-goes_on
-returns-then-goes_on g c = let old = c.args.self.now in let mid = c.goes_on.new.self in
-    let list = tags_in c.args.first c.args.mask in let left = c.known_outside-left in
-    let on = c.goes_on.ensures.on c.if-goes_on.true in
-    let e = c.clear_mask_held.ensures in record {
-      cache = e.hand;
-      way = goes_alone c.args.tags.now list left.result old left.type_inv left.ensures _ mid _ on
-          (mask_gives c.args.tags.now c.args.first c.args.mask c.ranges.mask.fits _ mid.hand c.clear_mask_held.new.hand
-          e.gives e.back e.counts) (same_fields mid _ refl refl refl refl refl);
-      tells = e.tells (waiter_of old.hand) (looked_none 0 old.hand mid.hand on.looked);
-      knows = learns_alone list old mid left.result left.ensures on;
+returns-then-goes_on g c = let old = c.args.self.now in let mid = c.goes_on.new.self in let list = tags_in c.args.first c.args.mask in
+    let left = c.known_outside-left in let on = c.goes_on.ensures.on c.if-goes_on.true in
+    let e = c.clear_mask_held_quietly.ensures in let back = e.back in
+    let same = ap (λ (h : Hand g.row.R.Denot). back_of h Ordinary) on.same.hand in record {
+      cache = e.hand.0;
+      way = goes_alone c.args.pool.now list left.result old left.type_inv left.ensures mid _ on
+          (mask_gives c.args.pool.now c.args.first c.args.mask c.ranges.mask.fits mid.hand c.clear_mask_held_quietly.new.hand
+          e.gives e.back) (same_fields mid _ refl refl refl refl refl);
+      freed = omega arith;
+      knows = learns_alone c.args.pool.now list left.result old left.type_inv left.ensures mid on;
     }
 
+pub give_back_kept_and_mask-requires-clause-cache : goal.give_back_kept_and_mask-requires-clause-cache
+give_back_kept_and_mask-requires-clause-cache g c = subst (λ (x : Cache g.row.R.Denot). IsHandOf c.args.pool.now x.hand)
+    (sym (c.goes_on.ensures.ends c.if-goes_on.false).1) c.requires.cache
+
 pub give_back_kept_and_mask-requires-clause-left : goal.give_back_kept_and_mask-requires-clause-left
-give_back_kept_and_mask-requires-clause-left g c = left_still (tags_in c.args.first c.args.mask) c.args.self.now
-    c.goes_on.new.self (c.goes_on.ensures.ends c.if-goes_on.false).fields c.known_outside-left.result
-    c.known_outside-left.ensures
+give_back_kept_and_mask-requires-clause-left g c = λ other. subst
+    (λ (x : Cache g.row.R.Denot). IsIn x.first c.known_outside-left.result other ↔ (IsKnown x other × ¬ (Contains (tags_in c.args.first c.args.mask) other)))
+    (sym (c.goes_on.ensures.ends c.if-goes_on.false).1) (c.known_outside-left.ensures other)
 
 pub give_back_kept_and_mask-requires-clause-held : goal.give_back_kept_and_mask-requires-clause-held
-give_back_kept_and_mask-requires-clause-held g c = let old = c.args.self.now in let mid = c.goes_on.new.self in
-    let same = call_same c.args.tags.now c.known_outside-left.result old mid (c.goes_on.ensures.ends c.if-goes_on.false) in
-    all_still old mid (tags_in c.args.first c.args.mask) same c.requires.held
+give_back_kept_and_mask-requires-clause-held g c = subst (λ (x : Cache g.row.R.Denot). All (Holds x) (tags_in c.args.first c.args.mask))
+    (sym (c.goes_on.ensures.ends c.if-goes_on.false).1) c.requires.held
 
 pub returns : goal.returns
-returns g c = let old = c.args.self.now in let mid = c.goes_on.new.self in
-    let list = tags_in c.args.first c.args.mask in
-    let new = c.give_back_kept_and_mask.new.self in let left = c.known_outside-left in
-    let call = c.goes_on.ensures.ends c.if-goes_on.false in let e = c.give_back_kept_and_mask.ensures in record {
+returns g c = let pool = c.args.pool.now in let old = c.args.self.now in let new = c.give_back_kept_and_mask.new.self in
+    let list = tags_in c.args.first c.args.mask in let left = c.known_outside-left in
+    let ends = c.goes_on.ensures.ends c.if-goes_on.false in let e = c.give_back_kept_and_mask.ensures in record {
       cache = e.cache;
-      way = goes_after c.args.tags.now list left.result old left.type_inv left.ensures _ mid new call e.gives;
-      tells = e.tells old.hand (looked_none call.found old.hand mid.hand call.looked);
-      knows = learns_after list old mid call.fields new e.knows;
+      way = inr (
+        last_one pool list left.result old left.type_inv left.ensures ends.0,
+        subst (λ (x : Cache g.row.R.Denot). GivesKeptAndList pool list x new) ends.1 e.gives,
+      );
+      freed = subst (λ (x : Cache g.row.R.Denot). GivesBack c.give_back_kept_and_mask.result x new) ends.1 e.freed;
+      knows = subst (λ (x : Cache g.row.R.Denot). KnowsNoneOf list x new) ends.1 e.knows;
     }

@@ -1,7 +1,7 @@
 -- After the window moved, or did not, the hand holds what it held and the same tags are kept.
 use Rattle.std.specs.Prelude.{◌≡◌, ◌≤◌}
 use Rattle.tag_cache.proofs.Uses.{Cache, Hand, inl, inr, IsKnown, IsWithin, subst, sym, ⊎_elim, ◌∙◌}
-use Rattle.tag_sets.specs.Hands as hands
+use Rattle.tag_pool.specs.Hands as hands
 use Rattle.tag_cache.proofs.Carrying.{keeps_twice}
 use Rattle.tag_cache.proofs.Reusing.{held_still}
 use Rattle.tag_cache.proofs.cache.Cache.learn.Goals as goal

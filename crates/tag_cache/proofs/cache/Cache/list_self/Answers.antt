@@ -1,15 +1,13 @@
 -- The hand keeps its tags.
 use Rattle.std.proofs.Common.{rules}
-use Rattle.tag_cache.proofs.Ringing.{listed_rests}
+use Rattle.tag_cache.proofs.Ringing.{lists_rests}
 use Rattle.tag_cache.proofs.Steady.{owns_rests, same_tags}
 use Rattle.tag_cache.proofs.cache.Cache.list_self.Goals as goal
 
 pub invariant_of-self : goal.invariant_of-self
-invariant_of-self g c = owns_rests c.args.tags.now c.args.self.now c.list_self.new.hand c.requires.cache c.list_self.ensures.hand
-    (listed_rests c.args.list c.list_self.result _ _ c.list_self.ensures.same c.list_self.ensures.lists
-    c.list_self.ensures.refusals.same)
+invariant_of-self g c = owns_rests c.args.pool.now c.args.self.now c.list_self.new.hand c.requires.cache
+    c.list_self.ensures.hand.0 (lists_rests c.args.list _ _ c.list_self.ensures.same c.list_self.ensures.lists)
 
 pub returns-clause-same : goal.returns-clause-same
 returns-clause-same g c = same_tags c.args.self.now _ (search rules) (search rules)
-    (listed_rests c.args.list c.list_self.result _ _ c.list_self.ensures.same c.list_self.ensures.lists
-    c.list_self.ensures.refusals.same)
+    (lists_rests c.args.list _ _ c.list_self.ensures.same c.list_self.ensures.lists)

@@ -1,7 +1,7 @@
 -- The tag's bit joins the mask of known tags.
 use Rattle.std.specs.Prelude.{◌-◌, ◌≡◌, ◌≤◌}
 use Rattle.tag_cache.proofs.Uses.{arith, IsIn, IsKept, subst, sym, ℕ, ⊎_elim}
-use Rattle.tag_sets.specs.Hands as hands
+use Rattle.tag_pool.specs.Hands as hands
 use Rattle.tag_cache.proofs.Windows.{now_in, still_in, was_in, some_in, joined_fits, with_bit}
 use Rattle.tag_cache.proofs.cache.Cache.note.Goals as goal
 

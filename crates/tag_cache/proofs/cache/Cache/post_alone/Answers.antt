@@ -9,20 +9,20 @@ use Rattle.tag_cache.proofs.cache.Cache.post_alone.Goals as goal
 
 pub post-requires : goal.post-requires
 post-requires g c = record {
-  hand = subst (λ (h : Hand g.row.R.Denot). IsHandOf c.args.tags.now h) (sym c.forget.ensures.same.hand)
+  hand = subst (λ (h : Hand g.row.R.Denot). IsHandOf c.args.pool.now h) (sym c.forget.ensures.same.hand)
       c.requires.cache;
 }
 
 pub unreachable-requires : goal.unreachable-requires
-unreachable-requires g c = held_passes c.args.tags.now c.args.self.now.hand c.args.tag c.requires.cache
+unreachable-requires g c = held_passes c.args.pool.now c.args.self.now.hand c.args.tag c.requires.cache
     (known_held c.args.self.now c.args.tag c.requires.known).0 c.in_default.field-0
     (search rules)
 
 pub invariant_of-self : goal.invariant_of-self
 invariant_of-self g c = let cache = c.args.self.now in let mid = c.forget.new.self in let call = c.post in
-    owns_but c.args.tags.now mid call.new.hand
-    (subst (λ (h : Hand g.row.R.Denot). IsHandOf c.args.tags.now h) (sym c.forget.ensures.same.hand) c.requires.cache)
-    call.ensures.hand c.args.tag
+    owns_but c.args.pool.now mid call.new.hand
+    (subst (λ (h : Hand g.row.R.Denot). IsHandOf c.args.pool.now h) (sym c.forget.ensures.same.hand) c.requires.cache)
+    call.ensures.hand.0 c.args.tag
     (held_still cache mid c.args.tag c.forget.ensures.same (known_held cache c.args.tag c.requires.known)).1
     (λ l. ((c.forget.ensures.knows c.args.tag).0 l).1 refl)
     (post_still c.args.tag mid.hand call.new.hand call.result call.ensures.does.posts call.ensures.does.refusals.same)

@@ -1,7 +1,7 @@
 -- The least kept tag leaves the mask of kept tags and joins that of the known ones.
 use Rattle.std.specs.Prelude.{◌+◌, ◌-◌, ◌≡◌, ◌≤◌}
 use Rattle.tag_cache.proofs.Uses.{arith, IsIn, refl, subst, sym, trailing_zeros, w64, ℕ, ⊎_elim}
-use Rattle.tag_sets.specs.Hands as hands
+use Rattle.tag_pool.specs.Hands as hands
 use Rattle.tag_cache.proofs.Reusing.{some_kept}
 use Rattle.tag_cache.proofs.Windows.{least, least_in, least_is, left, ones_fewer, popped_fits, now_in, still_in, was_in, some_in, joined_fits, with_bit}
 use Rattle.tag_cache.proofs.cache.Cache.reuse.Goals as goal

@@ -1,17 +1,16 @@
 -- Looking at the lists changes nothing; then the kept tags stay, or all go back.
-use Rattle.tag_cache.proofs.Uses.{Bool, inl, inr, LooksForWaiters, rules, subst, Waiter, waiter_of, ◌∙◌}
+use Rattle.tag_cache.proofs.Uses.{Bool, inl, inr, LooksForWaiters, rules, subst, ◌∙◌}
 use Rattle.tag_model.proofs.HoldingFacts.{same_then_same}
 use Rattle.tag_cache.proofs.Carrying.{terms_twice}
 use Rattle.tag_cache.proofs.Looking.{window_twice}
-use Rattle.tag_cache.proofs.Passing.{grants_none}
-use Rattle.tag_cache.proofs.Ringing.{looks_rests, looks_waiter}
+use Rattle.tag_cache.proofs.Ringing.{looks_rests}
 use Rattle.tag_cache.proofs.Steady.{owns_rests, same_tags}
 use Rattle.tag_cache.proofs.Tallying.{tallies_on}
 use Rattle.tag_cache.proofs.cache.Cache.see_to.Goals as goal
 
 pub invariant_of-self : goal.invariant_of-self
-invariant_of-self g c = owns_rests c.args.tags.now c.args.self.now c.finds_waiters.new.hand c.requires
-    c.finds_waiters.ensures.hand
+invariant_of-self g c = owns_rests c.args.pool.now c.args.self.now c.finds_waiters.new.hand c.requires
+    c.finds_waiters.ensures.hand.0
     (looks_rests c.finds_waiters.result _ _ c.finds_waiters.ensures.same c.finds_waiters.ensures.looks)
 
 pub returns-then-not-finds_waiters-clause-does : goal.returns-then-not-finds_waiters-clause-does
@@ -21,12 +20,10 @@ returns-then-not-finds_waiters-clause-does g c = let old = c.args.self.now in le
     record {
       way = inl (record {
         looks = subst (λ (b : Bool). LooksForWaiters b old.hand looked) c.if-not-finds_waiters.true e.looks;
-        none = (search rules, c.nobody.ensures.woken);
+        none = search rules;
         kept = rest.kept;
       });
       done = e.looks.changed.done c.if-not-finds_waiters.true;
-      tells = c.nobody.ensures.tells (waiter_of old.hand) (waiter_of looked)
-          (grants_none old.hand looked (looks_waiter c.finds_waiters.result old.hand looked e.looks));
       same = rest.held;
       tally = rest.tally;
       terms = rest.kept.terms;
@@ -51,8 +48,6 @@ returns-clause-does g c = let old = c.args.self.now in let looked = c.finds_wait
         none = t.none;
       });
       done = t.gives.tells.changed.done;
-      tells = subst (λ (w : Waiter). g.W.Waking.tells c.give_back_and_tell.result.1 w (waiter_of new.hand))
-          (looks_waiter c.finds_waiters.result old.hand looked e.looks) t.tells;
       same = same_then_same rest.held t.same;
       tally = tallies_on 0 0 old _ new rest.tally t.tally;
       terms = terms_twice rest.kept.terms t.terms;

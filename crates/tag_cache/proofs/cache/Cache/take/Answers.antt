@@ -5,7 +5,7 @@ use Rattle.tag_cache.proofs.cache.Cache.take.Goals as goal
 
 pub invariant_of-self : goal.invariant_of-self
 invariant_of-self g c = let cache = c.args.self.now in let call = c.take in
-    owns c.args.tags.now cache call.new.hand c.requires call.ensures.hand
+    owns c.args.pool.now cache call.new.hand c.requires call.ensures.hand.0
     (take_still c.args.tag cache.hand call.new.hand call.result call.ensures.does.takes call.ensures.does.refuses)
 
 pub returns-clause-does : goal.returns-clause-does

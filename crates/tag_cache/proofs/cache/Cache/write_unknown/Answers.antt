@@ -8,7 +8,7 @@ write_held-requires-clause-held g c = c.requires.held.0
 
 pub invariant_of-self : goal.invariant_of-self
 invariant_of-self g c = let call = c.write_held in
-    owns c.args.tags.now c.args.self.now call.new.hand c.requires.cache call.ensures.hand call.ensures.writes.kept
+    owns c.args.pool.now c.args.self.now call.new.hand c.requires.cache call.ensures.hand.0 call.ensures.writes.kept
 
 pub returns-clause-writes : goal.returns-clause-writes
 returns-clause-writes g c = writes c.args.self.now _ (search rules) c.args.tag c.args.value

@@ -1,0 +1,311 @@
+/*
+ * Who waits at a gate is woken in turn, and only if there is something for it: a hand that leaves
+ * wakes one thread, the one that has waited longest, and a drain leaves those in peace who get and
+ * clear tags. Whether a thread was woken shows by how often it has given up the processor.
+ * turns [PAIRS]
+ */
+#define _GNU_SOURCE
+#include <inttypes.h>
+#include <pthread.h>
+#include <stdbool.h>
+#include <stdio.h>
+#include <stdlib.h>
+#include <string.h>
+#include <sys/syscall.h>
+#include <time.h>
+#include <unistd.h>
+
+#include <tags.h>
+
+enum { SLEEPERS = 6, HANDS = 3, WORKERS = 2, POOLS = 40 };
+
+struct sleeper {
+	pthread_t id;
+	/* 0 until it runs */
+	long task;
+	bool is_timed;
+	/* the place in which it got its hand, from 1 on; 0 until then */
+	int place;
+	bool may_leave;
+	struct tags_hand hand;
+};
+
+static uint64_t wrong;
+static long pairs = 100000;
+static struct tags_pool pool;
+static struct tags_hand hands[HANDS];
+static int places;
+
+static void check(bool is_well, const char *what)
+{
+	if (is_well)
+		return;
+	__atomic_fetch_add(&wrong, 1, __ATOMIC_RELAXED);
+	fprintf(stderr, "wrong: %s\n", what);
+}
+
+#define CHECK(what) check(what, #what)
+#define LOAD(what) __atomic_load_n(what, __ATOMIC_SEQ_CST)
+#define STORE(what, value) __atomic_store_n(what, value, __ATOMIC_SEQ_CST)
+
+static void nap(long ms)
+{
+	struct timespec time = { ms / 1000, ms % 1000 * 1000000 };
+
+	nanosleep(&time, NULL);
+}
+
+static double now(void)
+{
+	struct timespec time;
+
+	clock_gettime(CLOCK_MONOTONIC, &time);
+	return (double)time.tv_sec + (double)time.tv_nsec / 1e9;
+}
+
+/* How often a thread has given up the processor. */
+static long switches_of(long task)
+{
+	const char name[] = "voluntary_ctxt_switches:";
+	char path[64], line[256];
+	long found = -1;
+	FILE *file;
+
+	snprintf(path, sizeof(path), "/proc/self/task/%ld/status", task);
+	file = fopen(path, "r");
+	while (file && fgets(line, sizeof(line), file))
+		if (strncmp(line, name, strlen(name)) == 0)
+			found = strtol(line + strlen(name), NULL, 10);
+	if (file)
+		fclose(file);
+	return found;
+}
+
+/* Until a thread has slept for a while. */
+static void await_sleep(const long *task)
+{
+	long before = -1;
+
+	while (LOAD(task) == 0)
+		nap(1);
+	while (switches_of(LOAD(task)) != before) {
+		before = switches_of(LOAD(task));
+		nap(20);
+	}
+}
+
+static void open_pool(uint32_t n)
+{
+	const struct tags_options options = { .total = 8, .hands = n };
+
+	CHECK(tags_open(&pool, &options) == TAGS_OK);
+}
+
+static void close_pool(void)
+{
+	struct tags_sums sums;
+
+	CHECK(tags_close(&pool, &sums) == TAGS_OK && sums.got == sums.back);
+}
+
+/*
+ * Hands
+ */
+
+static void *join_and_leave(void *argument)
+{
+	struct sleeper *self = argument;
+	struct timespec end;
+
+	clock_gettime(CLOCK_MONOTONIC, &end);
+	end.tv_sec += 600;
+	STORE(&self->task, syscall(SYS_gettid));
+	if (self->is_timed)
+		CHECK(tags_join_timed(&pool, &self->hand, 0, CLOCK_MONOTONIC, &end) == TAGS_OK);
+	else
+		CHECK(tags_join_blocking(&pool, &self->hand, 0) == TAGS_OK);
+	STORE(&self->place, __atomic_add_fetch(&places, 1, __ATOMIC_SEQ_CST));
+	while (!LOAD(&self->may_leave))
+		nap(1);
+	CHECK(tags_leave(&self->hand) == TAGS_OK);
+	return NULL;
+}
+
+/* All hands are out, and the sleepers begin to wait one after another. */
+static void begin(struct sleeper *sleepers)
+{
+	memset(sleepers, 0, SLEEPERS * sizeof(*sleepers));
+	places = 0;
+	open_pool(HANDS);
+	for (int i = 0; i < HANDS; i++)
+		CHECK(tags_join(&pool, &hands[i], 0) == TAGS_OK);
+	for (int i = 0; i < SLEEPERS; i++) {
+		sleepers[i].is_timed = i % 2;
+		CHECK(pthread_create(&sleepers[i].id, NULL, join_and_leave, &sleepers[i]) == 0);
+		await_sleep(&sleepers[i].task);
+	}
+}
+
+static void end(struct sleeper *sleepers)
+{
+	for (int i = 0; i < SLEEPERS; i++)
+		STORE(&sleepers[i].may_leave, true);
+	for (int i = 0; i < SLEEPERS; i++)
+		pthread_join(sleepers[i].id, NULL);
+	close_pool();
+}
+
+/* Each hand that leaves wakes the first one, and no other. */
+static void wake_one_for_each_hand(void)
+{
+	struct sleeper sleepers[SLEEPERS];
+	long before[SLEEPERS];
+
+	begin(sleepers);
+	for (int i = 0; i < SLEEPERS; i++)
+		before[i] = switches_of(sleepers[i].task);
+	for (int first = 0; first < SLEEPERS; first++) {
+		if (first < HANDS)
+			CHECK(tags_leave(&hands[first]) == TAGS_OK);
+		else
+			STORE(&sleepers[first - HANDS].may_leave, true);
+		while (LOAD(&sleepers[first].place) == 0)
+			nap(1);
+		nap(5);
+		CHECK(sleepers[first].place == first + 1);
+		for (int i = first + 1; i < SLEEPERS; i++)
+			CHECK(switches_of(sleepers[i].task) == before[i]);
+	}
+	end(sleepers);
+}
+
+/* Who was woken and finds another thread faster sleeps on at its turn. */
+static void keep_turns(void)
+{
+	struct sleeper sleepers[SLEEPERS];
+
+	begin(sleepers);
+	for (int round = 0; round < 20; round++) {
+		CHECK(tags_leave(&hands[0]) == TAGS_OK);
+		if (tags_join(&pool, &hands[0], 0) != TAGS_OK)
+			break;
+		nap(1);
+	}
+	for (int i = 0; i < HANDS; i++)
+		if (hands[i].full)
+			CHECK(tags_leave(&hands[i]) == TAGS_OK);
+	for (int i = 0; i < SLEEPERS; i++) {
+		while (LOAD(&sleepers[i].place) == 0)
+			nap(1);
+		CHECK(sleepers[i].place <= i / HANDS * HANDS + HANDS);
+		if (i % HANDS == HANDS - 1)
+			for (int k = i + 1 - HANDS; k <= i; k++)
+				STORE(&sleepers[k].may_leave, true);
+	}
+	end(sleepers);
+}
+
+/* More pools than there are gates: each hand wakes one that sleeps for a hand of its pool. */
+static struct {
+	struct tags_pool pool;
+	struct tags_hand hand;
+	pthread_t id;
+} many[POOLS];
+
+static void *join_one(void *at)
+{
+	struct tags_hand hand = TAGS_EMPTY;
+
+	CHECK(tags_join_blocking(at, &hand, 0) == TAGS_OK);
+	CHECK(tags_leave(&hand) == TAGS_OK);
+	return NULL;
+}
+
+static void wake_those_of_each_pool(void)
+{
+	const struct tags_options options = { .total = 1, .hands = 1 };
+	struct tags_sums sums;
+
+	for (int i = 0; i < POOLS; i++) {
+		CHECK(tags_open(&many[i].pool, &options) == TAGS_OK);
+		CHECK(tags_join(&many[i].pool, &many[i].hand, 0) == TAGS_OK);
+		CHECK(pthread_create(&many[i].id, NULL, join_one, &many[i].pool) == 0);
+	}
+	nap(20);
+	for (int i = POOLS - 1; i >= 0; i--) {
+		CHECK(tags_leave(&many[i].hand) == TAGS_OK);
+		pthread_join(many[i].id, NULL);
+		CHECK(tags_close(&many[i].pool, &sums) == TAGS_OK);
+	}
+}
+
+/*
+ * Drains
+ */
+
+static void *drain(void *task)
+{
+	STORE((long *)task, syscall(SYS_gettid));
+	CHECK(tags_drain(&pool) == TAGS_OK);
+	return NULL;
+}
+
+static void *use_tags(void *unused)
+{
+	struct tags_hand hand = TAGS_EMPTY;
+
+	CHECK(tags_join(&pool, &hand, 0) == TAGS_OK);
+	for (long i = 0; i < pairs; i++) {
+		const int32_t tag = tags_get(&hand);
+
+		if (tag >= 0)
+			TAGS_MUST(tags_clear(&hand, (uint32_t)tag));
+	}
+	CHECK(tags_leave(&hand) == TAGS_OK);
+	return unused;
+}
+
+/* The first drain looks now and then, and the second one when the first has ended. */
+static void drain_in_peace(void)
+{
+	pthread_t drains[2], workers[WORKERS];
+	long tasks[2] = { 0, 0 }, before[2];
+	double start;
+	int32_t tag;
+
+	open_pool(WORKERS + 1);
+	CHECK(tags_join(&pool, &hands[0], 0) == TAGS_OK);
+	tag = TAGS_MUST(tags_get(&hands[0]));
+	for (int i = 0; i < 2; i++) {
+		CHECK(pthread_create(&drains[i], NULL, drain, &tasks[i]) == 0);
+		await_sleep(&tasks[i]);
+		before[i] = switches_of(tasks[i]);
+	}
+	start = now();
+	for (int i = 0; i < WORKERS; i++)
+		CHECK(pthread_create(&workers[i], NULL, use_tags, NULL) == 0);
+	for (int i = 0; i < WORKERS; i++)
+		pthread_join(workers[i], NULL);
+	nap(5);
+	CHECK((double)(switches_of(tasks[0]) - before[0]) < 100 + 4000 * (now() - start));
+	CHECK(switches_of(tasks[1]) == before[1]);
+	CHECK(tags_pool_waiting(&pool) == 2);
+	TAGS_MUST(tags_clear(&hands[0], (uint32_t)tag));
+	for (int i = 0; i < 2; i++)
+		pthread_join(drains[i], NULL);
+	CHECK(tags_pool_waiting(&pool) == 0);
+	CHECK(tags_leave(&hands[0]) == TAGS_OK);
+	close_pool();
+}
+
+int main(int argc, char **argv)
+{
+	if (argc > 1)
+		pairs = strtol(argv[1], NULL, 10);
+	wake_one_for_each_hand();
+	keep_turns();
+	wake_those_of_each_pool();
+	drain_in_peace();
+	printf("%" PRIu64 " wrong\n", wrong);
+	return wrong != 0;
+}

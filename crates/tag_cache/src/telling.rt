@@ -1,0 +1,121 @@
+//! Calls that give tags back, and then see to what they made free and to what is kept: where somebody waits for a tag, all
+//! kept ones go back too, and as many hands are told as tags became free, and the sleepers among them woken.
+ghost use Rattle.std.specs.Prelude.{◌≡◌, IfOk, OnOk, Contains, count_ones, length};
+ghost use Rattle.refusals.specs.Refusals.{RefusesBy};
+ghost use Rattle.tag_pool.specs.Hands.{IsHandOf, reserved_of};
+ghost use Rattle.tag_pool.specs.Masks.{tags_in};
+ghost use Rattle.tag_pool.specs.Sets.{kind_of};
+ghost use Rattle.tag_cache.specs.Caches.{IsCacheOf, LeavesWindow, count_of};
+ghost use Rattle.tag_cache.specs.Changes.{IsUnchanged, KnowsLess, KnowsNoneOf};
+ghost use Rattle.tag_cache.specs.Holding.{HoldsLess, IsLeftWith};
+ghost use Rattle.tag_cache.specs.Refusals.{list_checks, mask_checks, tag_checks};
+ghost use Rattle.tag_cache.specs.Tallies.{Tallies};
+ghost use Rattle.tag_cache.specs.Telling.{ClearsAndWakes, ClearsListAndWakes, EndsAndWakes, FlushesAndWakes, PostsAndWakes, freed_with};
+
+use crate::cache::Cache;
+use tag_pool::{Hand, Kind, Pool, TagFault, Woken};
+
+impl<R: Copy> Cache<R> {
+    /// Clears a tag that the user holds as `clear_quietly` does. If it is an ordinary one and somebody waits, all kept tags
+    /// then go back, and it tells up to as many hands of each list as tags became free in all, and wakes those that
+    /// sleep. Returns whom it told. `NoSuchTag` means that the number is not below the total, `NotHeld` that the user does
+    /// not hold the tag, as where it is kept; nothing changes then.
+    pub fn clear(&mut self, pool: &Pool<R>, tag: u32) -> Result<Woken, TagFault>
+        requires { IsCacheOf pool.now self.old }
+        ensures cache { IsCacheOf pool.now self.new }
+        ensures refusals { RefusesBy (tag_checks pool.now self.old tag) (IsUnchanged self.old self.new) result }
+        ensures less { OnOk result (HoldsLess (λ other. other ≡ tag) self.old self.new) }
+        ensures wakes { IfOk result (λ woken. ClearsAndWakes pool.now tag woken self.old self.new) }
+        ensures knows { LeavesWindow tag self.old → OnOk result (KnowsLess tag self.old self.new) }
+        ensures tally { OnOk result (Tallies 0 1 self.old self.new) }
+    {
+        let freed = self.freed_with(pool, tag);
+        self.clear_quietly(pool, tag)?;
+        Ok(self.wake_for(pool, freed))
+    }
+
+    /// Clears 1 to 64 ordinary tags that the user holds as `clear_batch_quietly` does, and then tells and wakes as `clear`
+    /// does. It is refused as `clear_batch_quietly` is: `BadCount`, `NoSuchTag`, `NotHeld`; nothing changes then.
+    pub fn clear_batch(&mut self, pool: &Pool<R>, list: &[u32]) -> Result<Woken, TagFault>
+        requires { IsCacheOf pool.now self.old }
+        ensures cache { IsCacheOf pool.now self.new }
+        ensures refusals { RefusesBy (list_checks pool.now self.old list.now) (IsUnchanged self.old self.new) result }
+        ensures less { OnOk result (HoldsLess (Contains list.now) self.old self.new) }
+        ensures wakes { IfOk result (λ woken. ClearsListAndWakes pool.now list.now woken self.old self.new) }
+        ensures knows { OnOk result (KnowsNoneOf list.now self.old self.new) }
+        ensures tally { OnOk result (Tallies 0 (length list.now) self.old self.new) }
+    {
+        let kept = self.count();
+        self.clear_batch_quietly(pool, list)?;
+        Ok(self.wake(pool, kept + list.len() as u32))
+    }
+
+    /// Clears the ordinary tags of a mask that the user holds as `clear_mask_quietly` does, and then tells and wakes as
+    /// `clear` does. It is refused as `clear_mask_quietly` is: `BadCount`, `NoSuchTag`, `NotHeld`; nothing changes then.
+    pub fn clear_mask(&mut self, pool: &Pool<R>, first: u32, mask: u64) -> Result<Woken, TagFault>
+        requires { IsCacheOf pool.now self.old }
+        ensures cache { IsCacheOf pool.now self.new }
+        ensures refusals { RefusesBy (mask_checks pool.now self.old first mask) (IsUnchanged self.old self.new) result }
+        ensures less { OnOk result (HoldsLess (Contains (tags_in first mask)) self.old self.new) }
+        ensures wakes { IfOk result (λ woken. ClearsListAndWakes pool.now (tags_in first mask) woken self.old self.new) }
+        ensures knows { OnOk result (KnowsNoneOf (tags_in first mask) self.old self.new) }
+        ensures tally { OnOk result (Tallies 0 (count_ones mask) self.old self.new) }
+    {
+        let kept = self.count();
+        self.clear_mask_quietly(pool, first, mask)?;
+        Ok(self.wake(pool, kept + mask.count_ones()))
+    }
+
+    /// Gives up a tag that the user holds with its slot as `post_quietly` does, and then sees to the kept tags that went back,
+    /// if any did, and wakes those whom this told. `NoSuchTag` means that the number is not below the total, `NotHeld`
+    /// that the user does not hold the tag, as where it is kept; nothing changes then.
+    pub fn post(&mut self, pool: &Pool<R>, tag: u32) -> Result<Woken, TagFault>
+        requires { IsCacheOf pool.now self.old }
+        ensures cache { IsCacheOf pool.now self.new }
+        ensures refusals { RefusesBy (tag_checks pool.now self.old tag) (IsUnchanged self.old self.new) result }
+        ensures less { OnOk result (HoldsLess (λ other. other ≡ tag) self.old self.new) }
+        ensures posts { IfOk result (λ woken. PostsAndWakes pool.now tag woken self.old self.new) }
+        ensures knows { OnOk result (KnowsLess tag self.old self.new) }
+        ensures tally { OnOk result (Tallies 0 0 self.old self.new) }
+    {
+        let freed = self.post_quietly(pool, tag)?;
+        Ok(self.wake_for(pool, freed))
+    }
+
+    /// Gives all kept tags back, by one step for each word as `Pool::clear_mask` does, and sees to them: it tells up to as
+    /// many hands of each list as tags became free, and wakes those that sleep. If nothing is kept it makes no step. Call
+    /// it before the thread is idle or sleeps: what it keeps nobody else finds.
+    pub fn flush(&mut self, pool: &Pool<R>) -> Woken
+        requires { IsCacheOf pool.now self.old }
+        ensures cache { IsCacheOf pool.now self.new }
+        ensures flushes { FlushesAndWakes pool.now result self.old self.new }
+    {
+        let freed = self.flush_quietly(pool);
+        self.wake_for(pool, freed)
+    }
+
+    /// Gives all kept tags back and sees to them, as `flush` does. Returns the hand, which holds what the user holds, and
+    /// whom this told.
+    pub fn into_hand(mut self, pool: &Pool<R>) -> (Hand<R>, Woken)
+        requires { IsCacheOf pool.now self }
+        ensures hand { IsHandOf pool.now result.0 }
+        ensures left { IsLeftWith self result.0 }
+        ensures ends { EndsAndWakes pool.now result.1 self result.0 }
+    {
+        let woken = self.flush(pool);
+        let Cache { hand, .. } = self;
+        (hand, woken)
+    }
+
+    /// Returns how many ordinary tags a clear of this one makes free if somebody waits: the kept tags and this one, by the
+    /// clear or after it. Nobody waits for a reserved tag.
+    #[inline]
+    fn freed_with(&self, pool: &Pool<R>, tag: u32) -> u32
+        ensures { result ≡ freed_with (kind_of (reserved_of pool.now) tag) (count_of self.now) }
+    {
+        match pool.kind(tag) {
+            Kind::Ordinary => self.count() + 1,
+            Kind::Reserved => 0,
+        }
+    }
+}

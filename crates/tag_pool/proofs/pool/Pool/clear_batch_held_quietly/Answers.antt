@@ -1,0 +1,15 @@
+-- The list's numbers correspond one to one to its tags, so what the ordinary side does with them is what the hand does.
+use Rattle.tag_pool.proofs.Uses.{numbers_of, refl, reserved_of}
+use Rattle.tag_pool.proofs.OrdinaryNumbers.{numbered}
+use Rattle.tag_pool.proofs.pool.Pool.clear_batch_held_quietly.Goals as goal
+
+pub give_list-requires-clause-held : goal.give_list-requires-clause-held
+give_list-requires-clause-held g c = let pool = c.args.self.now in let list = c.args.tags.now in
+    (numbered pool c.args.hand.now c.requires.hand list (numbers_of (reserved_of pool) list)
+    (λ k d l. (c.requires.ordinary k d l).0) refl).once c.requires.held
+
+pub returns-clause-gives : goal.returns-clause-gives
+returns-clause-gives g c = let pool = c.args.self.now in let list = c.args.tags.now in
+    (numbered pool c.args.hand.now c.requires.hand list (numbers_of (reserved_of pool) list)
+    (λ k d l. (c.requires.ordinary k d l).0) refl).gives c.requires.ordinary c.give_list.new.self
+    c.give_list.ensures.gives

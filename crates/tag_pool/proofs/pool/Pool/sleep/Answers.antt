@@ -1,0 +1,9 @@
+-- A hand may sleep as its ordinary caller may.
+use Rattle.tag_bell.specs.declared.told.TheConstants.{SLEEPERS}
+use Rattle.tag_pool.proofs.pool.Pool.sleep.Goals as goal
+
+pub sleep-requires-clause-in_vain : goal.sleep-requires-clause-in_vain
+sleep-requires-clause-in_vain g c = (c.requires.may SLEEPERS).0
+
+pub sleep-requires-clause-done : goal.sleep-requires-clause-done
+sleep-requires-clause-done g c = λ list low. (c.requires.may list).1

@@ -1,0 +1,13 @@
+-- The hand has slept some times, and can wait again.
+use Rattle.tag_pool.proofs.Uses.{IsStillOf, ℕ}
+use Rattle.tag_pool.specs.Waits.{AreSleeps, CanWait}
+use Rattle.tag_pool.proofs.pool.Pool.sleep_for_tag.Given as goal
+
+abbrev pub invariant-loop : goal.invariant-loop
+invariant-loop g l = record {
+  turns : (goal.iterator-loop g).can_next l.iterator' × (goal.iterator-loop g).is_finite l.iterator';
+  hand : IsStillOf l.self l.fn.hand l.hand;
+  can : CanWait l.hand;
+  sleeps : ℕ;
+  slept : AreSleeps sleeps l.self l.fn.hand l.hand;
+}

@@ -1,0 +1,43 @@
+//! Reserved and ordinary tags shared by threads: one range of numbers over two maps, behind one handle for each thread,
+//! as in Linux's `blk_mq_tags`. Who waits for an ordinary tag waits by the bell.
+#![tactic(auto)]
+
+mod bell;
+mod clears;
+mod fault;
+mod gather;
+mod gets;
+mod hand;
+mod kind;
+mod loans;
+mod looks;
+mod meets;
+mod opens;
+mod options;
+mod peeks;
+mod pool;
+mod resizes;
+mod shown;
+mod side;
+mod sleeps;
+mod slots;
+mod usage;
+
+pub use clears::batches::MAX_BATCH;
+pub use clears::lists::{are_below, are_distinct};
+pub use fault::{OpenFault, TagFault};
+pub use gather::PoolGatherFault;
+pub use gets::Got;
+pub use gets::rounds::{Next, Sleeper};
+pub use hand::Hand;
+pub use kind::Kind;
+pub use looks::texts::{write_dump, write_show};
+pub use options::Options;
+pub use pool::Pool;
+pub use resizes::{PoolResizeFault, ResizeCause};
+pub use shown::Shown;
+pub use step_ledger::{GatherCause, Numbered};
+pub use tag_bell::{LISTENERS, SLEEPERS, Told, Turn, Woken};
+pub use tag_layout::{MAX_DEPTH, MAX_SHIFT};
+pub use tag_model::{MAX_CALLERS, MOST_WON, Totals};
+pub use tag_search::{Found, Unfinished};

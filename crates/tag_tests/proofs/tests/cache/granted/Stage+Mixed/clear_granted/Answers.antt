@@ -1,7 +1,0 @@
--- The caller stays one of the tags' own, so all do.
-use Rattle.tag_tests.proofs.Uses.{All-set, IsOwn}
-use Rattle.tag_tests.proofs.tests.cache.granted.Stage+Mixed.clear_granted.Goals as goal
-
-pub invariant_of-self-2-clause-own : goal.invariant_of-self-2-clause-own
-invariant_of-self-2-clause-own c = let stage = c.args.self.now in
-    All-set (IsOwn stage.tags.tags) stage.callers.items c.args.at c.clear_granted.new.caller c.clear_granted.ensures stage.own

@@ -1,0 +1,135 @@
+//! Whom calls tell, and waits that are ended by others. A bit of a mask stands for the hand of that number.
+use crate::tests::answers::Answer::{
+    BatchAndTold, Done, Tag, TagAndLeft, TagAndTold, Told, Waiters, WasTold,
+};
+use crate::tests::calls::Call::{
+    Clear, ClearBoth, ClearMask, ClearQuietly, FindsWaiters, Get, GetBatch, GetQuietly,
+    GetReserved, GetShallow, GetUp, IsTold, ListSelf, SeeTo, SeeToAll,
+};
+use crate::tests::shared::stages::{expect, expect_steps, pool};
+use crate::tests::steps::Step::{Calls, Gets};
+use std::test::Fail;
+use tag_pool::{LISTENERS, SLEEPERS};
+
+#[test]
+fn a_clear_tells_one_of_each_list(rt: HostRuntime) -> Result<(), Fail> {
+    expect(
+        &rt,
+        pool(3, 1, 4),
+        &[
+            (0, GetReserved, Tag(0)),
+            (0, Get, Tag(1)),
+            (0, Get, Tag(2)),
+            (0, FindsWaiters, Waiters(false)),
+            (1, ListSelf(SLEEPERS), Done),
+            (2, ListSelf(SLEEPERS), Done),
+            (3, ListSelf(LISTENERS), Done),
+            (0, FindsWaiters, Waiters(true)),
+            // Nobody waits for a reserved tag.
+            (0, Clear(0), Told(0)),
+            (1, IsTold(SLEEPERS), WasTold(false)),
+            (0, Clear(1), Told(0b1010)),
+            (1, IsTold(SLEEPERS), WasTold(true)),
+            (2, IsTold(SLEEPERS), WasTold(false)),
+            (1, GetUp(SLEEPERS), WasTold(true)),
+            (3, GetUp(LISTENERS), WasTold(true)),
+            (2, GetUp(SLEEPERS), WasTold(false)),
+            (0, Clear(2), Told(0)),
+        ],
+    )
+}
+
+#[test]
+fn a_batch_and_a_mask_tell_one_for_each_tag(rt: HostRuntime) -> Result<(), Fail> {
+    let listed = Calls(&[
+        (1, ListSelf(SLEEPERS), Done),
+        (2, ListSelf(SLEEPERS), Done),
+        (3, ListSelf(SLEEPERS), Done),
+    ]);
+    for clear in [ClearBoth(1, 3), ClearMask(1, 0b101)] {
+        expect_steps(
+            &rt,
+            pool(4, 0, 4),
+            &[
+                Gets(0, 4),
+                listed,
+                Calls(&[(0, clear, Told(0b0110)), (0, Clear(0), Told(0b1000))]),
+            ],
+        )?;
+    }
+    Ok(())
+}
+
+/// Two cleared tags are set aside, of which the get takes one: its sweep makes the other free, so it tells who listed
+/// itself after the clears.
+#[test]
+fn a_get_tells_of_the_tags_that_it_left_free(rt: HostRuntime) -> Result<(), Fail> {
+    for (get, answer) in [
+        (Get, TagAndTold(1, 0b10)),
+        (GetShallow(4), TagAndTold(1, 0b10)),
+        (GetBatch(1), BatchAndTold(1, 1, 0b10)),
+    ] {
+        expect_steps(
+            &rt,
+            pool(4, 0, 2).in_words(2),
+            &[
+                Gets(0, 4),
+                Calls(&[
+                    (0, Clear(2), Told(0)),
+                    (0, Clear(1), Told(0)),
+                    (1, ListSelf(SLEEPERS), Done),
+                    (0, get, answer),
+                ]),
+            ],
+        )?;
+    }
+    Ok(())
+}
+
+#[test]
+fn quiet_calls_tell_nobody(rt: HostRuntime) -> Result<(), Fail> {
+    expect_steps(
+        &rt,
+        pool(4, 0, 3).in_words(2),
+        &[
+            Gets(0, 4),
+            Calls(&[
+                (1, ListSelf(SLEEPERS), Done),
+                (2, ListSelf(LISTENERS), Done),
+                (0, ClearQuietly(2), Done),
+                (0, ClearQuietly(1), Done),
+                (0, ClearQuietly(0), Done),
+                (0, GetQuietly, TagAndLeft(0, 2)),
+                (1, IsTold(SLEEPERS), WasTold(false)),
+                (0, SeeTo(2), Told(0b110)),
+                (0, SeeTo(2), Told(0)),
+            ]),
+        ],
+    )
+}
+
+/// Hand 0 clears a tag and tells hand 2, which has waited longest; hand 1 clears the other tag and tells nobody. Hand
+/// 2 takes a tag, and so has to tell hand 3.
+#[test]
+fn who_was_told_and_has_a_tag_sees_to_the_next(rt: HostRuntime) -> Result<(), Fail> {
+    expect(
+        &rt,
+        pool(2, 0, 4),
+        &[
+            (0, Get, Tag(0)),
+            (1, Get, Tag(1)),
+            (2, ListSelf(SLEEPERS), Done),
+            (3, ListSelf(SLEEPERS), Done),
+            (0, Clear(0), Told(0b0100)),
+            (1, ClearQuietly(1), Done),
+            (2, GetUp(SLEEPERS), WasTold(true)),
+            (2, GetQuietly, TagAndLeft(0, 1)),
+            (2, SeeToAll, Told(0b1000)),
+            (3, GetUp(SLEEPERS), WasTold(true)),
+            (3, Get, Tag(1)),
+            (2, ListSelf(SLEEPERS), Done),
+            // No tag is free, so there is nothing to tell.
+            (3, SeeToAll, Told(0)),
+        ],
+    )
+}

@@ -1,0 +1,147 @@
+// Made of crates/tag_script/src/lines.rt, where the contracts are, by rust/generate.
+
+//! The lines of answers.
+
+use crate::base::vec::{AllocError, Vec};
+use crate::proved::tag_queue::ResizeCause;
+use crate::proved::tag_script::answer::Answer;
+use crate::proved::tag_script::text::{end_line, push_field};
+use crate::proved::tag_sets::{write_dump, write_show, Left, Shown, TagFault, Wakes};
+
+impl Answer {
+    /// Appends the line of this answer. A show has five lines, and a dump one for every sixteen bytes, rounded up.
+    pub fn push_to(&self, text: &mut Vec<u8>) -> Result<(), AllocError> {
+        match self {
+            Answer::Tag(tag) => push_tag(text, *tag),
+            Answer::Batch(won) => push_batch(text, *won),
+            Answer::Done(woken) => push_done(text, *woken),
+            Answer::Group(group) => push_line(text, b"group ", u64::from(*group)),
+            Answer::Left(left) => push_left(text, *left),
+            Answer::Wakes(wakes) => push_wakes(text, *wakes),
+            Answer::Busy(tags) => push_busy(text, tags.as_slice()),
+            Answer::Shown(shown) => push_shown(text, shown),
+            Answer::Dump(bytes) => push_dump(text, bytes.as_slice()),
+            Answer::Refused(fault) => push_line(text, b"refused ", number_of(*fault)),
+            Answer::NotResized(cause) => push_not_resized(text, *cause),
+        }
+    }
+}
+
+/// Appends words, a number and a line feed.
+fn push_line(text: &mut Vec<u8>, words: &[u8], number: u64) -> Result<(), AllocError> {
+    push_field(text, words, number)?;
+    end_line(text)
+}
+
+fn push_words(text: &mut Vec<u8>, words: &[u8]) -> Result<(), AllocError> {
+    text.extend_from_slice(words)?;
+    Ok(())
+}
+
+fn push_tag(text: &mut Vec<u8>, answer: Option<u32>) -> Result<(), AllocError> {
+    match answer {
+        Some(tag) => push_line(text, b"", u64::from(tag)),
+        None => push_words(text, b"none\n"),
+    }
+}
+
+fn push_batch(text: &mut Vec<u8>, answer: Option<(u32, u64)>) -> Result<(), AllocError> {
+    match answer {
+        Some((tag, bits)) => {
+            push_field(text, b"mask ", bits)?;
+            push_line(text, b" at ", u64::from(tag))
+        }
+        None => push_words(text, b"none\n"),
+    }
+}
+
+fn push_done(text: &mut Vec<u8>, woken: u32) -> Result<(), AllocError> {
+    if woken == 0 {
+        push_words(text, b"ok\n")
+    } else {
+        push_line(text, b"ok woken ", u64::from(woken))
+    }
+}
+
+fn push_left(text: &mut Vec<u8>, left: Left) -> Result<(), AllocError> {
+    match left {
+        Left::Woken => push_words(text, b"woken\n"),
+        Left::Unwoken => push_words(text, b"unwoken\n"),
+    }
+}
+
+fn push_wakes(text: &mut Vec<u8>, wakes: Wakes) -> Result<(), AllocError> {
+    push_field(text, b"counted=", wakes.counted)?;
+    push_field(text, b" charged=", wakes.charged)?;
+    push_field(text, b" index=", u64::from(wakes.index))?;
+    push_line(text, b" active=", wakes.active)
+}
+
+fn push_busy(text: &mut Vec<u8>, tags: &[u32]) -> Result<(), AllocError> {
+    push_words(text, b"busy")?;
+    for tag in tags {
+        push_field(text, b" ", u64::from(*tag))?;
+    }
+    end_line(text)
+}
+
+fn push_shown(text: &mut Vec<u8>, shown: &Shown) -> Result<(), AllocError> {
+    match write_show(shown, text) {
+        Ok(()) => Ok(()),
+        Err(_) => Err(AllocError),
+    }
+}
+
+fn push_dump(text: &mut Vec<u8>, bytes: &[u8]) -> Result<(), AllocError> {
+    match write_dump(bytes, text) {
+        Ok(()) => Ok(()),
+        Err(_) => Err(AllocError),
+    }
+}
+
+fn push_not_resized(text: &mut Vec<u8>, cause: ResizeCause) -> Result<(), AllocError> {
+    push_field(text, b"resize refused ", number_of_cause(cause))?;
+    push_hindrance(text, cause)?;
+    end_line(text)
+}
+
+/// Appends the numbers of a refused resize: tags in use, or waiting callers.
+fn push_hindrance(text: &mut Vec<u8>, cause: ResizeCause) -> Result<(), AllocError> {
+    match cause {
+        ResizeCause::InUse(held, posted) => push_in_use(text, held, posted),
+        ResizeCause::Waiting(count) => push_field(text, b" waiting=", u64::from(count)),
+        ResizeCause::Missing(_) | ResizeCause::Memory | ResizeCause::DepthTooLarge => Ok(()),
+    }
+}
+
+fn push_in_use(text: &mut Vec<u8>, held: u64, posted: u64) -> Result<(), AllocError> {
+    push_field(text, b" held=", held)?;
+    push_field(text, b" posted=", posted)
+}
+
+/// The number of a refused resize in the output.
+fn number_of_cause(cause: ResizeCause) -> u64 {
+    match cause {
+        ResizeCause::Missing(_) => 1,
+        ResizeCause::Memory => 3,
+        ResizeCause::InUse(_, _) => 4,
+        ResizeCause::DepthTooLarge => 5,
+        ResizeCause::Waiting(_) => 6,
+    }
+}
+
+/// The number of a refused command in the output.
+fn number_of(fault: TagFault) -> u64 {
+    match fault {
+        TagFault::NoSuchTag => 1,
+        TagFault::NoReserved => 2,
+        TagFault::NotHeld => 3,
+        TagFault::NotPosted => 4,
+        TagFault::BadCount => 5,
+        TagFault::TooShallow => 6,
+        TagFault::Spent => 7,
+        TagFault::Waiting => 8,
+        TagFault::NotWaiting => 9,
+        TagFault::OtherWait => 10,
+    }
+}

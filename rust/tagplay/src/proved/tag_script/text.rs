@@ -1,0 +1,72 @@
+// Made of crates/tag_script/src/text.rt, where the contracts are, by rust/generate.
+
+//! Texts, built from words and numbers.
+
+use crate::base::digits::Buffer;
+use crate::base::vec::{AllocError, Global, Vec};
+use crate::proved::tag_lines::{FaultyLine, LINE_FEED};
+use crate::proved::tag_model::Totals;
+use crate::proved::tag_sets::SetFault;
+
+/// Appends words and a number.
+pub(crate) fn push_field(text: &mut Vec<u8>, words: &[u8], number: u64) -> Result<(), AllocError> {
+    let mut buffer = Buffer::new();
+    text.extend_from_slice(words)?;
+    text.extend_from_slice(buffer.format(number).as_bytes())?;
+    Ok(())
+}
+
+/// Appends the four totals, each after its name.
+pub(crate) fn push_totals(text: &mut Vec<u8>, totals: Totals) -> Result<(), AllocError> {
+    push_field(text, b" got=", totals.got)?;
+    push_field(text, b" back=", totals.back)?;
+    push_field(text, b" held=", totals.held)?;
+    push_field(text, b" posted=", totals.posted)?;
+    Ok(())
+}
+
+/// Returns the line that reports a malformed line.
+pub fn faulty_text(alloc: Global, fault: FaultyLine) -> Result<Vec<u8>, AllocError> {
+    let mut text = Vec::new(alloc);
+    push_faulty(&mut text, fault)?;
+    Ok(text)
+}
+
+/// Appends the line that reports a malformed line.
+pub(crate) fn push_faulty(text: &mut Vec<u8>, fault: FaultyLine) -> Result<(), AllocError> {
+    push_field(text, b"line ", fault.number)?;
+    push_field(text, b" refused ", fault.cause.number())?;
+    end_line(text)
+}
+
+/// Returns the line that reports a refused setup.
+pub fn setup_text(alloc: Global, fault: SetFault) -> Result<Vec<u8>, AllocError> {
+    let mut text = Vec::new(alloc);
+    push_setup(&mut text, fault)?;
+    Ok(text)
+}
+
+/// Appends the line that reports a refused setup.
+pub(crate) fn push_setup(text: &mut Vec<u8>, fault: SetFault) -> Result<(), AllocError> {
+    push_field(text, b"setup refused ", number_of_setup(fault))?;
+    end_line(text)
+}
+
+/// The number of a refused setup in the output.
+fn number_of_setup(fault: SetFault) -> u64 {
+    match fault {
+        SetFault::Memory => 1,
+        SetFault::TotalTooLarge => 2,
+        SetFault::ReservedTooLarge => 3,
+        SetFault::ShiftTooLarge => 4,
+        SetFault::CallerCount => 5,
+        SetFault::LifeTooLong => 6,
+        SetFault::CapTooLarge => 7,
+    }
+}
+
+/// Appends a line feed.
+pub(crate) fn end_line(text: &mut Vec<u8>) -> Result<(), AllocError> {
+    text.push(LINE_FEED)?;
+    Ok(())
+}

@@ -1,0 +1,75 @@
+//! The proved pool as the rest of the crate uses it: nothing else calls `proved`.
+//!
+//! Its calls have preconditions that plain Rust does not know. Here each is met, by a type or by a check: a [`Member`]
+//! is a hand beside the tags that it was opened with, and a [`Held`] is a tag that its hand holds. `PRECONDITIONS.md`
+//! lists them.
+
+mod clears;
+mod faults;
+mod gets;
+mod held;
+mod looks;
+mod member;
+mod opens;
+mod passing;
+mod roster;
+mod rounds;
+mod told;
+mod way;
+
+pub(crate) use gets::Gotten;
+pub(crate) use held::{Held, HeldMask};
+pub(crate) use member::Member;
+pub(crate) use roster::Roster;
+pub(crate) use rounds::{List, Next, Turn};
+pub(crate) use told::Due;
+
+use crate::cells::Values;
+use crate::proved::tag_pool::Pool;
+
+/// The most tags of a pool.
+pub(crate) const MAX_TOTAL: u32 = crate::proved::tag_pool::MAX_DEPTH;
+
+/// The most tags that a hand keeps.
+const MAX_CACHE: u32 = 64;
+
+/// The tags of a pool. What is called often is not generic, so that it is compiled with the proved code and not in each
+/// program.
+struct Core {
+    tags: Pool<u64>,
+}
+
+/// The tags of a pool, with the values beside them. The hands that are out share them.
+pub(crate) struct Set<T> {
+    core: Core,
+    values: Values<T>,
+}
+
+impl<T> Set<T> {
+    /// Number of tags that gets take: the ordinary ones.
+    pub fn depth(&self) -> u32 {
+        self.core.tags.depth() - self.core.tags.reserved()
+    }
+
+    /// The value beside a tag, for its guard.
+    #[inline]
+    pub fn value<'a>(&'a self, held: &'a Held) -> &'a T {
+        self.values.of(held)
+    }
+
+    /// The value beside a tag, for its guard, to be changed.
+    #[inline]
+    pub fn value_mut<'a>(&'a self, held: &'a mut Held) -> &'a mut T {
+        self.values.of_mut(held)
+    }
+
+    /// The value beside a tag of a batch, for its guard.
+    pub fn value_in<'a>(&'a self, held: &'a HeldMask, number: u32) -> Option<&'a T> {
+        self.values.of_one(held, number)
+    }
+
+    /// The value beside a tag of a batch, for its guard, to be changed.
+    pub fn value_in_mut<'a>(&'a self, held: &'a mut HeldMask, number: u32) -> Option<&'a mut T> {
+        self.values.of_one_mut(held, number)
+    }
+}

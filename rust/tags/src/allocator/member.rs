@@ -1,0 +1,204 @@
+//! A hand that is out.
+
+use crate::allocator::way::{Terms, Way};
+use crate::allocator::{Core, Due, Gotten, Held, HeldMask, List, Next, Roster, Set, Turn};
+use crate::batch::Numbers;
+use crate::cells::Own;
+use crate::error::{Error, Result};
+use crate::options::{Kind, Sizes};
+use crate::proved::tag_pool::Hand;
+use alloc::sync::Arc;
+use alloc::vec::Vec;
+
+/// A hand with the tags that it belongs to: it is never used with others.
+pub(crate) struct Member<T> {
+    /// Its calls call nothing of the program, and no other call of the hand.
+    way: Own<Way>,
+    set: Arc<Set<T>>,
+    /// A bit for each tag that the hand holds and that has no guard: 1 is loose.
+    loose: Own<Vec<u64>>,
+    number: usize,
+}
+
+impl<T> Member<T> {
+    pub(super) fn new(set: Arc<Set<T>>, hand: Hand<u64>, loose: Vec<u64>, terms: Terms) -> Member<T> {
+        let way = Way::new(hand, terms);
+        Member {
+            number: way.number() as usize,
+            way: Own::new(way),
+            set,
+            loose: Own::new(loose),
+        }
+    }
+
+    #[inline(always)]
+    fn call<R>(&self, call: impl FnOnce(&mut Way, &Core) -> R) -> R {
+        self.way.lend(|way| call(way, &self.set.core))
+    }
+
+    /// The hand's number, below that of the pool's hands.
+    #[inline]
+    pub fn number(&self) -> usize {
+        self.number
+    }
+
+    /// The tags that the hand belongs to.
+    #[inline]
+    pub fn set(&self) -> &Arc<Set<T>> {
+        &self.set
+    }
+
+    /// Gives the hand back to its pool, once it keeps nothing (`flush`).
+    pub fn leave(&self, roster: &mut Roster<T>) {
+        if let Some(hand) = self.call(Way::leave) {
+            roster.take_back(hand, &self.set);
+        }
+    }
+
+    /// Takes a tag. Without one `outcome` says what the get did.
+    #[inline]
+    pub fn try_get(&self) -> Option<Held> {
+        self.call(Way::try_get)
+    }
+
+    /// What a `try_get` did that did not simply win a tag.
+    pub fn outcome(&self) -> Gotten<Held> {
+        self.call(|way, _| way.outcome())
+    }
+
+    #[inline]
+    pub fn get(&self) -> Gotten<Held> {
+        self.call(Way::get)
+    }
+
+    pub fn get_reserved(&self) -> Result<Option<Held>> {
+        self.call(Way::get_reserved)
+    }
+
+    pub fn get_shallow(&self, depth: u32) -> Gotten<Held> {
+        self.call(|way, core| way.get_shallow(core, depth))
+    }
+
+    /// `n` is at most the tags of a word, or the call is refused.
+    pub fn get_batch(&self, n: u32) -> Gotten<HeldMask> {
+        self.call(|way, core| way.get_batch(core, n))
+    }
+
+    /// Gives a tag back.
+    #[inline]
+    pub fn clear(&self, held: Held) {
+        self.call(|way, core| way.clear(core, held));
+    }
+
+    /// How many tags the last `clear` made free.
+    pub fn freed(&self) -> u32 {
+        self.call(|way, _| way.freed())
+    }
+
+    /// Gives tags back together. Returns how many became free, as the calls below do.
+    pub fn clear_mask(&self, held: HeldMask) -> u32 {
+        self.call(|way, core| way.clear_mask(core, held))
+    }
+
+    /// Gives all kept tags back.
+    pub fn flush(&self) -> u32 {
+        self.call(Way::flush)
+    }
+
+    /// Whether the hand may keep tags.
+    pub fn may_keep(&self) -> bool {
+        self.call(|way, _| way.may_keep())
+    }
+
+    /// Tells those who wait for this many tags that became free, if any did. If somebody waits, what the hand keeps goes
+    /// back too.
+    pub fn see_to(&self, freed: u32) -> Due {
+        self.call(|way, core| way.see_to(core, freed))
+    }
+
+    pub fn read(&self, held: &Held) -> u64 {
+        self.call(|way, core| way.read(core, held.number()))
+    }
+
+    /// Writes the slot of a tag, and returns the former value.
+    pub fn write(&self, held: &Held, value: u64) -> u64 {
+        self.call(|way, core| way.write(core, held.number(), value))
+    }
+
+    pub fn read_in(&self, held: &HeldMask, number: u32) -> Option<u64> {
+        let is_held = held.numbers().has(number);
+        is_held.then(|| self.call(|way, core| way.read(core, number)))
+    }
+
+    pub fn write_in(&self, held: &HeldMask, number: u32, value: u64) -> Option<u64> {
+        let is_held = held.numbers().has(number);
+        is_held.then(|| self.call(|way, core| way.write(core, number, value)))
+    }
+
+    /// Offers a tag to all hands of the pool, and returns its number. Tags that are kept only beside it go back.
+    pub fn post(&self, held: Held) -> (u32, u32) {
+        let number = held.number();
+        (number, self.call(|way, core| way.post(core, number)))
+    }
+
+    /// Offers tags to all hands of the pool, and returns their numbers.
+    pub fn post_mask(&self, held: HeldMask) -> (Numbers, u32) {
+        let numbers = held.numbers();
+        (numbers, self.call(|way, core| way.post_each(core, numbers.iter())))
+    }
+
+    /// Takes a posted tag.
+    pub fn take(&self, number: u32) -> Result<Held> {
+        self.call(|way, core| way.take(core, number))
+    }
+
+    /// Takes posted tags: all of them or none. Those taken before one that is not posted are posted again.
+    pub fn take_mask(&self, posted: Numbers) -> (Result<HeldMask>, u32) {
+        self.call(|way, core| way.take_mask(core, posted))
+    }
+
+    /// Ends a guard whose tag the hand goes on to hold, and returns its number.
+    pub fn let_go(&self, held: Held) -> u32 {
+        let number = held.number();
+        self.loose
+            .lend(|loose| loose[number as usize / 64] |= 1 << (number % 64));
+        number
+    }
+
+    /// Makes the guard of a tag that the hand holds without one.
+    pub fn claim(&self, number: u32) -> Result<Held> {
+        let bit = 1 << (number % 64);
+        self.loose.lend(|loose| match loose.get_mut(number as usize / 64) {
+            Some(bits) if *bits & bit != 0 => {
+                *bits &= !bit;
+                Ok(Held::new(number))
+            }
+            _ => Err(Error::NotHeld),
+        })
+    }
+
+    pub fn busy(&self, into: &mut [u64]) -> Result<u32> {
+        self.call(|way, core| way.busy(core, into))
+    }
+
+    pub fn show(&self, kind: Kind) -> Sizes {
+        self.call(|way, core| way.show(core, kind))
+    }
+
+    /// Whether the hand holds this tag. One that it keeps it does not hold.
+    pub fn holds(&self, number: u32) -> Result<bool> {
+        self.call(|way, core| way.holds(core, number))
+    }
+
+    /// One round of a wait, after a get that found none: lists the hand and tries each tag, or ends the wait. If it
+    /// answers `Sleep` the hand may sleep. Otherwise it waits no more and has nothing to see to. Those told are to be
+    /// woken.
+    pub fn wait_on(&self, list: List, is_over: bool, turn: Turn) -> (Result<Next>, Due) {
+        self.call(|way, core| way.wait_on(core, list, is_over, turn))
+    }
+
+    /// One round of the wait of a hand for futures, also where other calls of the hand came between.
+    pub fn listen_on(&self, is_over: bool, turn: Turn) -> (Result<Next>, Due) {
+        self.call(|way, core| way.listen_on(core, is_over, turn))
+    }
+}

@@ -1,0 +1,137 @@
+//! A lock over a word on which threads sleep.
+
+use crate::sleep::Sleeper;
+use core::cell::UnsafeCell;
+use core::hint::spin_loop;
+use core::marker::PhantomData;
+use core::ops::{Deref, DerefMut};
+use core::sync::atomic::{AtomicU32, Ordering::Acquire, Ordering::Relaxed, Ordering::Release};
+
+// The states of the word.
+const FREE: u32 = 0;
+const HELD: u32 = 1;
+/// A thread may sleep, so whoever frees the lock wakes.
+const AWAITED: u32 = 2;
+
+/// How often a thread looks before it sleeps.
+const LOOKS: u32 = 100;
+
+/// A value that one thread at a time uses, for a short time.
+pub struct Lock<T> {
+    state: AtomicU32,
+    sleeper: &'static dyn Sleeper,
+    value: UnsafeCell<T>,
+}
+
+// SAFETY: the guard of the thread that took the lock is the only one, so the value goes from thread to thread.
+unsafe impl<T: Send> Sync for Lock<T> {}
+
+/// The right to use the value of a lock.
+pub struct Guard<'a, T> {
+    lock: &'a Lock<T>,
+    /// It is sent to no other thread.
+    own: PhantomData<*mut T>,
+}
+
+impl<T> Lock<T> {
+    pub fn new(value: T, sleeper: &'static dyn Sleeper) -> Lock<T> {
+        Lock {
+            state: AtomicU32::new(FREE),
+            sleeper,
+            value: UnsafeCell::new(value),
+        }
+    }
+
+    #[inline]
+    pub fn lock(&self) -> Guard<'_, T> {
+        if !self.takes(FREE, HELD) {
+            self.wait();
+        }
+        Guard {
+            lock: self,
+            own: PhantomData,
+        }
+    }
+
+    #[inline]
+    fn takes(&self, from: u32, to: u32) -> bool {
+        self.state.compare_exchange(from, to, Acquire, Relaxed).is_ok()
+    }
+
+    /// Whoever has slept takes the lock as one that is awaited, as others may sleep still.
+    #[cold]
+    fn wait(&self) {
+        for _ in 0..LOOKS {
+            if self.takes(FREE, HELD) {
+                return;
+            }
+            spin_loop();
+        }
+        while self.state.swap(AWAITED, Acquire) != FREE {
+            self.sleeper.sleep(&self.state, AWAITED, None);
+        }
+    }
+
+    #[inline]
+    fn free(&self) {
+        if self.state.swap(FREE, Release) == AWAITED {
+            self.wake();
+        }
+    }
+
+    #[cold]
+    fn wake(&self) {
+        self.sleeper.wake(&self.state);
+    }
+}
+
+impl<T> Deref for Guard<'_, T> {
+    type Target = T;
+
+    #[inline]
+    fn deref(&self) -> &T {
+        // SAFETY: the lock is held as long as the guard lives, which lends the value no longer.
+        unsafe { &*self.lock.value.get() }
+    }
+}
+
+impl<T> DerefMut for Guard<'_, T> {
+    #[inline]
+    fn deref_mut(&mut self) -> &mut T {
+        // SAFETY: as in `deref`, and nothing else borrows the guard.
+        unsafe { &mut *self.lock.value.get() }
+    }
+}
+
+impl<T> Drop for Guard<'_, T> {
+    #[inline]
+    fn drop(&mut self) {
+        self.lock.free();
+    }
+}
+
+#[cfg(test)]
+mod tests {
+    use super::Lock;
+    use crate::sleep::default_sleeper;
+    use std::thread;
+
+    #[test]
+    fn one_thread_at_a_time() {
+        let lock = Lock::new(0_u64, default_sleeper());
+        thread::scope(|threads| {
+            for _ in 0..8 {
+                threads.spawn(|| {
+                    for round in 0..20_000 {
+                        let mut value = lock.lock();
+                        *value += 1;
+                        if round % 1000 == 0 {
+                            thread::yield_now();
+                        }
+                    }
+                });
+            }
+        });
+        assert_eq!(*lock.lock(), 160_000);
+    }
+}

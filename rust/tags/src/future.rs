@@ -1,0 +1,230 @@
+//! Waits that block no thread.
+
+use crate::allocator::{Due, Held, Next};
+use crate::bell::Bell;
+use crate::error::{Error, Result};
+use crate::hand::Hand;
+use crate::owned::OwnedTag;
+use crate::queue::{wake_all, Queue, State, Waiter};
+use crate::shared::SharedHand;
+use crate::tag::Tag;
+use alloc::vec::Vec;
+use core::fmt;
+use core::future::Future;
+use core::pin::Pin;
+use core::task::{Context, Poll, Waker};
+
+/// Lends a hand to a future, for one call at a time, and then wakes those whom the call told.
+pub(crate) trait Lends {
+    type Value;
+
+    fn lend<R>(&self, call: impl FnOnce(&Hand<Self::Value>) -> (R, Due)) -> R;
+
+    fn bell(&self) -> &Bell;
+
+    fn queue(&self) -> &Queue;
+}
+
+impl<T> Lends for &Hand<T> {
+    type Value = T;
+
+    fn lend<R>(&self, call: impl FnOnce(&Hand<T>) -> (R, Due)) -> R {
+        let (answer, due) = call(self);
+        self.home.bell.wake(due);
+        answer
+    }
+
+    fn bell(&self) -> &Bell {
+        &self.home.bell
+    }
+
+    fn queue(&self) -> &Queue {
+        Hand::queue(self)
+    }
+}
+
+/// A future's wait for a tag, in the queue of its hand.
+struct Waiting<L: Lends> {
+    lender: L,
+    /// The future's number in the queue while it is there.
+    number: Option<u64>,
+}
+
+impl<L: Lends> Waiting<L> {
+    fn new(lender: L) -> Waiting<L> {
+        Waiting { lender, number: None }
+    }
+
+    fn poll(&mut self, waker: &Waker) -> Poll<Result<Held>> {
+        let answer = match self.number {
+            Some(number) => {
+                drop(self.lender.queue().renew(number, waker.clone()));
+                self.look(number)
+            }
+            None => match self.find()? {
+                Some(held) => return Poll::Ready(Ok(held)),
+                None => self.join(waker.clone()),
+            },
+        };
+        answer.map_or(Poll::Pending, |answer| self.finish(answer))
+    }
+
+    /// Tries before it waits.
+    fn find(&self) -> Result<Option<Held>> {
+        if self.lender.bell().is_stopped() {
+            return Err(Error::Stopped);
+        }
+        self.lender.lend(|hand| hand.after_get(hand.member.get()))
+    }
+
+    /// Begins to wait. The first one lists the hand, also for those that join meanwhile.
+    fn join(&mut self, waker: Waker) -> Option<Result<Held>> {
+        let (number, is_first) = self.lender.queue().join(self.lender.bell(), waker);
+        self.number = Some(number);
+        if is_first {
+            self.try_for_all(Some(number))
+        } else {
+            self.look(number)
+        }
+    }
+
+    /// Returns what this future gets, if it gets anything, after a try if the hand was told of a tag.
+    fn look(&self, number: u64) -> Option<Result<Held>> {
+        match self.lender.queue().look(number) {
+            State::Answered(answer) => Some(answer),
+            State::Told => self.try_for_all(Some(number)),
+            State::Waiting => None,
+        }
+    }
+
+    fn finish(&mut self, answer: Result<Held>) -> Poll<Result<Held>> {
+        self.number = None;
+        // A stop answers futures without their hand.
+        if matches!(answer, Err(Error::Stopped)) && self.lender.queue().is_empty() {
+            self.try_for_all(None);
+        }
+        Poll::Ready(answer)
+    }
+
+    /// The hand tries for those that wait, one after another, until it finds no tag: then it is listed, and has tried
+    /// once more. If none waits any longer, it is not listed. Returns what it got for the future that makes this call,
+    /// and wakes the others that got something.
+    fn try_for_all(&self, own: Option<u64>) -> Option<Result<Held>> {
+        let (mut woken, bell) = (Vec::new(), self.lender.bell());
+        let own = self.lender.lend(|hand| hand.try_for_futures(bell, own, &mut woken));
+        wake_all(woken);
+        // The future's waker is dropped here, without the hand's lock.
+        own.map(|(answer, _)| answer)
+    }
+
+    /// Ends the wait of a future that is dropped.
+    fn end(&mut self) {
+        let Some(number) = self.number.take() else {
+            return;
+        };
+        let left = self.lender.queue().leave(self.lender.bell(), number);
+        if let Some(held) = left.tag {
+            self.lender.lend(|hand| ((), hand.give(held)));
+        }
+        if left.is_hand_due {
+            self.try_for_all(None);
+        }
+    }
+}
+
+/// What a future got, with its place in the queue.
+type Own = Option<(Result<Held>, Waiter)>;
+
+impl<T> Hand<T> {
+    /// Returns what it got for the future `own`.
+    fn try_for_futures(&self, bell: &Bell, own: Option<u64>, woken: &mut Vec<Waker>) -> (Own, Due) {
+        let (mut of_own, mut due) = (None, Due::NOBODY);
+        self.queue().hear();
+        while !self.queue().is_empty() {
+            let (next, told) = self.listen();
+            due = due.and(told);
+            let answer = match next {
+                Ok(Next::Won(held)) => Ok(held),
+                Ok(Next::Sleep) => return (of_own, due),
+                Ok(Next::Over) if bell.is_stopped() => Err(Error::Stopped),
+                // A stop has ended the hand's wait and answered those that waited then, and the pool was resumed.
+                Ok(Next::Over) => continue,
+                Err(error) => Err(error),
+            };
+            match self.queue().answer_first(bell, answer, own) {
+                (Some(first), Some(answer)) => of_own = Some((answer, first)),
+                (Some(first), None) => woken.extend(first.waker),
+                // The last one has been dropped meanwhile.
+                (None, Some(Ok(held))) => due = due.and(self.give(held)),
+                (None, _) => (),
+            }
+        }
+        (of_own, due.and(self.end_listening()))
+    }
+}
+
+impl<L: Lends> Drop for Waiting<L> {
+    fn drop(&mut self) {
+        self.end();
+    }
+}
+
+/// The future of [`Hand::get_async`]. Dropping it ends the wait. One that is leaked stays in its place, where it is
+/// woken and gets a tag in its turn; that tag goes back when the hand is dropped.
+#[must_use = "a future does nothing unless it is polled"]
+pub struct GetAsync<'a, T = ()> {
+    waiting: Waiting<&'a Hand<T>>,
+}
+
+impl<'a, T> GetAsync<'a, T> {
+    pub(crate) fn new(hand: &'a Hand<T>) -> GetAsync<'a, T> {
+        GetAsync {
+            waiting: Waiting::new(hand),
+        }
+    }
+}
+
+impl<'a, T> Future for GetAsync<'a, T> {
+    type Output = Result<Tag<'a, T>>;
+
+    fn poll(mut self: Pin<&mut Self>, context: &mut Context<'_>) -> Poll<Self::Output> {
+        let hand = self.waiting.lender;
+        let found = self.waiting.poll(context.waker());
+        found.map_ok(|held| Tag::new(hand, held))
+    }
+}
+
+impl<T> fmt::Debug for GetAsync<'_, T> {
+    fn fmt(&self, f: &mut fmt::Formatter<'_>) -> fmt::Result {
+        f.debug_struct("GetAsync").finish_non_exhaustive()
+    }
+}
+
+/// The future of [`SharedHand::get_async`]. It keeps its hand alive, and so does its tag.
+#[must_use = "a future does nothing unless it is polled"]
+pub struct GetAsyncOwned<T = ()> {
+    waiting: Waiting<SharedHand<T>>,
+}
+
+impl<T> GetAsyncOwned<T> {
+    pub(crate) fn new(hand: SharedHand<T>) -> GetAsyncOwned<T> {
+        GetAsyncOwned {
+            waiting: Waiting::new(hand),
+        }
+    }
+}
+
+impl<T> Future for GetAsyncOwned<T> {
+    type Output = Result<OwnedTag<T>>;
+
+    fn poll(mut self: Pin<&mut Self>, context: &mut Context<'_>) -> Poll<Self::Output> {
+        let found = self.waiting.poll(context.waker());
+        found.map_ok(|held| OwnedTag::new(self.waiting.lender.clone(), held))
+    }
+}
+
+impl<T> fmt::Debug for GetAsyncOwned<T> {
+    fn fmt(&self, f: &mut fmt::Formatter<'_>) -> fmt::Result {
+        f.debug_struct("GetAsyncOwned").finish_non_exhaustive()
+    }
+}

@@ -1,0 +1,242 @@
+//! The hand through which a thread takes tags.
+
+use crate::allocator::{Due, Held, Member};
+use crate::batch::Batch;
+use crate::error::Result;
+use crate::options::{Kind, Sizes};
+use crate::pool::Home;
+use crate::queue::Queue;
+use crate::shared::SharedHand;
+use crate::tag::Tag;
+use crate::waits::Listening;
+use alloc::sync::Arc;
+use core::cell::Cell;
+use core::fmt;
+use core::panic::{RefUnwindSafe, UnwindSafe};
+
+/// A hand, through which one thread takes tags. It is `Send` but not `Sync`: no two threads can use it at once.
+/// Dropping it returns it to its pool. [`into_shared`](Hand::into_shared) turns it into one that several threads and
+/// tasks share, and whose tags borrow nothing.
+///
+/// ```compile_fail
+/// fn share<T: Sync>() {}
+/// share::<tags::Hand>();
+/// ```
+///
+/// ```compile_fail
+/// fn send<T: Send>() {}
+/// send::<tags::Tag<'static>>();
+/// ```
+///
+/// ```
+/// fn send<T: Send>() {}
+/// send::<tags::Hand>();
+/// ```
+pub struct Hand<T = ()> {
+    pub(crate) member: Member<T>,
+    pub(crate) home: Arc<Home<T>>,
+    pub(crate) listening: Cell<Listening>,
+}
+
+// As with a lock of `std` that is poisoned: what a panic leaves behind beside a tag, its next holder finds.
+impl<T: UnwindSafe + RefUnwindSafe> UnwindSafe for Hand<T> {}
+impl<T: UnwindSafe + RefUnwindSafe> RefUnwindSafe for Hand<T> {}
+
+impl<T> Hand<T> {
+    pub(crate) fn new(member: Member<T>, home: Arc<Home<T>>) -> Hand<T> {
+        Hand {
+            member,
+            home,
+            listening: Cell::default(),
+        }
+    }
+
+    // A call returns how many tags it made free, and whoever waits is to be told of them, and then woken. That may call a
+    // waker: a hand behind a lock wakes after the lock is left.
+
+    /// Wakes those whom a call told.
+    #[inline]
+    pub(crate) fn settle<R>(&self, (answer, due): (R, Due)) -> R {
+        self.home.bell.wake(due);
+        answer
+    }
+
+    /// Ends a get, which made so many tags free that it did not take.
+    #[inline]
+    pub(crate) fn after_get<R>(&self, (found, left): (R, u32)) -> (R, Due) {
+        let due = if left > 0 { self.see_to(left) } else { Due::NOBODY };
+        (found, due)
+    }
+
+    /// Ends a call that gave tags back, or let go of some: so many became free.
+    pub(crate) fn after_giving<R>(&self, (answer, freed): (R, u32)) -> (R, Due) {
+        (answer, self.see_to(freed))
+    }
+
+    /// Tells those who wait. If nobody is counted who waits, nobody is told.
+    #[inline]
+    fn see_to(&self, freed: u32) -> Due {
+        if self.home.bell.is_awaited() {
+            return self.tell(freed);
+        }
+        Due::NOBODY
+    }
+
+    /// Tells those who wait of tags that became free. What the hand keeps goes back while anybody waits. Threads that wait
+    /// until all tags are back look again.
+    #[cold]
+    pub(crate) fn tell(&self, freed: u32) -> Due {
+        let bell = &self.home.bell;
+        let due = if self.member.may_keep() {
+            let due = self.member.see_to(freed);
+            due.and(self.member.see_to(self.member.flush()))
+        } else if freed == 0 {
+            return Due::NOBODY;
+        } else if bell.are_enough_waking(self.member.set().depth()) {
+            Due::NOBODY
+        } else {
+            self.member.see_to(freed)
+        };
+        bell.tags().open(bell.sleeper);
+        due
+    }
+
+    /// The futures that wait behind this hand.
+    pub(crate) fn queue(&self) -> &Queue {
+        self.home.bell.queue(self.member.number())
+    }
+
+    /// Gives a held tag back.
+    pub(crate) fn give(&self, held: Held) -> Due {
+        self.member.clear(held);
+        self.see_to(self.member.freed())
+    }
+
+    /// Gives a held tag back, and wakes those who wait.
+    #[inline]
+    pub(crate) fn give_and_wake(&self, held: Held) {
+        self.member.clear(held);
+        if self.home.bell.is_awaited() {
+            self.tell_and_wake();
+        }
+    }
+
+    #[cold]
+    fn tell_and_wake(&self) {
+        self.home.bell.wake(self.tell(self.member.freed()));
+    }
+
+    /// Takes a free ordinary tag. `None` means that each tag was found taken at some moment of the call, not that all
+    /// were taken at one moment.
+    ///
+    /// ```
+    /// # use tags::{Options, Pool};
+    /// # fn main() -> tags::Result<()> {
+    /// let pool = Pool::open(&Options::new(1, 1))?;
+    /// let hand = pool.join()?;
+    /// let tag = hand.get()?;
+    /// assert!(tag.is_some() && hand.get()?.is_none());
+    /// drop(tag);
+    /// assert!(hand.get()?.is_some());
+    /// # Ok(())
+    /// # }
+    /// ```
+    #[inline]
+    pub fn get(&self) -> Result<Option<Tag<'_, T>>> {
+        match self.member.try_get() {
+            Some(held) => Ok(Some(Tag::new(self, held))),
+            None => self.outcome(),
+        }
+    }
+
+    #[inline(never)]
+    fn outcome(&self) -> Result<Option<Tag<'_, T>>> {
+        let found = self.settle(self.after_get(self.member.outcome()));
+        Ok(found?.map(|held| Tag::new(self, held)))
+    }
+
+    /// Takes a free reserved tag. `None` is as from [`get`](Hand::get).
+    #[inline]
+    pub fn get_reserved(&self) -> Result<Option<Tag<'_, T>>> {
+        Ok(self.member.get_reserved()?.map(|held| Tag::new(self, held)))
+    }
+
+    /// Takes a free ordinary tag out of a part of them: `depth` is how many ordinary tags calls with this depth may
+    /// use. Each word has a share of the depth in proportion to its tags, which can be 0.
+    #[inline]
+    pub fn get_shallow(&self, depth: u32) -> Result<Option<Tag<'_, T>>> {
+        let found = self.settle(self.after_get(self.member.get_shallow(depth)));
+        Ok(found?.map(|held| Tag::new(self, held)))
+    }
+
+    /// Takes up to `n` ordinary tags out of a run of `n`; if a word has fewer, out of as many as it has, which
+    /// [`Pool::batch_limit`](crate::Pool::batch_limit) tells. Under round robin it always returns `None`.
+    ///
+    /// ```
+    /// # use tags::{Options, Pool};
+    /// # fn main() -> tags::Result<()> {
+    /// let pool = Pool::open(&Options::new(16, 1))?;
+    /// let hand = pool.join()?;
+    /// let batch = hand.get_batch(3)?.unwrap();
+    /// assert!(batch.numbers().eq([0, 1, 2]));
+    /// # Ok(())
+    /// # }
+    /// ```
+    pub fn get_batch(&self, n: u32) -> Result<Option<Batch<'_, T>>> {
+        let found = self.settle(self.after_get(self.member.get_batch(n.min(self.home.batch_limit))));
+        Ok(found?.map(|held| Batch::new(self, held)))
+    }
+
+    /// Gives all kept tags back, and wakes whoever waits for one. A hand keeps tags if the pool was opened with a
+    /// [`cache`](crate::Options::cache). Call it before the thread goes idle or sleeps; dropping the hand does the
+    /// same.
+    pub fn flush(&self) {
+        self.settle(((), self.flush_kept()));
+    }
+
+    pub(crate) fn flush_kept(&self) -> Due {
+        self.see_to(self.member.flush())
+    }
+
+    /// Turns this hand into one that several threads and tasks share. Its tags are [`OwnedTag`](crate::OwnedTag)s.
+    pub fn into_shared(self) -> SharedHand<T> {
+        SharedHand::new(self)
+    }
+
+    /// Sets bit `t % 64` of `into[t / 64]` for each busy tag `t`, clears every other bit, and returns how many tags are
+    /// busy.
+    pub fn busy(&self, into: &mut [u64]) -> Result<u32> {
+        self.member.busy(into)
+    }
+
+    /// Returns the sizes of a set of tags.
+    #[must_use]
+    pub fn show(&self, kind: Kind) -> Sizes {
+        self.member.show(kind)
+    }
+
+    /// Returns how many wait in the pool: threads that sleep for a tag and futures, also those that were told and have
+    /// not tried again yet, and threads that sleep until all tags are back.
+    #[must_use]
+    pub fn waiting(&self) -> u32 {
+        self.home.count_waiting()
+    }
+}
+
+impl<T> Drop for Hand<T> {
+    fn drop(&mut self) {
+        let bell = &self.home.bell;
+        let leaked = self.queue().close(bell).into_iter();
+        let due = leaked.fold(Due::NOBODY, |due, held| due.and(self.give(held)));
+        let due = due.and(self.end_listening());
+        bell.wake(due.and(self.flush_kept()));
+        self.member.leave(&mut self.home.roster.lock());
+        bell.hands().open(bell.sleeper);
+    }
+}
+
+impl<T> fmt::Debug for Hand<T> {
+    fn fmt(&self, f: &mut fmt::Formatter<'_>) -> fmt::Result {
+        f.debug_struct("Hand").finish_non_exhaustive()
+    }
+}

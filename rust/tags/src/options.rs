@@ -1,0 +1,105 @@
+//! The options of a pool, and what its calls report.
+
+/// The options of a new pool. Set at least `total` and `hands`: by default there are no tags and no hands.
+///
+/// ```
+/// # use tags::{Error, Options, Pool};
+/// let options = Options { total: 16, hands: 2, ..Options::default() };
+/// assert_eq!(options, Options::new(16, 2));
+/// assert_eq!(Pool::open(&Options::default()).unwrap_err(), Error::BadHandCount);
+/// ```
+#[derive(Clone, Copy, Debug, Default, PartialEq, Eq)]
+pub struct Options {
+    /// Number of tags, including the reserved ones, at most 10,240.
+    pub total: u32,
+    /// How many of them are reserved: tags 0 to `reserved - 1`.
+    pub reserved: u32,
+    /// Binary logarithm of the tags per word, at most 6. `None` chooses the largest with which the set still has 4
+    /// whole words, and 6 for fewer than 4 tags.
+    pub shift: Option<u32>,
+    /// The least depth that [`get_shallow`](crate::Hand::get_shallow) accepts. `None` accepts any from 1.
+    pub min_shallow: Option<u32>,
+    /// Number of hands, 1 to 64.
+    pub hands: u32,
+    /// Whether a get starts after the tag that the hand won last (and at the first tag after the last but one). So a
+    /// tag is reused late, though not as late as possible: a tag that was given back is free again once its word has no
+    /// free tag left.
+    pub round_robin: bool,
+    /// How many of the tags that it gives back each hand may keep for its next gets, at most 64; 0 for none. A get of a
+    /// kept tag makes no atomic read-modify-write. No other hand finds a kept tag until this one gives it back: when it
+    /// gives back a tag while somebody waits, by a [`flush`](crate::Hand::flush), or when it is dropped. So flush
+    /// before the thread goes idle or sleeps.
+    ///
+    /// ```
+    /// # use tags::{Error, Options, Pool};
+    /// # fn main() -> tags::Result<()> {
+    /// let pool = Pool::open(&Options { cache: 8, ..Options::new(1, 2) })?;
+    /// let (first, second) = (pool.join()?, pool.join()?);
+    /// drop(first.get()?);
+    /// assert!(second.get()?.is_none());
+    /// first.flush();
+    /// assert!(second.get()?.is_some());
+    /// let large = Options { cache: 65, ..Options::new(1, 2) };
+    /// assert_eq!(Pool::open(&large).unwrap_err(), Error::CacheTooLarge);
+    /// # Ok(())
+    /// # }
+    /// ```
+    pub cache: u32,
+    /// Whether a hand keeps tags only while it holds another one that it got. A hand that keeps tags then always has
+    /// one to give back, so nobody waits for ever for a kept tag.
+    pub keep_while_holding: bool,
+}
+
+impl Options {
+    /// Options for `total` ordinary tags and `hands` hands, with the defaults for the rest.
+    #[must_use]
+    pub fn new(total: u32, hands: u32) -> Options {
+        Options {
+            total,
+            reserved: 0,
+            shift: None,
+            min_shallow: None,
+            hands,
+            round_robin: false,
+            cache: 0,
+            keep_while_holding: false,
+        }
+    }
+}
+
+/// One of the two sets of a pool's tags.
+#[derive(Clone, Copy, Debug, PartialEq, Eq)]
+pub enum Kind {
+    /// The tags that [`get`](crate::Hand::get) takes.
+    Ordinary,
+    /// The tags that [`get_reserved`](crate::Hand::get_reserved) takes.
+    Reserved,
+}
+
+/// The sizes of a set, and sums over its words.
+#[derive(Clone, Copy, Debug, Default, PartialEq, Eq)]
+pub struct Sizes {
+    /// Number of tags in the set.
+    pub depth: u32,
+    /// Tags found held, kept or posted.
+    pub busy: u32,
+    /// Tags found given back but not yet swept for reuse.
+    pub cleared: u32,
+    /// Tags per word. The last word can have fewer.
+    pub bits_per_word: u32,
+    /// Number of words of the set.
+    pub words: u32,
+}
+
+/// Sums over all hands of a pool: `got == back + held + posted`. A kept tag that its hand gets again is not counted.
+#[derive(Clone, Copy, Debug, Default, PartialEq, Eq)]
+pub struct Totals {
+    /// Tags taken from the pool.
+    pub got: u64,
+    /// Tags given back to it.
+    pub back: u64,
+    /// Tags that a hand still holds.
+    pub held: u64,
+    /// Tags that are still posted.
+    pub posted: u64,
+}

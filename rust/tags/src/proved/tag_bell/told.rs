@@ -1,0 +1,33 @@
+// Made of crates/tag_bell/src/told.rt, where the contracts are, by rust/generate.
+
+//! The two lists of the callers that wait, and who was told.
+
+/// The list of the callers that sleep until they are told.
+pub const SLEEPERS: u32 = 0;
+
+/// The list of the callers that learn by other means that they were told.
+pub const LISTENERS: u32 = 1;
+
+/// The callers that a call told, a bit for the number of each: 1 is told. Whoever gets it has to wake them.
+#[derive(Clone, Copy, Debug, PartialEq, Eq)]
+pub struct Told {
+    /// Those that it removed from the list of sleepers.
+    pub sleepers: u64,
+    /// Those that it removed from the list of listeners.
+    pub listeners: u64,
+}
+
+impl Told {
+    /// Nobody.
+    pub fn none() -> Told {
+        Told {
+            sleepers: 0,
+            listeners: 0,
+        }
+    }
+
+    /// Returns whether nobody was told.
+    pub fn is_none(self) -> bool {
+        self.sleepers == 0 && self.listeners == 0
+    }
+}

@@ -1,0 +1,62 @@
+// Made of crates/tag_core/src/spots.rt, where the contracts are, by rust/generate.
+
+//! Where the lists, the turns, the words, the cleared sets and the states are in the table. Nothing else knows the stride.
+
+use crate::proved::tag_core::caller::Caller;
+use crate::proved::tag_layout::Layout;
+
+/// Distance between used words of the table, in words of 8 bytes: one cache line.
+const STRIDE: usize = 8;
+
+/// Number of cache lines before the first word: one for the spare word, the lists and the clock, and eight for the turns.
+const HEAD: usize = 9;
+
+/// The index of the spare word, which shows nothing.
+pub(crate) const SPARE: usize = 0;
+
+/// The index of a list of the callers that wait. All lists lie in one cache line, since a look takes all of them.
+pub(crate) fn list_spot(list: u32) -> usize {
+    list as usize + 1
+}
+
+/// The index of the clock of turns, which only callers that list themselves change.
+pub(crate) fn clock_spot() -> usize {
+    3
+}
+
+/// The index of a caller's turn.
+pub(crate) fn turn_spot(number: u32) -> usize {
+    number as usize + STRIDE
+}
+
+/// The index of a word in the table.
+pub(crate) fn word_spot(word: u32) -> usize {
+    STRIDE * (2 * word as usize + HEAD)
+}
+
+/// The index of a word's cleared set in the table.
+pub(crate) fn aside_spot(word: u32) -> usize {
+    STRIDE * (2 * word as usize + HEAD + 1)
+}
+
+/// The index of a tag's state in the table.
+pub(crate) fn state_spot(layout: Layout, tag: u32) -> usize {
+    STRIDE * (2 * layout.words() as usize + tag as usize + HEAD)
+}
+
+/// The index of the first tag's state.
+pub(crate) fn first_state(layout: Layout) -> u32 {
+    (STRIDE * (2 * layout.words() as usize + HEAD)) as u32
+}
+
+impl<R> Caller<R> {
+    /// The index of a tag's state.
+    pub(crate) fn state_spot(&self, tag: u32) -> usize {
+        self.states as usize + STRIDE * tag as usize
+    }
+}
+
+/// Number of words in the table.
+pub(crate) fn table_words(layout: Layout) -> usize {
+    STRIDE * (2 * layout.words() as usize + layout.depth() as usize + HEAD)
+}

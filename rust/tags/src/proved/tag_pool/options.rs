@@ -1,0 +1,69 @@
+// Made of crates/tag_pool/src/options.rt, where the contracts are, by rust/generate.
+
+//! The options with which a pool is opened.
+
+use crate::proved::tag_model::MOST_WON;
+
+/// The options with which a pool is opened.
+#[derive(Clone, Copy, Debug, PartialEq, Eq)]
+pub struct Options {
+    /// Number of tags in both sets together, at most 10,240.
+    pub depth: u32,
+    /// How many of these tags are reserved: the first of the range.
+    pub reserved: u32,
+    /// Number of hands, 1 to 64.
+    pub hands: u32,
+    /// Binary logarithm of the bits in a whole word, 0 to 6. With `None` each set has the default for its own depth.
+    pub shift: Option<u32>,
+    /// Whether each get starts after the last tag won, so that tags are reused late.
+    pub round_robin: bool,
+    /// The minimum shallow depth, below which a shallow get is refused. With `None` only the shallow depth 0 is refused.
+    pub min_shallow: Option<u32>,
+    /// Tags that one hand may win of each set in all, at most 2^48.
+    pub life: u64,
+}
+
+impl Options {
+    /// Returns the options for this many tags, at most 10,240, and hands, 1 to 64, and otherwise the defaults: no reserved
+    /// tags, the shift that fits the depth, no round robin, no minimum shallow depth, and the greatest life.
+    pub fn new(depth: u32, hands: u32) -> Options {
+        Options {
+            depth,
+            reserved: 0,
+            hands,
+            shift: None,
+            round_robin: false,
+            min_shallow: None,
+            life: MOST_WON,
+        }
+    }
+
+    /// Returns these options with this many of the tags reserved.
+    pub fn with_reserved(self, reserved: u32) -> Options {
+        Options { reserved, ..self }
+    }
+
+    /// Returns these options with words of `2^shift` bits, where `shift` is 0 to 6.
+    pub fn with_shift(self, shift: u32) -> Options {
+        Options {
+            shift: Some(shift),
+            ..self
+        }
+    }
+
+    /// Returns these options with round robin gets.
+    pub fn with_round_robin(self) -> Options {
+        Options {
+            round_robin: true,
+            ..self
+        }
+    }
+
+    /// Returns these options with this minimum shallow depth.
+    pub fn with_min_shallow(self, depth: u32) -> Options {
+        Options {
+            min_shallow: Some(depth),
+            ..self
+        }
+    }
+}

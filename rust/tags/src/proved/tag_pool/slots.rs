@@ -1,0 +1,94 @@
+// Made of crates/tag_pool/src/slots.rt, where the contracts are, by rust/generate.
+
+//! The slots of held tags, and how tags pass from hand to hand.
+
+use crate::proved::tag_pool::fault::TagFault;
+use crate::proved::tag_pool::hand::Hand;
+use crate::proved::tag_pool::pool::Pool;
+
+impl<R: Copy> Pool<R> {
+    /// Returns the value in the slot of a held tag. `NoSuchTag` means that the number is not below the total, `NotHeld`
+    /// that the hand does not hold the tag; nothing changes then.
+    #[inline]
+    pub fn read(&self, hand: &mut Hand<R>, tag: u32) -> Result<R, TagFault> {
+        self.find_held(hand, tag)?;
+        Ok(self.read_held(hand, tag))
+    }
+
+    /// Writes the slot of a held tag, and returns its former value. `NoSuchTag` means that the number is not below the
+    /// total, `NotHeld` that the hand does not hold the tag; nothing changes then.
+    #[inline]
+    pub fn write(&self, hand: &mut Hand<R>, tag: u32, value: R) -> Result<R, TagFault> {
+        self.find_held(hand, tag)?;
+        Ok(self.write_held(hand, tag, value))
+    }
+
+    /// Gives up a held tag with its slot, so that another hand can `take` it. Whichever hand takes it first gets it.
+    /// `NoSuchTag` means that the number is not below the total, `NotHeld` that the hand does not hold the tag; nothing
+    /// changes then.
+    #[inline]
+    pub fn post(&self, hand: &mut Hand<R>, tag: u32) -> Result<(), TagFault> {
+        self.find_held(hand, tag)?;
+        self.post_held(hand, tag);
+        Ok(())
+    }
+
+    /// Takes a posted tag with its slot. `NotPosted` leaves the hand unchanged except for one step in its list.
+    /// `NoSuchTag` means that the number is not below the total.
+    #[inline]
+    pub fn take(&self, hand: &mut Hand<R>, tag: u32) -> Result<(), TagFault> {
+        self.find(tag)?;
+        if !self.take_posted(hand, tag) {
+            return Err(TagFault::NotPosted);
+        }
+        Ok(())
+    }
+
+    /// Returns the value in the slot of a tag that the hand holds.
+    #[inline]
+    pub fn read_held(&self, hand: &mut Hand<R>, tag: u32) -> R {
+        if tag < self.reserved_count {
+            hand.reserved.read(&self.reserved, tag)
+        } else {
+            hand.ordinary.read(&self.ordinary, tag - self.reserved_count)
+        }
+    }
+
+    /// Writes the slot of a tag that the hand holds, and returns its former value.
+    #[inline]
+    pub fn write_held(&self, hand: &mut Hand<R>, tag: u32, value: R) -> R {
+        if tag < self.reserved_count {
+            hand.reserved.write(&self.reserved, tag, value)
+        } else {
+            hand.ordinary.write(&self.ordinary, tag - self.reserved_count, value)
+        }
+    }
+
+    /// Writes the slot of an ordinary tag that the hand holds, and returns its former value: like `write_held`, but it need
+    /// not find the tag's set.
+    #[inline]
+    pub fn write_ordinary_held(&self, hand: &mut Hand<R>, tag: u32, value: R) -> R {
+        let number = tag - self.reserved_count;
+        hand.ordinary.write(&self.ordinary, number, value)
+    }
+
+    /// Posts a tag that the hand holds.
+    #[inline]
+    fn post_held(&self, hand: &mut Hand<R>, tag: u32) {
+        if tag < self.reserved_count {
+            hand.reserved.post(&self.reserved, tag)
+        } else {
+            hand.ordinary.post(&self.ordinary, tag - self.reserved_count)
+        }
+    }
+
+    /// Takes a tag with its slot, and returns true, if it is posted.
+    #[inline]
+    fn take_posted(&self, hand: &mut Hand<R>, tag: u32) -> bool {
+        if tag < self.reserved_count {
+            hand.reserved.take(&self.reserved, tag)
+        } else {
+            hand.ordinary.take(&self.ordinary, tag - self.reserved_count)
+        }
+    }
+}

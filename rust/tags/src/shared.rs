@@ -1,0 +1,222 @@
+//! A hand that several threads and tasks share.
+
+use crate::allocator::{Due, Held, Member, Set};
+use crate::base::lock::{Guard, Lock};
+use crate::bell::Bell;
+use crate::error::Result;
+use crate::future::Lends;
+use crate::hand::Hand;
+use crate::options::{Kind, Sizes};
+use crate::owned::OwnedTag;
+use crate::pool::Home;
+use crate::queue::Queue;
+use alloc::sync::Arc;
+use core::fmt;
+use core::panic::{RefUnwindSafe, UnwindSafe};
+
+mod waits;
+
+/// A hand that several threads and tasks share, made by [`Hand::into_shared`]. A clone is the same hand. Its tags
+/// borrow nothing: an [`OwnedTag`] is `Send`, can be held across an await, and keeps the hand alive.
+///
+/// Each call takes a lock for a short time, and never sleeps with it. A thread with a [`Hand`] of its own takes no
+/// lock.
+///
+/// ```
+/// # use tags::{Options, OwnedTag, Pool, SharedHand};
+/// /// A worker keeps its hand and the tags that it holds.
+/// struct Worker {
+///     hand: SharedHand,
+///     held: Vec<OwnedTag>,
+/// }
+///
+/// # fn main() -> tags::Result<()> {
+/// let pool = Pool::open(&Options::new(4, 1))?;
+/// let mut worker = Worker { hand: pool.join()?.into_shared(), held: Vec::new() };
+/// worker.held.extend(worker.hand.get()?);
+/// std::thread::spawn(move || drop(worker)).join().unwrap();
+/// assert_eq!(pool.close().unwrap().back, 1);
+/// # Ok(())
+/// # }
+/// ```
+pub struct SharedHand<T = ()> {
+    inner: Arc<Inner<T>>,
+}
+
+struct Inner<T> {
+    /// What the hand shares with its pool, which needs no lock. The tags are let go of before the hand goes back.
+    set: Arc<Set<T>>,
+    home: Arc<Home<T>>,
+    hand: Lock<Hand<T>>,
+    /// The hand's number.
+    number: usize,
+}
+
+impl<T: UnwindSafe + RefUnwindSafe> UnwindSafe for SharedHand<T> {}
+impl<T: UnwindSafe + RefUnwindSafe> RefUnwindSafe for SharedHand<T> {}
+
+impl<T> SharedHand<T> {
+    pub(crate) fn new(hand: Hand<T>) -> SharedHand<T> {
+        let sleeper = hand.home.bell.sleeper;
+        let inner = Inner {
+            set: Arc::clone(hand.member.set()),
+            home: Arc::clone(&hand.home),
+            number: hand.member.number(),
+            hand: Lock::new(hand, sleeper),
+        };
+        SharedHand { inner: Arc::new(inner) }
+    }
+
+    /// The tags that the hand belongs to.
+    #[inline]
+    pub(crate) fn set(&self) -> &Set<T> {
+        &self.inner.set
+    }
+
+    /// Makes a call of the hand that tells nobody.
+    #[inline]
+    pub(crate) fn look<R>(&self, call: impl FnOnce(&Member<T>) -> R) -> R {
+        call(&self.inner.hand.lock().member)
+    }
+
+    /// Gives a held tag back, and wakes those who wait.
+    #[inline]
+    pub(crate) fn give_and_wake(&self, held: Held) {
+        let hand = self.inner.hand.lock();
+        hand.member.clear(held);
+        if self.bell().is_awaited() {
+            self.tell_and_wake(hand);
+        }
+    }
+
+    #[cold]
+    fn tell_and_wake(&self, hand: Guard<'_, Hand<T>>) {
+        let due = hand.tell(hand.member.freed());
+        drop(hand);
+        self.bell().wake(due);
+    }
+
+    /// Takes a free ordinary tag, as [`Hand::get`] does.
+    #[inline]
+    pub fn get(&self) -> Result<Option<OwnedTag<T>>> {
+        let hand = self.inner.hand.lock();
+        match hand.member.try_get() {
+            Some(held) => Ok(Some(OwnedTag::new(self.clone(), held))),
+            None => self.outcome(hand),
+        }
+    }
+
+    #[inline(never)]
+    fn outcome(&self, hand: Guard<'_, Hand<T>>) -> Result<Option<OwnedTag<T>>> {
+        let (found, due) = hand.after_get(hand.member.outcome());
+        drop(hand);
+        self.bell().wake(due);
+        Ok(found?.map(|held| OwnedTag::new(self.clone(), held)))
+    }
+
+    /// Takes a free reserved tag, as [`Hand::get_reserved`] does.
+    pub fn get_reserved(&self) -> Result<Option<OwnedTag<T>>> {
+        let found = self.look(Member::get_reserved)?;
+        Ok(found.map(|held| OwnedTag::new(self.clone(), held)))
+    }
+
+    /// Takes a free ordinary tag out of a part of them, as [`Hand::get_shallow`] does.
+    pub fn get_shallow(&self, depth: u32) -> Result<Option<OwnedTag<T>>> {
+        let found = self.lend(|hand| hand.after_get(hand.member.get_shallow(depth)))?;
+        Ok(found.map(|held| OwnedTag::new(self.clone(), held)))
+    }
+
+    /// Returns a guard for a tag that this hand holds without one, as [`Hand::claim`] does.
+    ///
+    /// ```
+    /// # use tags::{Error, Options, Pool};
+    /// # fn main() -> tags::Result<()> {
+    /// let pool = Pool::open(&Options::new(4, 1))?;
+    /// let hand = pool.join()?.into_shared();
+    /// let number = hand.get_blocking()?.into_number();
+    /// let tag = hand.claim(number)?;
+    /// assert_eq!(hand.claim(number).unwrap_err(), Error::NotHeld);
+    /// # drop(tag);
+    /// # Ok(())
+    /// # }
+    /// ```
+    pub fn claim(&self, number: u32) -> Result<OwnedTag<T>> {
+        let held = self.look(|hand| hand.claim(number))?;
+        Ok(OwnedTag::new(self.clone(), held))
+    }
+
+    /// Returns whether this hand holds the tag with this number.
+    pub fn holds(&self, number: u32) -> Result<bool> {
+        self.look(|hand| hand.holds(number))
+    }
+
+    /// Takes a tag that a hand of this pool has posted, with its slot and its value.
+    pub fn take(&self, number: u32) -> Result<OwnedTag<T>> {
+        let held = self.look(|hand| hand.take(number))?;
+        Ok(OwnedTag::new(self.clone(), held))
+    }
+
+    /// Gives all kept tags back, and wakes whoever waits for one, as [`Hand::flush`] does.
+    pub fn flush(&self) {
+        self.lend(|hand| ((), hand.flush_kept()));
+    }
+
+    /// Reports which tags are busy, as [`Hand::busy`] does.
+    pub fn busy(&self, into: &mut [u64]) -> Result<u32> {
+        self.look(|hand| hand.busy(into))
+    }
+
+    /// Returns the sizes of a set of tags.
+    #[must_use]
+    pub fn show(&self, kind: Kind) -> Sizes {
+        self.look(|hand| hand.show(kind))
+    }
+
+    /// Returns how many wait in the pool, as [`Hand::waiting`] does.
+    #[must_use]
+    pub fn waiting(&self) -> u32 {
+        self.inner.home.count_waiting()
+    }
+}
+
+impl<T> Lends for SharedHand<T> {
+    type Value = T;
+
+    /// No code of the program's, such as a waker, runs with the lock: those told are woken after it.
+    #[inline]
+    fn lend<R>(&self, call: impl FnOnce(&Hand<T>) -> (R, Due)) -> R {
+        let hand = self.inner.hand.lock();
+        let (answer, due) = call(&hand);
+        drop(hand);
+        self.bell().wake(due);
+        answer
+    }
+
+    fn bell(&self) -> &Bell {
+        &self.inner.home.bell
+    }
+
+    fn queue(&self) -> &Queue {
+        self.bell().queue(self.inner.number)
+    }
+}
+
+impl<T> Clone for SharedHand<T> {
+    fn clone(&self) -> SharedHand<T> {
+        SharedHand {
+            inner: Arc::clone(&self.inner),
+        }
+    }
+}
+
+impl<T> From<Hand<T>> for SharedHand<T> {
+    fn from(hand: Hand<T>) -> SharedHand<T> {
+        SharedHand::new(hand)
+    }
+}
+
+impl<T> fmt::Debug for SharedHand<T> {
+    fn fmt(&self, f: &mut fmt::Formatter<'_>) -> fmt::Result {
+        f.debug_struct("SharedHand").finish_non_exhaustive()
+    }
+}

@@ -1,0 +1,90 @@
+//! How threads sleep and are woken: by the system, or by what a program without one brings.
+
+use crate::base::word::AtomicU32;
+use core::time::Duration;
+
+#[cfg(feature = "std")]
+mod system;
+mod token;
+
+pub(crate) use token::Token;
+
+/// How the threads of a program sleep: for a kernel or a runtime, where there is no `std`. A pool is opened with it by
+/// [`Pool::open_with_sleeper`](crate::Pool::open_with_sleeper); other pools use [`default_sleeper`].
+///
+/// A thread sleeps on a word, as by a futex: whoever wakes it has changed the word before. A queue of sleeping threads
+/// for each of some words, by their addresses, is enough: a sleep may end for no reason.
+///
+/// ```
+/// # use core::sync::atomic::{AtomicU32, Ordering::SeqCst};
+/// # use core::time::Duration;
+/// # use tags::{Options, Pool, Sleeper};
+/// /// Lets other tasks of one processor run until the word has changed.
+/// struct Yields;
+///
+/// impl Sleeper for Yields {
+///     fn sleep(&self, word: &AtomicU32, expected: u32, end: Option<Duration>) {
+///         while word.load(SeqCst) == expected && end.is_none_or(|it| self.now() < it) {
+///             # std::thread::yield_now();
+///             // schedule();
+///         }
+///     }
+///
+///     fn wake(&self, _: &AtomicU32) {}
+///
+///     fn now(&self) -> Duration {
+///         # Duration::ZERO
+///         // the time since the machine was started
+///     }
+/// }
+///
+/// # fn main() -> tags::Result<()> {
+/// let pool = Pool::open_with_sleeper(&Options::new(16, 2), &Yields, |_| ())?;
+/// let tag = pool.join()?.into_shared().get_blocking()?;
+/// # drop(tag);
+/// # Ok(())
+/// # }
+/// ```
+pub trait Sleeper: Send + Sync {
+    /// Sleeps while the word is `expected`, until [`wake`](Sleeper::wake) is called for it, and at most until `end`, by
+    /// the clock of [`now`](Sleeper::now). It may return at any time. A call for a word that is not `expected` returns
+    /// at once, also if the word changes meanwhile: no wake is lost between a look at the word and the sleep.
+    fn sleep(&self, word: &AtomicU32, expected: u32, end: Option<Duration>);
+
+    /// Wakes all threads that sleep on the word, which has changed.
+    fn wake(&self, word: &AtomicU32);
+
+    /// Returns the time by a clock that never goes back, from any beginning. If it returns [`Duration::MAX`] there is
+    /// no clock, and a wait with a limit only tries.
+    fn now(&self) -> Duration;
+}
+
+/// Returns how a pool's threads sleep if it was opened without a sleeper of the program's: by the system (a futex on
+/// Linux, and otherwise locks of `std`), or if there is no `std`, not at all: they spin, without a clock.
+#[must_use]
+pub fn default_sleeper() -> &'static dyn Sleeper {
+    #[cfg(feature = "std")]
+    return &system::System;
+    #[cfg(not(feature = "std"))]
+    return &Spin;
+}
+
+/// Spins, and has no clock.
+#[cfg(not(feature = "std"))]
+struct Spin;
+
+#[cfg(not(feature = "std"))]
+impl Sleeper for Spin {
+    fn sleep(&self, word: &AtomicU32, expected: u32, _: Option<Duration>) {
+        use core::sync::atomic::Ordering::SeqCst;
+        while word.load(SeqCst) == expected {
+            core::hint::spin_loop();
+        }
+    }
+
+    fn wake(&self, _: &AtomicU32) {}
+
+    fn now(&self) -> Duration {
+        Duration::MAX
+    }
+}
