@@ -1,11 +1,13 @@
 """Checks what pages claim of the tree: that links lead to headings, that commands can be given as they stand, that each crate is spoken of
 where all have to be, that a promise of README.md names clauses that its call has, and what the proof rests on.
 """
+import functools
 import os
 import re
 import subprocess
 
-CONTRACTS = "docs/CONTRACTS.md"
+import sources
+
 ASSEMBLY = [f"c/generated/tag_c-{it}.s" for it in ("x86_64", "x86_64-v3", "aarch64", "aarch64-lse")]
 LINK = re.compile(r"\]\(([^)#\s]*)#([^)\s]+)\)")
 BLOCK = re.compile(r"^```sh\n(.*?)^```", re.M | re.S)
@@ -23,6 +25,7 @@ def slug(heading):
     return re.sub(r"[^\w\- ]", "", heading.strip().lower()).replace(" ", "-")
 
 
+@functools.cache
 def anchors(text):
     return {slug(it) for it in re.findall(r"^#+ (.*)$", re.sub(r"^```.*?^```", "", text, flags=re.M | re.S), re.M)}
 
@@ -76,40 +79,23 @@ def unnamed_crates(read):
                 yield f"{page}: nothing of the crate {crate}"
 
 
-def clauses(read):
-    """The labels of the clauses of each call, as docs/CONTRACTS.md has them."""
-    found = re.findall(r"^\| `([^`]+)` \| (.*?) \|", read(CONTRACTS), re.M)
-    return {name: re.findall(r"`(\w+)`", labels) for name, labels in found}
+def clauses():
+    """The labels of the clauses of each public call, by its name."""
+    found = {}
+    for part in (it for crate in sources.crates() for it in sources.parts_of(crate) if it.public):
+        found.setdefault(part.name, set()).update([*part.labels(), *(label for label, _ in part.clauses)])
+    return found
 
 
 def wrong_promises(read):
     """The clauses that README.md cites and its call does not have. A call without its type has that of the one before."""
-    known, owner = clauses(read), ""
+    known, owner = clauses(), ""
     for found in PROMISED.finditer(read("README.md")):
         name = found[1]
         owner = name.rpartition("::")[0] or owner
-        labels = known.get(name, known.get(f"{owner}::{name}", []))
-        for label in set(re.findall(r"`(\w+)`", found[2])) - set(labels):
+        labels = known.get(name, known.get(f"{owner}::{name}", set()))
+        for label in set(re.findall(r"`(\w+)`", found[2])) - labels:
             yield f"README.md: {name} has no clause {label}"
-
-
-def sections(text):
-    """The parts of a page below its headings of the second level, by heading."""
-    return dict(it.partition("\n")[::2] for it in re.split(r"^## ", text, flags=re.M)[1:])
-
-
-def promised_by_none(read):
-    """The rows of docs/PROOFS.md that name, among the clauses of a promise, a call of that crate for which none has any."""
-    promises, contracts = sections(read("docs/PROOFS.md")), sections(read(CONTRACTS))
-    for crate in crates(read):
-        without = {}
-        for name, labels in re.findall(r"^\| `([^`]+)` \| (.*?) \|", contracts.get(crate, ""), re.M):
-            without.setdefault(name.rpartition("::")[2], []).append(labels == "(none)")
-        for line in promises.get(crate, "").split("\n"):
-            cited = line.rpartition(" | ")[2] if line.startswith("| ") else ""
-            for name in re.findall(r"`(?:\w+::)?(\w+)`", cited):
-                if all(without.get(name, [False])):
-                    yield f"docs/PROOFS.md: {crate}: {name} promises nothing: {line[:60]}"
 
 
 def wrong_ground(read):
@@ -140,7 +126,6 @@ def wrong_claims(files, read):
                 yield from wrong_commands(name, read(name), files, read)
     yield from unnamed_crates(read)
     yield from wrong_promises(read)
-    yield from promised_by_none(read)
     yield from wrong_ground(read)
     lines = read("README.md").count("\n")
     if lines > MOST_LINES:

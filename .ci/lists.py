@@ -12,8 +12,8 @@ ROOT = os.path.dirname(os.path.dirname(os.path.abspath(__file__)))
 # What programs call; what their inline parts call; and what the C files and other languages call beside that.
 HEADERS = PUBLIC, INLINE, SHARED = "c/tags.h", "c/tags_detail.h", "c/bell.h"
 MAP, LACKS, MODEL = "c/tags.map", "c/tests/schedules/lacks.h", "c/tests/schedules/map.c"
-# Exports of the crate that no C file calls, and the heap that the crate calls.
-UNCALLED, HEAP = ["tags_library_is_cached", "tags_library_open"], "c/heap.c"
+# Exports of the crate that no C file calls, or only tests, and the heap that the crate calls.
+UNCALLED, HEAP = ["tags_library_is_cached", "tags_library_is_told", "tags_library_open"], "c/heap.c"
 
 COMMENT = re.compile(r"/\*.*?\*/|//[^\n]*", re.S)
 # What begins a line and is not local to its file: a function with its parameters and its end, or a variable.

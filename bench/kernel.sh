@@ -1,6 +1,6 @@
 #!/usr/bin/env bash
-# kernel.sh [REPETITIONS [ROUNDS [DEPTH..]]]: runs pair, ring, full, handoff and batch of tag_bench, over the map, the queue, tag
-# sets and caches, and of what stands beside it in alternation, three times with 200000 rounds at depths 64, 1024 and 10240
+# kernel.sh [REPETITIONS [ROUNDS [DEPTH..]]]: runs pair, ring, full, handoff and batch of tag_bench, over the map, the queue, a
+# pool and caches, and of what stands beside it in alternation, three times with 200000 rounds at depths 64, 1024 and 10240
 # unless told otherwise, and prints tables. Where depth 1024 is among them it prints more and draws bench/out/kernel.svg.
 # rt, gcc, rustc, python3, apt-get and dpkg-deb are on the path; the first run downloads 154 MB from Debian's archive. With
 # BUILT=1 it proves and builds nothing, and measures what is there.
@@ -31,7 +31,7 @@ measure() {
 ours() {
   measure "$bench" "$workload" --json
   if [ "$workload" = batch ]; then return; fi
-  for layer in queue sets cache; do measure "$bench" "$layer" "$workload" --json; done
+  for layer in queue pool cache; do measure "$bench" "$layer" "$workload" --json; done
 }
 others() { measure "$out/contenders" "$workload"; }
 

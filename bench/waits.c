@@ -100,6 +100,9 @@ static void *run(void *argument)
 		give(self, tag);
 		self->rounds++;
 	}
+	/* Others may wait for a tag that an idle hand keeps: a hand gives those back before it rests. */
+	if (!has_list && tags_flush(&self->hand) < 0)
+		abort();
 	return NULL;
 }
 

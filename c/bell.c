@@ -4,21 +4,22 @@
  * Hands that wait are in two lists: sleepers, threads in tags_get_blocking() or tags_get_timed();
  * and listeners, hands that are notified. The lists are words beside those of the tags, and
  * the steps on both are one history, of which crates/tag_bell proves that nobody sleeps beside a
- * free tag unless somebody is on the way to it. Who waits lists itself, then tries each tag. Who
- * makes tags free sees to them: it looks whether anybody is listed, and tells as many as there are
- * tags for, the one that has waited longest first. Who was told gets up and tries; if it then
- * needs no tag any more, because it has one or gives up, it sees to all tags.
+ * free tag unless somebody is on the way to it. A wait goes by rounds, and each of them is a call of
+ * the library: it lists the hand and tries each tag, and answers whether the wait is over. If it is,
+ * the hand is in no list, and has seen to all tags. Who makes tags free sees to them: it looks
+ * whether anybody is listed, and tells as many as there are tags for, the one that has waited
+ * longest first.
  *
- * What is C and not proved is how one that was told learns of it. Each hand has a place, with a
- * lock and a bed. Who sleeps asks with the lock whether it was told, and gives the lock up as it
- * falls asleep. Whoever told it takes the lock afterwards to see whether it sleeps, and then signals
- * its bed. A listener has a notice in its place, which one of those who tell it takes.
+ * What is C and not proved is that whoever was told makes another round. Each hand has a place, with
+ * a token, which is given to wake it, and which ends its sleep, or lets none begin. So no order is
+ * needed between the library's answer and the sleep, and a sleep that ends for no reason is one
+ * round more. A listener has a notice in its place, which one of those who tell it takes.
  *
- * And so that a call need not ask the library whether anybody waits, all who do are counted, before
- * they list themselves. Who makes tags free loads the count afterwards. Both are sequentially
- * consistent, as are the steps of the library, so if the count is 0, whoever waits later finds the
- * tags. Nor does it ask while as many sleepers are waking, told and not up yet, as there are tags:
- * each of them tries after the tags became free, and sees to all tags if it has one then.
+ * And so that a call need not ask the library whether anybody waits, all who do are counted, from
+ * before their first round to after the last one. Who makes tags free loads the count afterwards.
+ * Both are sequentially consistent, as are the steps of the library, so if the count is 0, whoever
+ * waits later finds the tags. Nor does it ask while as many threads are waking, woken in their sleep
+ * and not out of it, as there are tags: each of them makes a round after the tags became free.
  *
  * Coroutines and futures, of which a hand may have any number, wait behind their hand, in a queue of
  * their own language: while one of them waits, the hand is listed, or was told and one of them is
@@ -75,35 +76,54 @@ void tags_library_free_bell(struct bell *bell)
  * Hands that wait
  */
 
-void tags_library_enlist(struct tags_hand *hand, bool listens)
+static void begin_to_wait(struct bell *bell, bool listens)
 {
-	struct bell *bell = tags_bell_of(hand->waits);
-
 	tags_add(&bell->listening, listens);
 	tags_add(&bell->waits.waiting, 1);
-	tags_library_list_self(hand, listens, hand->place->has_turn);
-	hand->place->has_turn = true;
 }
 
-bool tags_library_strike(struct tags_hand *hand, bool listens)
+static void end_waiting(struct bell *bell, bool listens)
 {
-	struct bell *bell = tags_bell_of(hand->waits);
-	const bool was_told = tags_library_get_up(hand, listens) == 1;
-
 	tags_subtract(&bell->waits.waiting, 1);
 	tags_subtract(&bell->listening, listens);
-	if (was_told && !listens)
-		__atomic_fetch_sub(&bell->waking, 1, __ATOMIC_SEQ_CST);
-	return was_told;
 }
 
-/* Wakes the thread that sleeps in a place, if there is one: without the lock, which it would wait for. */
-static void wake_sleeper(struct tags_place *place)
+static void add(struct tags_told *due, const struct tags_told *told)
+{
+	due->sleepers |= told->sleepers;
+	due->listeners |= told->listeners;
+}
+
+int32_t tags_library_go_on(struct tags_hand *hand, bool listens, int32_t why, struct tags_told *due)
+{
+	const bool again = hand->place->is_waiting;
+	struct bell *bell = tags_bell_of(hand->waits);
+	struct tags_told told = { 0, 0 };
+	int32_t tag;
+
+	if (!again)
+		begin_to_wait(bell, listens);
+	tag = listens ? tags_library_listen_on(hand, why, again, &told) :
+			tags_library_wait_on(hand, why, again, &told);
+	hand->place->is_waiting = tag == TAGS_NO_TAG;
+	if (!hand->place->is_waiting)
+		end_waiting(bell, listens);
+	add(due, &told);
+	return tags_detail_won(tag);
+}
+
+/*
+ * Gives a place its token. A thread that sleeps there counts as waking from now on, and is woken
+ * without the lock, which it would wait for.
+ */
+static void wake_sleeper(struct bell *bell, struct tags_place *place)
 {
 	pthread_cond_t *bed;
 
 	pthread_mutex_lock(&place->lock);
-	bed = place->bed;
+	bed = place->is_woken ? NULL : place->bed;
+	place->is_woken = true;
+	tags_add(&bell->waking, bed != NULL);
 	pthread_mutex_unlock(&place->lock);
 	if (bed)
 		pthread_cond_signal(bed);
@@ -176,25 +196,10 @@ static bool notify_listener(struct bell *bell, struct tags_place *place)
  * Who tells
  */
 
-/* Whether as many sleepers are waking as there are tags, and nobody waits but sleepers. */
+/* Whether as many threads are waking as there are tags, and nobody waits but threads that sleep. */
 static bool are_enough_waking(const struct bell *bell)
 {
-	const int32_t waking = __atomic_load_n(&bell->waking, __ATOMIC_SEQ_CST);
-
-	return waking > 0 && (uint32_t)waking >= bell->depth && tags_load(&bell->listening) == 0;
-}
-
-/*
- * Adds hands that were told. From now on the sleepers among them count as waking. One of them may
- * wake by itself before it is rung, wait again and be told again; a mask then rings it only once.
- */
-static void note(struct bell *bell, const struct tags_told *told, struct tags_told *due)
-{
-	if (told->sleepers)
-		__atomic_fetch_add(&bell->waking, __builtin_popcountll(told->sleepers),
-				   __ATOMIC_SEQ_CST);
-	due->sleepers |= told->sleepers;
-	due->listeners |= told->listeners;
+	return tags_load(&bell->waking) >= bell->depth && tags_load(&bell->listening) == 0;
 }
 
 static uint64_t smaller(uint64_t a, uint64_t b)
@@ -202,27 +207,26 @@ static uint64_t smaller(uint64_t a, uint64_t b)
 	return a < b ? a : b;
 }
 
+static uint64_t larger(uint64_t a, uint64_t b)
+{
+	return a > b ? a : b;
+}
+
 /*
- * In a pool with caches the hand first gives back what it keeps, if anybody waits. The library does
- * so if it finds a hand listed. But its lists contain no drain, and for a moment they don't contain
- * a hand that was told and found no tag.
+ * In a pool with caches the hand first gives back what it keeps, which nobody else finds. The lists
+ * need not have anybody for that: drains are in none, nor is a hand that was told and found no tag.
  */
-static void tell(struct tags_hand *hand, uint32_t freed, struct tags_told *due)
+static void tell(struct tags_hand *hand, uint64_t freed, struct tags_told *due)
 {
 	struct bell *bell = tags_bell_of(hand->waits);
-	const bool drains = bell->is_cached && tags_load(&bell->draining) > 0;
 	struct tags_told told = { 0, 0 };
 
-	if (!bell->is_cached && are_enough_waking(bell))
+	if (bell->is_cached)
+		freed = larger(freed, (uint64_t)tags_library_flush(hand));
+	if (are_enough_waking(bell))
 		return;
-	if (drains)
-		tags_library_flush(hand);
-	tags_library_see_to(hand, freed, &told);
-	if (bell->is_cached && !drains && (told.sleepers | told.listeners) == 0) {
-		tags_library_flush(hand);
-		tags_library_see_to(hand, freed, &told);
-	}
-	note(bell, &told, due);
+	tags_library_see_to(hand, (uint32_t)smaller(freed, bell->depth), &told);
+	add(due, &told);
 }
 
 /* A hand that keeps none and gave none back, as by a post, has nothing to see to. */
@@ -232,17 +236,7 @@ void tags_library_see(struct tags_hand *hand, uint64_t freed, struct tags_told *
 
 	if (freed == 0 && !bell->is_cached)
 		return;
-	tell(hand, (uint32_t)smaller(freed, bell->depth), due);
-	tags_library_tags_are_back(bell);
-}
-
-void tags_library_see_all(struct tags_hand *hand, struct tags_told *due)
-{
-	struct bell *bell = tags_bell_of(hand->waits);
-	struct tags_told told = { 0, 0 };
-
-	tags_library_see_to_all(hand, &told);
-	note(bell, &told, due);
+	tell(hand, freed, due);
 	tags_library_tags_are_back(bell);
 }
 
@@ -253,14 +247,13 @@ bool tags_library_wake(struct tags_waits *waits, const struct tags_told *due)
 	uint64_t left;
 
 	for (left = due->sleepers; left; left &= left - 1)
-		wake_sleeper(&bell->places[__builtin_ctzll(left)]);
+		wake_sleeper(bell, &bell->places[__builtin_ctzll(left)]);
 	for (left = due->listeners; left; left &= left - 1)
 		all_know &= notify_listener(bell, &bell->places[__builtin_ctzll(left)]);
 	return all_know;
 }
 
-/* Wakes whom the hand told; and if one of those can't be notified, tells others in its place. */
-static void wake(struct tags_hand *hand, struct tags_told *due)
+void tags_library_wake_told(struct tags_hand *hand, struct tags_told *due)
 {
 	int saved = errno;
 
@@ -278,15 +271,7 @@ void tags_library_ring(struct tags_hand *hand, uint64_t freed)
 	if (tags_load(&hand->waits->waiting) == 0)
 		return;
 	tags_library_see(hand, freed, &due);
-	wake(hand, &due);
-}
-
-void tags_library_settle(struct tags_hand *hand)
-{
-	struct tags_told due = { 0, 0 };
-
-	tags_library_see_all(hand, &due);
-	wake(hand, &due);
+	tags_library_wake_told(hand, &due);
 }
 
 /*
@@ -310,7 +295,7 @@ void tags_library_stop(struct tags_waits *waits)
 
 	set_stopped(bell, true);
 	for (uint32_t i = 0; i < bell->hands; i++) {
-		wake_sleeper(&bell->places[i]);
+		wake_sleeper(bell, &bell->places[i]);
 		notify_listener(bell, &bell->places[i]);
 	}
 	tags_library_end_joins(bell, TAGS_STOPPED);

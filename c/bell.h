@@ -65,13 +65,14 @@ struct tags_place {
 	pthread_mutex_t lock;
 	pthread_cond_t *bed;
 	pthread_cond_t beds[2];
+	/* with the lock, the token: whoever wakes the hand gives it, and the end of its sleep takes it */
+	bool is_woken;
 	/* 1 while the function of the notice runs */
 	uint32_t running;
 	/* with the bell's lock */
 	struct tags_notice notice;
-	/* for the hand alone: it waits to be notified; its wait has begun, so that it has a turn */
-	bool is_listening;
-	bool has_turn;
+	/* for the hand alone: its wait goes on, so that it has a turn */
+	bool is_waiting;
 	/* the pool's count of stops when its wait began */
 	uint32_t stops;
 };
@@ -95,11 +96,8 @@ struct bell {
 	bool is_cached;
 	/* hands that wait to be notified */
 	uint32_t listening;
-	/*
-	 * sleepers that were told and have not begun to try again; for a moment one less if a sleeper
-	 * was faster than who told it, so that it can be negative
-	 */
-	int32_t waking;
+	/* threads that were woken in their sleep and have not left it */
+	uint32_t waking;
 	/* of the notices, and of the count of stops */
 	pthread_mutex_t lock;
 	/* one for each hand that the pool can give out, by the hand's number */
@@ -140,7 +138,7 @@ static inline struct bell *tags_bell_of(struct tags_waits *waits)
 /* A hand is about to wait: from now on a stop ends its wait. One that waits already began before. */
 static inline void tags_begin_wait(struct tags_hand *hand)
 {
-	if (!hand->place->has_turn)
+	if (!hand->place->is_waiting)
 		hand->place->stops = tags_load(&hand->waits->stops);
 }
 
@@ -157,16 +155,17 @@ static inline bool tags_is_ended(const struct tags_hand *hand)
 #pragma GCC visibility push(hidden)
 
 /*
- * The lists of hands that wait, one of sleepers and one of listeners, by the library. A hand
- * lists itself, with the next turn or again with the one that it had. It gets up, and learns that
- * it was told (1) or not (0). Whoever makes tags free sees to them, and whoever was told and does
- * not need the tag sees to all tags: each fills in whom it told.
+ * The waits of hands, by the library. A round of a wait, among the sleepers or the listeners, lists
+ * the hand, with the next turn or @again with the one that it had, and tries each tag. It returns a
+ * tag; TAGS_NO_TAG if the hand may sleep, or waits to be notified; or, if @why is not TAGS_OK, that:
+ * the wait is over then. With any answer but TAGS_NO_TAG the hand is in no list, and has seen to all
+ * tags. Whoever makes tags free sees to them. Each call fills in whom it told, who are to be woken.
  */
-int32_t tags_library_list_self(struct tags_hand *hand, uint32_t listens, uint32_t again);
-int32_t tags_library_is_told(struct tags_hand *hand, uint32_t listens);
-int32_t tags_library_get_up(struct tags_hand *hand, uint32_t listens);
+int32_t tags_library_wait_on(struct tags_hand *hand, int32_t why, uint32_t again,
+			     struct tags_told *told);
+int32_t tags_library_listen_on(struct tags_hand *hand, int32_t why, uint32_t again,
+			       struct tags_told *told);
 int32_t tags_library_see_to(struct tags_hand *hand, uint32_t freed, struct tags_told *told);
-int32_t tags_library_see_to_all(struct tags_hand *hand, struct tags_told *told);
 
 /* Whether a clock and a time are what they may be, and whether the time has passed. */
 bool tags_library_is_sound(const struct tags_limit *limit);
@@ -180,15 +179,15 @@ bool tags_library_sleep(pthread_cond_t *bed, pthread_mutex_t *lock, const struct
 struct bell *tags_library_make_bell(uint32_t hands);
 void tags_library_free_bell(struct bell *bell);
 
-/* Lists a hand, at its turn if its wait goes on. */
-void tags_library_enlist(struct tags_hand *hand, bool listens);
-/* Ends a hand's stay in its list. Returns whether it was told. */
-bool tags_library_strike(struct tags_hand *hand, bool listens);
-/* What a hand does that was told and needs no tag any more: it sees to all tags. */
-void tags_library_settle(struct tags_hand *hand);
-/* The same without waking those whom it tells: adds them to @due. */
-void tags_library_see_all(struct tags_hand *hand, struct tags_told *due);
-/* Ends a wait by an eventfd or a function, and settles if the hand was told. Returns whether it waited. */
+/*
+ * Makes a round of a hand's wait, or if @why is not TAGS_OK ends it, and returns what the library
+ * answers. Adds those whom it tells to @due.
+ */
+int32_t tags_library_go_on(struct tags_hand *hand, bool listens, int32_t why,
+			   struct tags_told *due);
+/* Wakes those whom the hand told; and if one of them can't be notified, tells others in its place. */
+void tags_library_wake_told(struct tags_hand *hand, struct tags_told *due);
+/* Ends a wait by an eventfd or a function. Returns whether there was one. */
 bool tags_library_cancel(struct tags_hand *hand);
 
 /* Sleeps until no function runs that notifies the hand in a place. */

@@ -1,19 +1,34 @@
 /*
- * Threads that sleep until a tag is free. How they are told is in bell.c.
+ * Threads that sleep until a tag is free: rounds of the library, with a sleep between two of them.
  *
- * Each hand has a place in the bell, with a lock. The library tells for sure whether the hand was
- * told, whatever ended its sleep; so a sleep that ends for no reason goes on, and one that ends by
- * its deadline or by a cancel leaves nothing behind.
+ * A round says whether the thread may sleep, and a sleep may end at any time. So what ends one, be it a
+ * tag, a deadline, a stop, a cancel or nothing, is only another round, with which the wait ends or goes
+ * on. After each sleep the thread tries once more. How it is woken is in bell.c.
  */
 #define _GNU_SOURCE
 #include "bell.h"
 
 #include <time.h>
 
-static void rise(struct tags_place *place)
+/* Takes the token, if the sleep was ended by that, and leaves the bed. */
+static void rise(struct tags_hand *hand)
 {
+	struct tags_place *place = hand->place;
+
+	if (place->bed && place->is_woken)
+		tags_subtract(&tags_bell_of(hand->waits)->waking, 1);
 	place->bed = NULL;
+	place->is_woken = false;
 	pthread_mutex_unlock(&place->lock);
+}
+
+static int32_t make_round(struct tags_hand *hand, int32_t why)
+{
+	struct tags_told due = { 0, 0 };
+	const int32_t tag = tags_library_go_on(hand, false, why, &due);
+
+	tags_library_wake_told(hand, &due);
+	return tag;
 }
 
 /* What is left of the wait of a thread that was cancelled in its sleep. */
@@ -21,66 +36,48 @@ static void abandon(void *argument)
 {
 	struct tags_hand *hand = argument;
 
-	rise(hand->place);
-	if (tags_library_strike(hand, false))
-		tags_library_settle(hand);
-	hand->place->has_turn = false;
+	rise(hand);
+	make_round(hand, TAGS_STOPPED);
 	__atomic_store_n(&hand->in_call, 0, __ATOMIC_RELAXED);
 }
 
-/* Until the hand was told, or waits were stopped, or until the limit. */
-static void sleep_until_told(struct tags_hand *hand, const struct tags_limit *limit)
+/* Until the hand is woken, or until the limit, unless it was woken since its last sleep. */
+static void sleep_until_woken(struct tags_hand *hand, const struct tags_limit *limit)
 {
 	struct tags_place *place = hand->place;
 
 	pthread_mutex_lock(&place->lock);
-	place->bed = &place->beds[limit->clock == CLOCK_REALTIME];
+	if (!place->is_woken)
+		place->bed = &place->beds[limit->clock == CLOCK_REALTIME];
 	pthread_cleanup_push(abandon, hand);
-	while (tags_library_is_told(hand, false) == 0 && !tags_is_ended(hand) &&
-	       tags_library_sleep(place->bed, &place->lock, limit))
-		;
+	if (place->bed)
+		tags_library_sleep(place->bed, &place->lock, limit);
 	pthread_cleanup_pop(0);
-	rise(place);
+	rise(hand);
 }
 
-/* Returns a tag, or TAGS_NO_TAG after a sleep. @was_told becomes true if the hand was told. */
-static int32_t get_or_sleep(struct tags_hand *hand, const struct tags_limit *limit, bool *was_told)
+static int32_t why_over(const struct tags_hand *hand, const struct tags_limit *limit)
 {
-	int32_t tag;
-
-	tags_library_enlist(hand, false);
-	tag = tags_is_ended(hand) ? (int32_t)TAGS_STOPPED : tags_get(hand);
-	if (tag == TAGS_NO_TAG)
-		sleep_until_told(hand, limit);
-	*was_told = tags_library_strike(hand, false);
-	return tag;
+	if (tags_is_ended(hand))
+		return TAGS_STOPPED;
+	return tags_library_is_past(limit) ? (int32_t)TAGS_TIMED_OUT : (int32_t)TAGS_OK;
 }
 
-/*
- * Waits after a get that found no tag. A hand that was told has to see to all tags once it has a
- * tag or gives up. If a get after that finds no tag, it has nothing more to see to.
- */
+/* After a get that found no tag. */
 static int32_t wait_for_tag(struct tags_hand *hand, const struct tags_limit *limit)
 {
-	bool was_told = false;
 	int saved = errno;
-	int32_t tag;
+	int32_t why, tag;
 
-	if (tags_bell_of(hand->waits)->depth == 0)
-		return TAGS_NO_SUCH_TAG;
-	if (hand->place->is_listening)
+	if (hand->place->is_waiting)
 		return TAGS_WAITING;
 	tags_begin_wait(hand);
 	do {
-		was_told = false;
-		tag = tags_library_is_past(limit) ? (int32_t)TAGS_TIMED_OUT :
-						    get_or_sleep(hand, limit, &was_told);
-		if (tag == TAGS_NO_TAG)
-			tag = tags_get(hand);
+		why = why_over(hand, limit);
+		if (why == TAGS_OK && hand->place->is_waiting)
+			sleep_until_woken(hand, limit);
+		tag = make_round(hand, why);
 	} while (tag == TAGS_NO_TAG);
-	if (was_told)
-		tags_library_settle(hand);
-	hand->place->has_turn = false;
 	errno = saved;
 	return tag;
 }

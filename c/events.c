@@ -1,7 +1,7 @@
 /*
- * Waits that need no thread: a hand is listed as a listener, with an eventfd that is notified or a
- * function that is called when the hand is told of a tag. As with a thread that sleeps, the hand is
- * listed before its last try. How it is told is in bell.c.
+ * Waits that need no thread: rounds of the library, one for each call. Between two calls the hand is
+ * listed as a listener, or was told, with an eventfd that is notified or a function that is called
+ * then. How it is told is in bell.c.
  *
  * Those whom a call tells are woken at once, before it may wait for a function that runs. A hand
  * behind a lock wakes them after it has left that: they are added to @due, if that is not NULL.
@@ -19,90 +19,50 @@ static void set_notice(struct tags_hand *hand, const struct tags_notice *notice)
 	pthread_mutex_unlock(&bell->lock);
 }
 
-/*
- * Ends the hand's stay in the list, if there is one. Afterwards nobody notifies it, and no function
- * runs that does. Returns whether it was told.
- */
-static bool stop_listening(struct tags_hand *hand)
+/* Afterwards nobody notifies the hand, and no function runs that does. */
+static void forget_notice(struct tags_hand *hand)
 {
-	if (!hand->place->is_listening)
-		return false;
 	set_notice(hand, &TAGS_NO_NOTICE);
 	tags_library_outwait(hand->place);
-	hand->place->is_listening = false;
-	return tags_library_strike(hand, true);
 }
 
-/* Lists the hand, at its former turn if it has waited. Whoever finds it listed finds the notice. */
-static void listen(struct tags_hand *hand, const struct tags_notice *notice)
+/* Makes a round of a hand that has a notice. With any answer but TAGS_NO_TAG it has none afterwards. */
+static int32_t make_round(struct tags_hand *hand, int32_t why, struct tags_told *due)
 {
-	set_notice(hand, notice);
-	tags_library_enlist(hand, true);
-	hand->place->is_listening = true;
-}
+	struct tags_told own = { 0, 0 };
+	const int32_t tag = tags_library_go_on(hand, true, why, due ? due : &own);
 
-static void settle(struct tags_hand *hand, struct tags_told *due)
-{
-	if (due)
-		tags_library_see_all(hand, due);
-	else
-		tags_library_settle(hand);
-}
-
-static inline int32_t get(struct tags_hand *hand, struct tags_told *due)
-{
-	uint64_t left = 0;
-	int32_t tag;
-
-	if (tags_is_ended(hand))
-		return TAGS_STOPPED;
-	if (!due)
-		return tags_get(hand);
-	tag = tags_library_get(hand, &left);
-	if (left > 0 && tags_load(&hand->waits->waiting) > 0)
-		tags_library_see(hand, left, due);
-	return tag;
-}
-
-/* Returns a tag, or why there is none: with TAGS_NO_TAG the hand is listed now. */
-static int32_t get_or_listen(struct tags_hand *hand, const struct tags_notice *notice,
-			     struct tags_told *due)
-{
-	int32_t tag;
-
-	if (tags_bell_of(hand->waits)->depth == 0)
-		return TAGS_NO_SUCH_TAG;
-	listen(hand, notice);
-	tag = get(hand, due);
-	if (tag != TAGS_NO_TAG && stop_listening(hand))
-		settle(hand, due);
-	return tag;
-}
-
-static int32_t get_or_wait(struct tags_hand *hand, const struct tags_notice *notice,
-			   struct tags_told *due)
-{
-	const bool was_told = stop_listening(hand);
-	int32_t tag;
-
-	tags_begin_wait(hand);
-	tag = get(hand, due);
-	if (was_told && tag != TAGS_NO_TAG)
-		settle(hand, due);
-	if (tag == TAGS_NO_TAG)
-		tag = get_or_listen(hand, notice, due);
+	tags_library_wake_told(hand, &own);
 	if (tag != TAGS_NO_TAG)
-		hand->place->has_turn = false;
+		forget_notice(hand);
 	return tag;
+}
+
+/* Whoever tells the hand finds the notice. A stop does, too, or the hand finds the stop. */
+static int32_t wait_on(struct tags_hand *hand, const struct tags_notice *notice, struct tags_told *due)
+{
+	tags_begin_wait(hand);
+	if (hand->place->is_waiting)
+		forget_notice(hand);
+	set_notice(hand, notice);
+	return make_round(hand, tags_is_ended(hand) ? TAGS_STOPPED : TAGS_OK, due);
+}
+
+/* A tag that is free saves the wait. */
+static int32_t get_or_wait(struct tags_hand *hand, const struct tags_notice *notice)
+{
+	int32_t tag = TAGS_NO_TAG;
+
+	if (!hand->place->is_waiting)
+		tag = tags_detail_is_stopped(hand) ? (int32_t)TAGS_STOPPED : tags_get(hand);
+	return tag == TAGS_NO_TAG ? wait_on(hand, notice, NULL) : tag;
 }
 
 static bool cancel(struct tags_hand *hand, struct tags_told *due)
 {
-	if (!hand->place->is_listening)
+	if (!hand->place->is_waiting)
 		return false;
-	if (stop_listening(hand))
-		settle(hand, due);
-	hand->place->has_turn = false;
+	make_round(hand, TAGS_STOPPED, due);
 	return true;
 }
 
@@ -116,7 +76,7 @@ int32_t tags_library_get_async(struct tags_hand *hand, int descriptor)
 
 	if (!hand->place)
 		return TAGS_BAD_HANDLE;
-	return descriptor < 0 ? (int32_t)TAGS_BAD_EVENT : get_or_wait(hand, &notice, NULL);
+	return descriptor < 0 ? (int32_t)TAGS_BAD_EVENT : get_or_wait(hand, &notice);
 }
 
 int32_t tags_library_get_notified(struct tags_hand *hand, void (*function)(void *argument),
@@ -124,7 +84,7 @@ int32_t tags_library_get_notified(struct tags_hand *hand, void (*function)(void 
 {
 	const struct tags_notice notice = { -1, function, argument, false };
 
-	return hand->place ? get_or_wait(hand, &notice, NULL) : (int32_t)TAGS_BAD_HANDLE;
+	return hand->place ? get_or_wait(hand, &notice) : (int32_t)TAGS_BAD_HANDLE;
 }
 
 bool tags_library_cancel(struct tags_hand *hand)
@@ -148,7 +108,7 @@ int32_t tags_library_poll(struct tags_hand *hand, void (*function)(void *argumen
 {
 	const struct tags_notice notice = { -1, function, argument, true };
 
-	return get_or_wait(hand, &notice, due);
+	return wait_on(hand, &notice, due);
 }
 
 void tags_library_end_poll(struct tags_hand *hand, struct tags_told *due)

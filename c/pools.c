@@ -71,8 +71,9 @@ __attribute__((constructor)) static void watch_forks(void)
 }
 
 /*
- * The options as the library takes them: there a shift of 0 means one tag per word, and
- * a negative one the default. TAGS_KEEP_WHILE_HOLDING is an argument of its own.
+ * The options as the library takes them: there a shift of 0 means one tag per word, -1 the
+ * default by the number of hands, and TAGS_SHIFT_AS_KERNEL the kernel's. TAGS_KEEP_WHILE_HOLDING
+ * is an argument of its own.
  */
 static struct tags_options asked_for(const struct tags_options *options)
 {
@@ -135,7 +136,7 @@ static int32_t open_locked(struct tags_pool *pool, const struct tags_options *op
 	int32_t status;
 
 	/* The library refuses one that is too large. */
-	if (!pool->full && asked.flags <= TAGS_ROUND_ROBIN && options->shift < TAGS_ONE_PER_WORD)
+	if (!pool->full && asked.flags <= TAGS_ROUND_ROBIN && options->shift < TAGS_SHIFT_AS_KERNEL)
 		return TAGS_BAD_SHIFT;
 	status = tags_library_open_cached(pool, &asked, options->cache,
 					  (options->flags & TAGS_KEEP_WHILE_HOLDING) != 0);

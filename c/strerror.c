@@ -35,7 +35,7 @@ static const char *const sentences[] = {
 	[-TAGS_BAD_TIME] = "the clock is CLOCK_MONOTONIC or CLOCK_REALTIME, "
 			   "and the nanoseconds are from 0 to 999,999,999",
 	[-TAGS_BAD_EVENT] = "the descriptor is below 0",
-	[-TAGS_BAD_SHIFT] = "the shift is at least 0, or TAGS_ONE_PER_WORD",
+	[-TAGS_BAD_SHIFT] = "the shift is at least 0, TAGS_ONE_PER_WORD or TAGS_SHIFT_AS_KERNEL",
 	[-TAGS_CACHE_TOO_LARGE] = "a hand keeps at most 64 tags in its cache",
 	[-TAGS_STOPPED] = "the pool was stopped, which ends all waits",
 };

@@ -139,7 +139,7 @@ enum tags_status {
 	TAGS_TIMED_OUT = -31, /**< the deadline passed before the call got what it waits for */
 	TAGS_BAD_TIME = -32, /**< an unknown clock, or nanoseconds outside 0 to 999,999,999 */
 	TAGS_BAD_EVENT = -33, /**< a descriptor below 0 */
-	TAGS_BAD_SHIFT = -34, /**< a shift below 0 that is not TAGS_ONE_PER_WORD */
+	TAGS_BAD_SHIFT = -34, /**< a shift below 0 that has no name */
 	TAGS_CACHE_TOO_LARGE = -35, /**< a cache of more than TAGS_MAX_CACHE tags */
 	TAGS_STOPPED = -36 /**< tags_stop() ended all waits */
 };
@@ -194,6 +194,9 @@ struct tags_hand {
 /** a shift of struct tags_options: words of one tag each */
 #define TAGS_ONE_PER_WORD (-1)
 
+/** a shift of struct tags_options: words of the kernel's size, whatever the number of hands */
+#define TAGS_SHIFT_AS_KERNEL (-2)
+
 /** enum tags_option_flags - @flags of struct tags_options */
 enum tags_option_flags {
 	TAGS_ROUND_ROBIN = 1, /**< A get starts after the tag that the hand won last. So a tag is
@@ -210,8 +213,13 @@ struct tags_options {
 	uint32_t total; /**< number of tags, including the reserved ones, at most TAGS_MAX_TOTAL */
 	uint32_t reserved; /**< how many of them are reserved: tags 0 to @reserved - 1 */
 	int32_t shift; /**< log2(tags per word), 1 to TAGS_MAX_SHIFT, or TAGS_ONE_PER_WORD. 0
-		chooses the largest with which the set still has 4 whole words, and TAGS_MAX_SHIFT
-		for fewer than 4 tags. */
+		chooses the largest with which the set still has as many whole words as the pool
+		has hands, and at least 4, so that threads seldom share a word: one tag per word
+		if there are fewer tags than hands, and TAGS_MAX_SHIFT for fewer than 4 tags.
+		TAGS_SHIFT_AS_KERNEL chooses as if there were 4 hands. It differs with less than
+		64 tags for each of more than 4 hands: words are larger then, and so are the
+		batches that tags_pool_batch() tells of. A thread that always holds 32 tags takes
+		and gives back one in 32 ns with 64 tags per word, and in 46 with 16. */
 	uint32_t min_shallow; /**< the least depth of tags_get_shallow(); 0 accepts any from 1 */
 	uint32_t hands; /**< number of hands, 1 to TAGS_MAX_HANDS */
 	uint32_t flags; /**< 0, or any of enum tags_option_flags */
@@ -467,6 +475,18 @@ TAGS_DETAIL_CHECKED int32_t tags_get_reserved(struct tags_hand *hand);
  * TAGS_TOO_SHALLOW or TAGS_SPENT.
  */
 TAGS_DETAIL_CHECKED int32_t tags_get_shallow(struct tags_hand *hand, uint32_t depth);
+
+/**
+ * tags_get_exactly() - take one given tag, if it is free
+ * @tag: the tag, ordinary or reserved
+ *
+ * For a tag with a fixed use, or one that a request had before a restart. The call makes a bounded
+ * number of steps. A tag that this hand keeps is free for it, one that another hand keeps is not.
+ *
+ * Return: the tag. TAGS_NO_TAG means that it was found taken at some moment of the call. Otherwise
+ * TAGS_NO_SUCH_TAG or TAGS_SPENT.
+ */
+TAGS_DETAIL_CHECKED int32_t tags_get_exactly(struct tags_hand *hand, uint32_t tag);
 
 /**
  * tags_get_batch() - take up to @n ordinary tags out of a run of @n

@@ -527,7 +527,8 @@ struct options {
 	/// How many of the tags are reserved for get_reserved(): tags 0 to reserved - 1.
 	std::uint32_t reserved = 0;
 	/// Binary logarithm of the tags per word, at most 6. By default the largest with which the
-	/// set still has 4 whole words, and 6 for fewer than 4 tags.
+	/// set still has as many whole words as hands, and at least 4; 0 for fewer tags than hands,
+	/// and 6 for fewer than 4 tags.
 	std::optional<std::uint32_t> shift = std::nullopt;
 	/// The least depth that get_shallow() accepts; 0 accepts any from 1.
 	std::uint32_t min_shallow = 0;
@@ -540,6 +541,9 @@ struct options {
 	/// Whether a hand keeps tags only while it holds another one that it got. Then it never
 	/// has to flush.
 	bool keep_while_holding = false;
+	/// Whether the default shift is the kernel's, which asks for 4 whole words whatever the
+	/// number of hands: see TAGS_SHIFT_AS_KERNEL. With a shift it changes nothing.
+	bool shift_as_kernel = false;
 
 	/// The same for tags_open().
 	tags_options native() const noexcept
@@ -551,6 +555,8 @@ struct options {
 			made.shift = TAGS_ONE_PER_WORD;
 		else if (shift)
 			made.shift = *shift < 32 ? static_cast<std::int32_t>(*shift) : 32;
+		else if (shift_as_kernel)
+			made.shift = TAGS_SHIFT_AS_KERNEL;
 		made.min_shallow = min_shallow;
 		made.hands = hands;
 		made.cache = cache;
@@ -1057,6 +1063,16 @@ public:
 		return found(state_, tags_get_shallow(raw(), depth));
 	}
 
+	/// Takes this tag, ordinary or reserved, if it is free, and no other, by a bounded number of
+	/// steps. One that this hand keeps is free for it. No tag: it was found taken at some moment
+	/// of the call.
+	///
+	/// Errors: bad_handle, no_such_tag, spent.
+	[[nodiscard]] std::optional<tag> get_exactly(std::uint32_t number)
+	{
+		return found(state_, tags_get_exactly(raw(), number));
+	}
+
 	/// Takes up to n ordinary tags out of a run of n; if no word has as many, out of the most
 	/// that one has: see pool::batch_limit(). The run begins at the first free tag of a word, and
 	/// has to end in that word. The batch can be smaller than n, even while more tags are free.
@@ -1267,6 +1283,12 @@ public:
 						     std::error_code &ec) noexcept
 	{
 		return found(state_, tags_get_shallow(raw(), depth), ec);
+	}
+
+	[[nodiscard]] std::optional<tag> get_exactly(std::uint32_t number,
+						     std::error_code &ec) noexcept
+	{
+		return found(state_, tags_get_exactly(raw(), number), ec);
 	}
 
 	[[nodiscard]] std::optional<batch> get_batch(std::uint32_t n, std::error_code &ec) noexcept

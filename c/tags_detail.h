@@ -8,6 +8,13 @@
 #error "include tags.h"
 #endif
 
+/* A cast, as compilers for C++ want it. */
+#ifdef __cplusplus
+#define TAGS_DETAIL_AS(type, value) static_cast<type>(value)
+#else
+#define TAGS_DETAIL_AS(type, value) ((type)(value))
+#endif
+
 /* What a pool and its hands know of waiters. */
 struct tags_waits {
 	/* how many wait, including those that were told and have not got up */
@@ -21,7 +28,7 @@ struct tags_waits {
 /*
  * The exports of the library. They do not check for NULL, as the calls below do; that costs nothing
  * if the compiler sees that a pointer is not NULL. A get fills in @left: how many tags it made free
- * and did not take.
+ * and did not take. A flush returns how many tags it gave back.
  */
 int32_t tags_library_open_cached(struct tags_pool *pool, const struct tags_options *options,
 				 uint32_t cache, uint32_t keeping);
@@ -32,6 +39,7 @@ int32_t tags_library_close(struct tags_pool *pool, struct tags_sums *sums);
 int32_t tags_library_get(struct tags_hand *hand, uint64_t *left);
 int32_t tags_library_get_reserved(struct tags_hand *hand);
 int32_t tags_library_get_shallow(struct tags_hand *hand, uint32_t depth, uint64_t *left);
+int32_t tags_library_get_exactly(struct tags_hand *hand, uint32_t tag, uint64_t *left);
 int32_t tags_library_get_batch(struct tags_hand *hand, uint32_t n, uint64_t *won,
 			       uint64_t *left);
 int32_t tags_library_clear(struct tags_hand *hand, uint32_t tag);
@@ -328,6 +336,17 @@ TAGS_DETAIL_CALL int32_t tags_get_shallow(struct tags_hand *hand, uint32_t depth
 	return tags_detail_swept(hand, tag, left);
 }
 
+TAGS_DETAIL_CALL int32_t tags_get_exactly(struct tags_hand *hand, uint32_t tag)
+{
+	uint64_t left = 0;
+	int32_t won;
+
+	if (!tags_detail_begin(hand))
+		return TAGS_NULL;
+	won = tags_library_get_exactly(hand, tag, &left);
+	return tags_detail_swept(hand, won, left);
+}
+
 TAGS_DETAIL_CALL int32_t tags_get_batch(struct tags_hand *hand, uint32_t n, uint64_t *won)
 {
 	uint64_t left = 0;
@@ -375,9 +394,14 @@ TAGS_DETAIL_CALL int32_t tags_clear_mask(struct tags_hand *hand, uint32_t first,
 
 TAGS_DETAIL_CALL int32_t tags_flush(struct tags_hand *hand)
 {
+	int32_t freed;
+
 	if (!tags_detail_begin(hand))
 		return TAGS_NULL;
-	return tags_detail_gave(hand, tags_library_flush(hand), 0);
+	freed = tags_library_flush(hand);
+	if (freed < 0)
+		return tags_detail_end(hand, freed);
+	return tags_detail_gave(hand, TAGS_OK, TAGS_DETAIL_AS(uint64_t, freed));
 }
 
 TAGS_DETAIL_CALL int32_t tags_get_write(struct tags_hand *hand, uint64_t value)

@@ -14,7 +14,7 @@ from math import log2
 KERNEL = ("kernel", "apart")
 OURS = ("tag_bench", "apart")
 QUEUE = ("tag_queue", "apart")
-SETS = ("tag_sets", "apart")
+POOL = ("tag_pool", "apart")
 CACHE = ("tag_cache", "apart")
 MEMPOOL = ("mempool", None)
 THROUGH_C = ("tag_c", "apart")
@@ -43,7 +43,7 @@ SECOND = [
     ("limit", LIMIT),
     ("boost queue", ("boost queue", None)),
     ("moodycamel queue", ("moodycamel queue", None)),
-    ("tag sets", SETS),
+    ("`Pool`", POOL),
     ("C, pool's slots", THROUGH_C),
     ("kernel, from 0", ("kernel", "from 0")),
     ("map, from 0", ("tag_bench", "from 0")),
@@ -80,7 +80,7 @@ LINES = [
 
 
 # What precedes a workload's name in the lines of tag_bench, and the contender that it stands for.
-LAYERS = {"": "tag_bench", "queue": "tag_queue", "sets": "tag_sets", "cache": "tag_cache"}
+LAYERS = {"": "tag_bench", "queue": "tag_queue", "pool": "tag_pool", "cache": "tag_cache"}
 
 
 def read(path):

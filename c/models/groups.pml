@@ -1,6 +1,6 @@
 /*
  * Blocking gets in Rattle, step by step: Queue::get_blocking, get and clear of crates/tag_queue, over the wait groups and the
- * charges of crates/wake_book. tag_sets and tag_cache wait on the same queue.
+ * charges of crates/wake_book. The scripts and logs of tagplay wait so.
  *
  * The rule: no thread sleeps beside a batch of free tags while nobody is on the way to one; with a batch of 1, beside any. It is
  * looked at whenever no process can go on.

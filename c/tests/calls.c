@@ -12,10 +12,12 @@
 
 #include "../tags.h"
 
-/* Opens a pool of 64 tags, four of them reserved, for up to eight threads. */
+/* Opens a pool of 64 tags, four of them reserved, for up to eight threads, with words for batches of eight. */
 static bool open_pool(struct tags_pool *pool)
 {
-	const struct tags_options options = { .total = 64, .reserved = 4, .hands = 8 };
+	const struct tags_options options = {
+		.total = 64, .reserved = 4, .hands = 8, .shift = TAGS_SHIFT_AS_KERNEL
+	};
 	int32_t status = tags_open(pool, &options);
 
 	if (status != TAGS_OK)
@@ -87,6 +89,12 @@ static int32_t get_for_flush(struct tags_hand *hand)
 static int32_t get_for_readahead(struct tags_hand *hand)
 {
 	return tags_get_shallow(hand, 16);
+}
+
+/* After a restart a request that was not complete takes the tag again that it had. */
+static bool take_up_again(struct tags_hand *hand, uint32_t tag)
+{
+	return tags_get_exactly(hand, tag) == (int32_t)tag;
 }
 
 /* Up to eight requests at once. Returns how many there were. */
@@ -418,6 +426,8 @@ static bool runs_with(struct tags_hand *hand, struct tags_hand *other, int event
 	for (int i = 0; i < 5; i++)
 		if (tags_clear(hand, tags[i]) < 0)
 			return false;
+	if (!take_up_again(hand, 40) || take_up_again(other, 40) || tags_clear(hand, 40) < 0)
+		return false;
 	return tags_get_timed(hand, CLOCK_MONOTONIC, &past) >= 0;
 }
 

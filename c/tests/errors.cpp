@@ -86,6 +86,7 @@ static void empty_objects()
 	REFUSED(errc::bad_handle, hand.get_write(1, CODE));
 	REFUSED(errc::bad_handle, hand.get_reserved(CODE));
 	REFUSED(errc::bad_handle, hand.get_shallow(1, CODE));
+	REFUSED(errc::bad_handle, hand.get_exactly(1, CODE));
 	REFUSED(errc::bad_handle, hand.get_batch(1, CODE));
 	REFUSED(errc::bad_handle, hand.get_blocking(CODE));
 	REFUSED(errc::bad_handle, hand.try_get_for(1ms, CODE));
@@ -150,6 +151,7 @@ static void gets()
 	REFUSED(errc::too_shallow, hand.get_shallow(0, CODE));
 	REFUSED(errc::too_shallow, hand.get_shallow(2, CODE));
 	REFUSED(errc::bad_count, hand.get_batch(0, CODE));
+	REFUSED(errc::no_such_tag, hand.get_exactly(12, CODE));
 	CHECK(hand.show(tags::kind::ordinary, ec).busy == 0);
 	tags::pool reserved(sized(2, 1, 2), ec);
 	hand = reserved.join(ec);
@@ -157,6 +159,8 @@ static void gets()
 	const tags::tag other = *hand.get_reserved(ec);
 	// None is free, which is no error.
 	CHECK(refusal([&](auto &...code) { CHECK(!hand.get_reserved(code...)); }) ==
+	      std::error_code());
+	CHECK(refusal([&](auto &...code) { CHECK(!hand.get_exactly(1, code...)); }) ==
 	      std::error_code());
 	CHECK(refusal([&](auto &...code) { CHECK(!hand.get(code...)); }) == std::error_code());
 	CHECK(refusal([&](auto &...code) { CHECK(!hand.get_write(1, code...)); }) ==

@@ -166,7 +166,7 @@ static struct tags_options any_options(void)
 {
 	struct tags_options options = {
 		.total = any_total(),
-		.shift = (int32_t)below(9) - 1,
+		.shift = (int32_t)below(10) - 2,
 		.hands = 1 + below(HANDLES),
 	};
 
@@ -239,11 +239,21 @@ static uint32_t count_in(uint64_t mask)
  * Pools and hands
  */
 
+/* A flush of the model, which tells those who wait. */
+static int32_t flush(struct model *hand)
+{
+	uint32_t kept = 0;
+
+	if (is_hand(hand))
+		kept = (uint32_t)__builtin_popcountll(member_of(hand)->kept);
+	return model_gave(hand, model_flush(hand), kept);
+}
+
 static void leave(uint32_t at)
 {
 	if (is_hand(&models[at])) {
 		model_cancel(&models[at]);
-		model_gave(&models[at], model_flush(&models[at]), 0);
+		flush(&models[at]);
 	}
 	compare("leave", tags_leave(&handles[at].hand), model_leave(&models[at]));
 }
@@ -322,6 +332,15 @@ static void try_get_shallow(void)
 		model_swept(&models[at], model_get_shallow(&models[at], depth)));
 }
 
+static void try_get_exactly(void)
+{
+	uint32_t at = hand_handle();
+	uint32_t tag = seldom(2) ? any_tag(at) : below(total_behind(at) + 2);
+
+	compare("get_exactly", tags_get_exactly(&handles[at].hand, tag),
+		model_swept(&models[at], model_get_exactly(&models[at], tag)));
+}
+
 static void try_get_batch(void)
 {
 	uint32_t at = hand_handle();
@@ -349,8 +368,7 @@ static void try_flush(void)
 	uint32_t at = hand_handle();
 
 	if (seldom(3))
-		compare("flush", tags_flush(&handles[at].hand),
-			model_gave(&models[at], model_flush(&models[at]), 0));
+		compare("flush", tags_flush(&handles[at].hand), flush(&models[at]));
 }
 
 static void try_read_clear(void)
@@ -765,6 +783,7 @@ static const struct {
 	{ try_open, 2 }, { try_join, 2 }, { try_leave, 1 },
 	{ try_close, 1 }, { try_get, 4 }, { try_get_reserved, 1 },
 	{ try_get_shallow, 1 }, { try_get_batch, 1 }, { try_clear, 5 },
+	{ try_get_exactly, 1 },
 	{ try_clear_batch, 1 }, { try_read, 1 }, { try_write, 1 },
 	{ try_post, 1 }, { try_take, 3 }, { try_holds, 1 },
 	{ try_get_notified, 2 }, { try_busy, 1 }, { try_show, 1 },

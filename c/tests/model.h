@@ -145,6 +145,7 @@ int32_t model_close(struct model *handle, struct tags_sums *sums);
 int32_t model_get(struct model *hand);
 int32_t model_get_reserved(struct model *hand);
 int32_t model_get_shallow(struct model *hand, uint32_t depth);
+int32_t model_get_exactly(struct model *hand, uint32_t tag);
 int32_t model_get_batch(struct model *hand, uint32_t n, uint64_t *won);
 int32_t model_clear(struct model *hand, uint32_t tag);
 int32_t model_clear_batch(struct model *hand, const uint32_t *tags, size_t count);
@@ -154,6 +155,8 @@ int32_t model_clear_mask(struct model *hand, uint32_t first, uint64_t mask);
 int32_t model_flush(struct model *hand);
 /* Takes the least tag that the hand keeps, or returns NOWHERE. */
 int32_t model_reuse(struct model *hand);
+/* Takes this tag if the hand keeps it, and returns whether it did. */
+bool model_reuse_one(struct model *hand, uint32_t tag);
 /* Notes that the hand won a tag, if it is in the window: nothing else is kept, so the window moves there. */
 void model_lend(struct model *hand, uint32_t tag);
 /* Keeps a tag that is cleared, if it may be kept. */

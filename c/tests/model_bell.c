@@ -124,13 +124,13 @@ int32_t model_stop(struct model *handle)
 	return TAGS_OK;
 }
 
-/* Ends the hand's stay in the bell, if there is one. Returns whether it was told. */
-static bool strike(struct model *hand)
+/* The hand waits no more, and sees to all tags. */
+static int32_t end_wait(struct model *hand, int32_t answer)
 {
-	bool was_told = member_of(hand)->bell == TOLD;
-
 	member_of(hand)->bell = IDLE;
-	return was_told;
+	member_of(hand)->turn = 0;
+	settle(hand);
+	return answer;
 }
 
 static int32_t get(struct model *hand)
@@ -138,54 +138,70 @@ static int32_t get(struct model *hand)
 	return model_swept(hand, model_get(hand));
 }
 
-static int32_t get_or_listen(struct model *hand, uint32_t event)
+/* The get of a round tells nobody: what it leaves free is seen to at the end. */
+static int32_t get_alone(struct model *hand)
+{
+	const int32_t tag = model_get(hand);
+
+	hand->pool->set[TAGS_ORDINARY].freed = 0;
+	return tag;
+}
+
+/* Whether the next get tries each tag. */
+static bool can_wait(const struct model *hand)
+{
+	return !hand->pool->set[TAGS_ORDINARY].round_robin || member_of(hand)->hint[TAGS_ORDINARY] == 0;
+}
+
+static int32_t get_listed(struct model *hand)
 {
 	struct member *member = member_of(hand);
-	int32_t tag;
 
-	if (hand->pool->set[TAGS_ORDINARY].depth == 0)
-		return TAGS_NO_SUCH_TAG;
 	if (member->turn == 0)
 		member->turn = ++hand->pool->turns;
-	member->event = event;
-	member->is_notified = false;
 	member->bell = LISTED;
-	tag = get(hand);
-	if (tag != TAGS_NO_TAG && strike(hand))
-		settle(hand);
-	return tag;
+	return get_alone(hand);
+}
+
+/* A round of a wait, which is over if @why is not TAGS_OK. */
+static int32_t make_round(struct model *hand, int32_t why)
+{
+	int32_t tag = TAGS_NO_TAG;
+
+	if (hand->pool->set[TAGS_ORDINARY].depth == 0)
+		return end_wait(hand, TAGS_NO_SUCH_TAG);
+	if (why != TAGS_OK)
+		return end_wait(hand, why);
+	if (!can_wait(hand))
+		tag = get_alone(hand);
+	if (tag == TAGS_NO_TAG)
+		tag = get_listed(hand);
+	return tag == TAGS_NO_TAG ? tag : end_wait(hand, tag);
 }
 
 int32_t model_get_async(struct model *hand, int32_t event)
 {
-	bool was_told;
-	int32_t tag;
+	const int32_t why = is_hand(hand) && hand->pool->is_stopped ? TAGS_STOPPED : TAGS_OK;
+	int32_t tag = TAGS_NO_TAG;
 
 	if (!is_hand(hand))
 		return TAGS_BAD_HANDLE;
 	if (event < 0)
 		return TAGS_BAD_EVENT;
-	was_told = strike(hand);
-	tag = hand->pool->is_stopped ? (int32_t)TAGS_STOPPED : get(hand);
-	if (was_told && tag != TAGS_NO_TAG)
-		settle(hand);
-	if (tag == TAGS_NO_TAG)
-		tag = get_or_listen(hand, (uint32_t)event);
+	if (member_of(hand)->bell == IDLE)
+		tag = why == TAGS_OK ? get(hand) : why;
 	if (tag != TAGS_NO_TAG)
-		member_of(hand)->turn = 0;
-	return tag;
+		return tag;
+	member_of(hand)->event = (uint32_t)event;
+	member_of(hand)->is_notified = false;
+	return make_round(hand, why);
 }
 
 int32_t model_cancel(struct model *hand)
 {
 	if (!is_hand(hand))
 		return TAGS_BAD_HANDLE;
-	if (member_of(hand)->bell == IDLE)
-		return TAGS_NOT_WAITING;
-	if (strike(hand))
-		settle(hand);
-	member_of(hand)->turn = 0;
-	return TAGS_OK;
+	return member_of(hand)->bell == IDLE ? (int32_t)TAGS_NOT_WAITING : end_wait(hand, TAGS_OK);
 }
 
 int32_t model_wait(struct model *hand, bool is_late)
@@ -197,7 +213,7 @@ int32_t model_wait(struct model *hand, bool is_late)
 	tag = is_hand(hand) ? get(hand) : (int32_t)TAGS_BAD_HANDLE;
 	if (tag != TAGS_NO_TAG)
 		return tag;
-	if (hand->pool->set[TAGS_ORDINARY].depth == 0)
-		return TAGS_NO_SUCH_TAG;
-	return is_late && member_of(hand)->bell == IDLE ? TAGS_TIMED_OUT : TAGS_WAITING;
+	if (member_of(hand)->bell != IDLE)
+		return TAGS_WAITING;
+	return make_round(hand, is_late ? TAGS_TIMED_OUT : TAGS_OK);
 }

@@ -27,6 +27,16 @@ int32_t model_reuse(struct model *hand)
 	return (int32_t)(member->window + (uint32_t)__builtin_ctzll(least));
 }
 
+bool model_reuse_one(struct model *hand, uint32_t tag)
+{
+	struct member *member = member_of(hand);
+	uint64_t bit = member->kept & bit_of(member, tag);
+
+	member->kept -= bit;
+	member->lent |= bit;
+	return bit != 0;
+}
+
 void model_lend(struct model *hand, uint32_t tag)
 {
 	aim(member_of(hand), tag);

@@ -162,6 +162,27 @@ int32_t model_get_shallow(struct model *hand, uint32_t depth)
 	return get_of(hand, TAGS_ORDINARY, least_of(depth, TAGS_MAX_TOTAL));
 }
 
+int32_t model_get_exactly(struct model *hand, uint32_t tag)
+{
+	struct set *set;
+	uint32_t at;
+
+	if (!is_hand(hand))
+		return TAGS_BAD_HANDLE;
+	if (tag >= total_of(hand))
+		return TAGS_NO_SUCH_TAG;
+	if (model_reuse_one(hand, tag))
+		return (int32_t)tag;
+	set = set_of(hand, tag);
+	at = tag - set->first;
+	if (set->place[at] != FREE)
+		sweep(set, at >> set->shift);
+	if (set->place[at] != FREE)
+		return TAGS_NO_TAG;
+	win(hand, set, at);
+	return (int32_t)tag;
+}
+
 /* Finds a run of @n tags in a word, takes those that are free, and returns the run's first tag. */
 static int32_t run_in(struct model *hand, struct set *set, uint32_t word, uint32_t n, uint64_t *won)
 {

@@ -8,11 +8,12 @@ static bool is_pool(const struct model *handle)
 	return handle->pool && handle->number == THE_POOL;
 }
 
-static uint32_t default_shift(uint32_t depth)
+static uint32_t default_shift(uint32_t depth, uint32_t hands)
 {
+	const uint32_t words = hands > 4 ? hands : 4;
 	uint32_t shift = TAGS_MAX_SHIFT;
 
-	while (depth >= 4 && 4u << shift > depth)
+	while (depth >= 4 && shift > 0 && words << shift > depth)
 		shift--;
 	return shift;
 }
@@ -21,7 +22,9 @@ static uint32_t shift_of(uint32_t depth, const struct tags_options *options)
 {
 	if (options->shift == TAGS_ONE_PER_WORD)
 		return 0;
-	return options->shift > 0 ? (uint32_t)options->shift : default_shift(depth);
+	if (options->shift == TAGS_SHIFT_AS_KERNEL)
+		return default_shift(depth, 4);
+	return options->shift > 0 ? (uint32_t)options->shift : default_shift(depth, options->hands);
 }
 
 static void open_set(struct set *set, uint32_t first, uint32_t depth,
@@ -37,7 +40,7 @@ static int32_t find_fault(const struct tags_options *options)
 {
 	if (options->flags & ~(uint32_t)(TAGS_ROUND_ROBIN | TAGS_KEEP_WHILE_HOLDING))
 		return TAGS_BAD_FLAG;
-	if (options->shift < TAGS_ONE_PER_WORD)
+	if (options->shift < TAGS_SHIFT_AS_KERNEL)
 		return TAGS_BAD_SHIFT;
 	if (options->cache > TAGS_MAX_CACHE)
 		return TAGS_CACHE_TOO_LARGE;

@@ -559,6 +559,12 @@ static void options_are_passed_on()
 	options.shift = 0;
 	tags::pool alone(options, ec);
 	CHECK(alone.join(ec).show(tags::kind::ordinary, ec).bits_per_word == 1 && !ec);
+	tags::options many = sized(1024, 64);
+	CHECK(tags::pool(many, ec).batch_limit() == 16 && !ec);
+	many.shift_as_kernel = true;
+	CHECK(tags::pool(many, ec).batch_limit() == 64 && !ec);
+	many.shift = 3;
+	CHECK(tags::pool(many, ec).batch_limit() == 8 && !ec);
 	options.shift = 2;
 	options.min_shallow = 2;
 	tags::pool shallow(options, ec);

@@ -72,6 +72,7 @@ static void refuse_null(struct tags_pool *pool, struct tags_hand *hand)
 	WANT(tags_get(NULL), -28);
 	WANT(tags_get_reserved(NULL), -28);
 	WANT(tags_get_shallow(NULL, 3), -28);
+	WANT(tags_get_exactly(NULL, 2), -28);
 	WANT(tags_get_batch(NULL, 1, &value), -28);
 	WANT(tags_get_batch(hand, 1, NULL), -28);
 	WANT(tags_clear(NULL, 2), -28);
@@ -125,7 +126,7 @@ static void refuse_options(void)
 	WANT(tags_open(&pool, &options), -24);
 	options.shift = INT32_MAX;
 	WANT(tags_open(&pool, &options), -24);
-	options.shift = -2;
+	options.shift = -3;
 	WANT(tags_open(&pool, &options), -34);
 	options.shift = INT32_MIN;
 	options.total = UINT32_MAX;
@@ -164,6 +165,7 @@ static void refuse_handle(struct tags_hand *hand)
 	WANT(tags_get(hand), -12);
 	WANT(tags_get_reserved(hand), -12);
 	WANT(tags_get_shallow(hand, 3), -12);
+	WANT(tags_get_exactly(hand, 3), -12);
 	WANT(tags_get_batch(hand, 1, &value), -12);
 	WANT(tags_clear(hand, tag), -12);
 	WANT(tags_get_write(hand, 1), -12);
@@ -249,6 +251,7 @@ static void refuse_tags(struct tags_hand *hand, struct tags_hand *other)
 	uint64_t value = 5;
 
 	for (size_t i = 0; i < sizeof(numbers) / sizeof(*numbers); i++) {
+		WANT(tags_get_exactly(hand, numbers[i]), -1);
 		WANT(tags_clear(hand, numbers[i]), -1);
 		WANT(tags_read_clear(hand, numbers[i], &value), -1);
 		WANT(tags_read(hand, numbers[i], &value), -1);
@@ -258,6 +261,8 @@ static void refuse_tags(struct tags_hand *hand, struct tags_hand *other)
 		WANT(tags_holds(hand, numbers[i]), -1);
 	}
 	WANT(tags_get(other), 2);
+	WANT(tags_get_exactly(hand, 2), -10);
+	WANT(tags_get_exactly(other, 2), -10);
 	WANT(tags_clear(hand, 2), -3);
 	WANT(tags_read_clear(hand, 2, &value), -3);
 	WANT(tags_read(hand, 2, &value), -3);

@@ -1,7 +1,7 @@
 /*
  * A resize is refused while a hand is listed, and changes nothing. tags_leave() ends the wait of its
- * hand, so no program comes to that by public calls: here a hand lists itself and leaves by calls
- * of the library, as if that had been forgotten.
+ * hand, so no program comes to that by public calls: here a hand makes a round of a wait and leaves
+ * by calls of the library, as if that had been forgotten.
  */
 #include <inttypes.h>
 #include <stdbool.h>
@@ -12,10 +12,16 @@
 /* The status has no name in tags.h, since no program sees it. */
 enum { HANDS_WAIT = -30 };
 
-/* The shared library hides it, and then it is NULL. */
-__attribute__((weak)) int32_t tags_library_list_self(struct tags_hand *hand, uint32_t listens,
-						     uint32_t again);
-__attribute__((weak)) int32_t tags_library_get_up(struct tags_hand *hand, uint32_t listens);
+/* Whom a call told. */
+struct told {
+	uint64_t sleepers;
+	uint64_t listeners;
+};
+
+typedef int32_t make_round(struct tags_hand *hand, int32_t why, uint32_t again, struct told *told);
+
+/* The shared library hides them, and then they are NULL. */
+__attribute__((weak)) make_round tags_library_wait_on, tags_library_listen_on;
 
 static int checks;
 static int wrong;
@@ -32,61 +38,87 @@ static void want(const char *what, int64_t found, int64_t wanted)
 #define WANT(what, wanted) want(#what, (int64_t)(what), wanted)
 
 static struct tags_pool pool = TAGS_EMPTY;
-static struct tags_hand hand = TAGS_EMPTY;
+static struct tags_hand holder = TAGS_EMPTY, waiter = TAGS_EMPTY;
+
+static void join_both(void)
+{
+	WANT(tags_join(&pool, &holder, TAGS_STAY), TAGS_OK);
+	WANT(tags_join(&pool, &waiter, TAGS_STAY), TAGS_OK);
+}
 
 /* Leaves as tags_leave() does, but for the wait. */
-static void leave_listed(void)
+static void leave_as_it_is(struct tags_hand *hand)
 {
 	const struct tags_hand empty = TAGS_EMPTY;
 
-	WANT(tags_library_leave(&hand), TAGS_OK);
-	hand = empty;
+	WANT(tags_library_leave(hand), TAGS_OK);
+	*hand = empty;
 }
 
-static void join(void)
+/* One hand waits while the other one has all ordinary tags, of which those who wait are not told when they go back. */
+static void list(make_round *round)
 {
-	WANT(tags_join(&pool, &hand, TAGS_STAY), TAGS_OK);
+	struct told told = { 1, 1 };
+
+	for (int32_t tag = 2; tag < 8; tag++)
+		WANT(tags_get(&holder), tag);
+	WANT(round(&waiter, TAGS_OK, false, &told), TAGS_NO_TAG);
+	WANT(told.sleepers | told.listeners, 0);
+	for (uint32_t tag = 3; tag < 8; tag++)
+		WANT(tags_library_clear(&holder, tag), TAGS_OK);
+}
+
+/* Whichever of the two it is. */
+static void end_wait(make_round *round)
+{
+	struct told told = { 1, 1 };
+
+	WANT(round(&holder, TAGS_STOPPED, true, &told), TAGS_STOPPED);
+	WANT(round(&waiter, TAGS_STOPPED, true, &told), TAGS_STOPPED);
+	WANT(told.sleepers | told.listeners, 0);
 }
 
 /* Refused with the hand in one of the two lists, and done once the hand has got up. */
-static void resize_while_listed(uint32_t listens, uint32_t cache)
+static void resize_while_listed(make_round *round, uint32_t cache)
 {
-	const struct tags_options options = { .total = 8, .reserved = 2, .hands = 1, .cache = cache };
+	const struct tags_options options = { .total = 8, .reserved = 2, .hands = 2, .cache = cache };
 	struct tags_sums sums = { 0, 0, 0, 0 };
 
 	WANT(tags_open(&pool, &options), TAGS_OK);
-	join();
-	WANT(tags_library_list_self(&hand, listens, false), TAGS_OK);
-	leave_listed();
+	join_both();
+	list(round);
+	leave_as_it_is(&waiter);
+	leave_as_it_is(&holder);
+	/* the tag comes first */
+	WANT(tags_resize(&pool, 12), TAGS_IN_USE);
+	join_both();
+	WANT(tags_library_holds(&holder, 2) + tags_library_holds(&waiter, 2), 1);
+	WANT(tags_library_clear(tags_library_holds(&holder, 2) ? &holder : &waiter, 2), TAGS_OK);
+	leave_as_it_is(&waiter);
+	leave_as_it_is(&holder);
 	WANT(tags_resize(&pool, 12), HANDS_WAIT);
 	WANT(tags_resize(&pool, 1), TAGS_RESERVED_TOO_LARGE);
 	WANT(tags_pool_total(&pool), 8);
-	join();
-	WANT(tags_get(&hand), 2);
-	leave_listed();
-	/* the tag comes first */
-	WANT(tags_resize(&pool, 12), TAGS_IN_USE);
-	join();
-	WANT(tags_clear(&hand, 2), TAGS_OK);
-	WANT(tags_flush(&hand), TAGS_OK);
-	WANT(tags_library_get_up(&hand, listens), 0);
-	WANT(tags_leave(&hand), TAGS_OK);
+	join_both();
+	end_wait(round);
+	WANT(tags_leave(&waiter), TAGS_OK);
+	WANT(tags_leave(&holder), TAGS_OK);
 	WANT(tags_resize(&pool, 12), TAGS_OK);
 	WANT(tags_pool_total(&pool), 12);
 	WANT(tags_close(&pool, &sums), TAGS_OK);
-	WANT(sums.got, 1);
-	WANT(sums.back, 1);
+	WANT(sums.got, 6);
+	WANT(sums.back, 6);
 }
 
 int main(void)
 {
-	if (!tags_library_list_self) {
+	if (!tags_library_wait_on) {
 		printf("resizes: left out, as the shared library hides the calls\n");
 		return 0;
 	}
-	for (uint32_t listens = 0; listens <= 1; listens++) {
-		resize_while_listed(listens, 0);
-		resize_while_listed(listens, 4);
+	for (uint32_t cache = 0; cache <= 4; cache += 4) {
+		resize_while_listed(tags_library_wait_on, cache);
+		resize_while_listed(tags_library_listen_on, cache);
 	}
 	printf("resizes: %d answers, %d wrong\n", checks, wrong);
 	return wrong > 0;

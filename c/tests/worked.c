@@ -67,6 +67,11 @@ static void run_through_all_calls(void)
 	WANT(tags_open(&pool, &twelve), TAGS_OK);
 	WANT(tags_join(&pool, &hand, TAGS_STAY), TAGS_OK);
 	WANT(tags_join(&pool, &other, TAGS_STAY), TAGS_OK);
+	WANT(tags_get_exactly(&hand, 5), 5);
+	WANT(tags_get_exactly(&other, 5), TAGS_NO_TAG);
+	WANT(tags_clear(&hand, 5), TAGS_OK);
+	WANT(tags_get_exactly(&other, 5), 5);
+	WANT(tags_clear(&other, 5), TAGS_OK);
 	WANT(tags_get(&hand), 2);
 	WANT(tags_write(&hand, 2, 70, &value), TAGS_OK);
 	WANT(value, 0);
@@ -122,8 +127,8 @@ static void run_through_all_calls(void)
 	WANT(tags_close(&pool, &sums), TAGS_HANDS_OUT);
 	WANT(tags_leave(&other), TAGS_OK);
 	WANT(tags_close(&pool, &sums), TAGS_OK);
-	WANT(sums.got, 17);
-	WANT(sums.back, 6);
+	WANT(sums.got, 19);
+	WANT(sums.back, 8);
 	WANT(sums.held, 11);
 	WANT(sums.posted, 0);
 	WANT(tags_close(&pool, &sums), TAGS_BAD_HANDLE);
@@ -172,6 +177,52 @@ static void count_bits(const struct tags_options *options, uint32_t bits)
 	WANT(tags_show(&hand, TAGS_ORDINARY, &sizes), TAGS_OK);
 	WANT(sizes.bits_per_word, bits);
 	WANT(tags_leave(&hand), TAGS_OK);
+	WANT(tags_close(&pool, &sums), TAGS_OK);
+}
+
+/* By default there are as many whole words as hands, and at least four; or four, as in the kernel. */
+static void choose_words_by_hands(void)
+{
+	static const struct {
+		uint32_t total, hands, bits, bits_as_kernel;
+	} rows[] = {
+		{ 1024, 1, 64, 64 }, { 1024, 4, 64, 64 }, { 1024, 16, 64, 64 }, { 1024, 17, 32, 64 },
+		{ 1024, 64, 16, 64 }, { 1023, 64, 8, 64 }, { 128, 1, 32, 32 }, { 128, 5, 16, 32 },
+		{ 64, 64, 1, 16 }, { 63, 64, 1, 8 }, { 4, 64, 1, 1 }, { 3, 64, 64, 64 },
+		{ 0, 64, 64, 64 }, { 3, 1, 64, 64 },
+	};
+	struct tags_options options = TAGS_OPTIONS_INIT;
+
+	for (size_t i = 0; i < sizeof(rows) / sizeof(*rows); i++) {
+		options.total = rows[i].total;
+		options.hands = rows[i].hands;
+		options.shift = 0;
+		count_bits(&options, rows[i].bits);
+		options.shift = TAGS_SHIFT_AS_KERNEL;
+		count_bits(&options, rows[i].bits_as_kernel);
+	}
+}
+
+/* Each set has the words for its own depth, and keeps their size when it is resized. */
+static void keep_words(void)
+{
+	struct tags_options options = TAGS_OPTIONS_INIT;
+	struct tags_pool pool = TAGS_EMPTY;
+	struct tags_sizes sizes = { 0 };
+	struct tags_sums sums;
+
+	options.total = 1024 + 32;
+	options.reserved = 32;
+	options.hands = 16;
+	WANT(tags_open(&pool, &options), TAGS_OK);
+	WANT(tags_pool_show(&pool, TAGS_ORDINARY, &sizes), TAGS_OK);
+	WANT(sizes.bits_per_word, 64);
+	WANT(tags_pool_show(&pool, TAGS_RESERVED, &sizes), TAGS_OK);
+	WANT(sizes.bits_per_word, 2);
+	WANT(tags_resize(&pool, 32 + 128), TAGS_OK);
+	WANT(tags_pool_show(&pool, TAGS_ORDINARY, &sizes), TAGS_OK);
+	WANT(sizes.bits_per_word, 64);
+	WANT(tags_pool_batch(&pool), 64);
 	WANT(tags_close(&pool, &sums), TAGS_OK);
 }
 
@@ -264,6 +315,8 @@ int main(void)
 	run_through_all_calls();
 	go_on_with_more_tags();
 	choose_words();
+	choose_words_by_hands();
+	keep_words();
 	go_round();
 	keep_some();
 	printf("%d answers, %d wrong\n", checks, wrong);

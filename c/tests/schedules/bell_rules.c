@@ -52,11 +52,11 @@ static uint64_t listed(void)
 	return map_listed(pool->object, 0) | map_listed(pool->object, 1);
 }
 
-/* A wait keeps its turn from its first listing to its end. */
+/* A wait keeps its turn from its first round to its end. */
 static void check_turns(void)
 {
 	for (uint32_t i = 0; map_turn && pool->object && i < bell->hands; i++) {
-		const uint64_t turn = bell->places[i].has_turn ? map_turn(pool->object, i) : 0;
+		const uint64_t turn = bell->places[i].is_waiting ? map_turn(pool->object, i) : 0;
 
 		if (turn && world->notes.turn[i] && turn != world->notes.turn[i])
 			fault("the waiter in place %u lost its turn", i);
@@ -76,7 +76,7 @@ static void forget_ended(void)
 	uint64_t go_on = listed();
 
 	for (uint32_t i = 0; i < bell->hands; i++)
-		go_on |= (uint64_t)bell->places[i].has_turn << i;
+		go_on |= (uint64_t)bell->places[i].is_waiting << i;
 	for (uint32_t i = 0; i < world->threads; i++)
 		go_on |= world->thread[i].is_done ? 0 : bit_of_drain(i);
 	for (uint32_t k = 0; k < world->threads; k++)
@@ -96,8 +96,8 @@ void check_bell(void)
 	waiters = (uint32_t)__builtin_popcountll(listed());
 	if (bell->waits.waiting < waiters || bell->waits.waiting > 2 * world->threads)
 		fault("%u are listed, and %u are counted", waiters, bell->waits.waiting);
-	if (bell->waking > (int32_t)world->threads || bell->waking < -(int32_t)world->threads)
-		fault("%d are waking", (int)bell->waking);
+	if (bell->waking > world->threads)
+		fault("%u are waking", bell->waking);
 }
 
 /*
@@ -161,7 +161,7 @@ static uint32_t count_beside(void)
 static void check_stops(void)
 {
 	for (uint32_t i = 0; i < bell->hands; i++)
-		if (bell->places[i].has_turn && bell->places[i].stops != bell->waits.stops)
+		if (bell->places[i].is_waiting && bell->places[i].stops != bell->waits.stops)
 			fault("the hand in place %u waits on, and a stop has ended its wait", i);
 }
 
@@ -174,7 +174,7 @@ static uint32_t count_listeners(void)
 		if (!is_in_list(i, true) || is_over(i))
 			continue;
 		n++;
-		if (!hands[i]->place->is_listening || !has_notice(hands[i]->place))
+		if (!hands[i]->place->is_waiting || !has_notice(hands[i]->place))
 			fault("hand %u waits for a notice that nobody would give", i);
 	}
 	return n;
@@ -196,7 +196,7 @@ static uint32_t count_broken(void)
 
 	for (uint32_t i = 0; i < world->threads; i++)
 		n += world->thread[i].is_done && scenario->program[i] == breaker && hand_at(i) &&
-		     hands[i]->place->is_listening;
+		     hands[i]->place->is_waiting;
 	return n;
 }
 
@@ -212,7 +212,7 @@ void check_quiet_bell(uint32_t asleep, uint32_t drains)
 	for (uint32_t i = 0; i < world->threads; i++)
 		check_sleeper(i);
 	if (bell->waking != 0)
-		fault("%d are waking, and nobody is on the way", (int)bell->waking);
+		fault("%u are waking, and nobody is on the way", bell->waking);
 	if (bell->listening != listeners + count_broken())
 		fault("%u listen, not %u", listeners + count_broken(), bell->listening);
 	if (asleep > 0 && bell->waits.stops % 2)
@@ -271,7 +271,7 @@ void check_quiet_gate(uint32_t hirers, uint32_t drains)
 
 static bool is_idle(const struct tags_place *place)
 {
-	return !has_notice(place) && !place->running && !place->is_listening && !place->has_turn && !place->bed;
+	return !has_notice(place) && !place->running && !place->is_waiting && !place->bed;
 }
 
 /* After the last leave. */
@@ -343,13 +343,13 @@ static const struct {
 	{ offsetof(struct tags_place, bed), "bed" },
 	{ offsetof(struct tags_place, beds[0]), "beds[0]" },
 	{ offsetof(struct tags_place, beds[1]), "beds[1]" },
+	{ offsetof(struct tags_place, is_woken), "is_woken" },
 	{ offsetof(struct tags_place, running), "running" },
 	{ offsetof(struct tags_place, notice.descriptor), "descriptor" },
 	{ offsetof(struct tags_place, notice.function), "function" },
 	{ offsetof(struct tags_place, notice.argument), "argument" },
-	{ offsetof(struct tags_place, is_listening), "is_listening" },
 	{ offsetof(struct tags_place, notice.is_lasting), "is_lasting" },
-	{ offsetof(struct tags_place, has_turn), "has_turn" },
+	{ offsetof(struct tags_place, is_waiting), "is_waiting" },
 	{ offsetof(struct tags_place, stops), "the stops of its wait" },
 };
 

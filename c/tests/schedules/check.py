@@ -34,9 +34,9 @@ COMPLETE = "kept_posts kept_three four_sleepers four_loops".split()
 ONE_PREEMPTION = ["four_ways"]
 # One for each kind of fault that is looked for.
 IN_GATE = """clear_looks_first sleeper_is_not_signalled get_looks_only_if_it_won turn_is_lost load_is_relaxed
-    bed_is_read_without_the_lock sleeper_asks_without_the_lock eventfd_is_written_without_the_lock ring_changes_errno
-    join_without_the_handle hands_share_a_place count_rises_after_the_listing gets_up_in_the_other_list closed_eventfd_counts_as_told
-    told_sleeper_with_a_tag_does_not_settle stop_rings_before_it_stops cancelled_sleeper_stays_listed waking_never_falls
+    bed_is_read_without_the_lock sleeper_looks_for_its_token_without_the_lock eventfd_is_written_without_the_lock ring_changes_errno
+    join_without_the_handle hands_share_a_place count_rises_after_the_listing wait_ends_in_the_other_list closed_eventfd_counts_as_told
+    whom_a_round_told_is_forgotten stop_rings_before_it_stops cancelled_sleeper_stays_listed waking_never_falls
     ring_gives_no_kept_tags_back leave_tells_nobody_at_the_gate clear_tells_no_drain cancelled_wait_stays_at_its_gate
     told_one_that_gives_up_tells_nobody second_hand_tells_the_first_again close_answers_nobody drain_that_ends_tells_no_other destroyed_coroutine_leaves_its_hand_listed
     function_outlives_the_wait dropped_future_leaves_its_hand_told resumed_stop_ends_no_wait""".split()

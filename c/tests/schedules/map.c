@@ -9,12 +9,13 @@
  *           sweep is a load of the cleared set, a swap of it, and a subtraction from the word; that
  *           of a plain get in its first word keeps the least tag and subtracts the others, if any
  *  a clear  sets the tag aside in one step; with a cache it keeps the tag, which is none
- *  a wait   takes a turn by two steps if it is new, and sets the hand's bit in the list. To ask
- *           whether it was told is a load, and it gets up by a step that clears the bit
+ *  a round  of a wait takes a turn by two steps if the wait is new, sets the hand's bit in the list,
+ *           and gets. If it wins a tag or the wait is over, a step clears the bit, and the hand sees
+ *           to all tags: if it finds somebody listed, it looks at each word and at its cleared set
+ *           until a tag is free, and then tells
  *  telling  a load of each list, and if somebody is listed, a load of the turn of each candidate
  *           and a step that clears the bits of those told; with a cache all kept tags go back
- *           first, and both lists are loaded again. Who was told looks at each word before that,
- *           and at its cleared set, until a tag is free
+ *           first, and both lists are loaded again
  *
  *  a post   is one step, after which the hand has the tag no more
  *
@@ -41,8 +42,8 @@ struct member {
 	uint64_t swept;
 	uint32_t number;
 	bool is_out;
-	/* from its listing until it gets up */
-	bool is_listing;
+	/* from its first round to its last one */
+	bool is_waiting;
 	bool is_spent;
 };
 
@@ -181,8 +182,8 @@ int32_t tags_library_leave(struct tags_hand *hand)
 	stop(member, "leave");
 	if (member->kept)
 		fault("a hand leaves that keeps tags");
-	if (member->is_listing)
-		fault("a hand leaves that is in a list");
+	if (member->is_waiting)
+		fault("a hand leaves that waits");
 	memset(hand, 0, sizeof(*hand));
 	member->is_out = false;
 	return TAGS_OK;
@@ -360,10 +361,10 @@ static void win(struct member *member, uint64_t tags, uint64_t *left)
 	tell_step("map:   won %lx, left free %lu", (unsigned long)tags, (unsigned long)*left);
 }
 
-/* What a hand got is what decides, and while it is listed it gets nothing. */
+/* What a hand got is what decides. */
 static bool is_spent(struct member *member)
 {
-	if (scenario->limited && member->number == 0 && !member->is_spent && !member->is_listing)
+	if (scenario->limited && member->number == 0 && !member->is_spent)
 		member->is_spent = choose(2);
 	return member->is_spent;
 }
@@ -386,19 +387,24 @@ static int32_t get_kept(struct member *member)
 	return tag;
 }
 
-int32_t tags_library_get(struct tags_hand *hand, uint64_t *left)
+static int32_t get(struct member *member, uint64_t *left)
 {
-	struct member *member = member_of(hand);
 	int32_t tag;
 
 	*left = 0;
-	if (is_spent(member))
-		return TAGS_SPENT;
 	if (member->kept)
 		return get_kept(member);
 	tag = scenario->whole ? get_whole(member, left) : search_all(member, left);
 	win(member, tag < 0 ? 0 : UINT64_C(1) << tag, left);
 	return tag;
+}
+
+int32_t tags_library_get(struct tags_hand *hand, uint64_t *left)
+{
+	struct member *member = member_of(hand);
+
+	*left = 0;
+	return is_spent(member) ? (int32_t)TAGS_SPENT : get(member, left);
 }
 
 int32_t tags_library_get_shallow(struct tags_hand *hand, uint32_t depth, uint64_t *left)
@@ -565,8 +571,11 @@ int32_t tags_library_post(struct tags_hand *hand, uint32_t tag)
 
 int32_t tags_library_flush(struct tags_hand *hand)
 {
-	flush(member_of(hand));
-	return 0;
+	struct member *member = member_of(hand);
+	uint32_t kept = count(member->kept);
+
+	flush(member);
+	return (int32_t)kept;
 }
 
 /*
@@ -618,23 +627,10 @@ static void take_turn(struct member *member)
 	map->turn[member->number] = turn;
 }
 
-static int32_t enter_list(struct member *member, uint32_t list)
+static void list_self(struct member *member, uint32_t list)
 {
 	stop(&member->map->list[list], list == SLEEPERS ? "lists itself as a sleeper" : "lists itself as a listener");
-	if (member->is_listing)
-		fault("a hand lists itself that is in a list");
 	member->map->list[list] |= bit_of(member);
-	member->is_listing = true;
-	return 0;
-}
-
-int32_t tags_library_list_self(struct tags_hand *hand, uint32_t listens, uint32_t again)
-{
-	struct member *member = member_of(hand);
-
-	if (!again)
-		take_turn(member);
-	return enter_list(member, listens != 0);
 }
 
 int32_t tags_library_is_told(struct tags_hand *hand, uint32_t listens)
@@ -642,15 +638,6 @@ int32_t tags_library_is_told(struct tags_hand *hand, uint32_t listens)
 	struct member *member = member_of(hand);
 
 	return !(look_at_list(member->map, listens != 0) & bit_of(member));
-}
-
-int32_t tags_library_get_up(struct tags_hand *hand, uint32_t listens)
-{
-	struct member *member = member_of(hand);
-	uint64_t found = remove_from(member->map, listens != 0, bit_of(member), "gets up");
-
-	member->is_listing = false;
-	return found == 0;
 }
 
 int32_t tags_library_number(struct tags_hand *hand)
@@ -749,20 +736,59 @@ static bool is_any_free(const struct map *map, uint32_t word)
 	return aside != 0 || (taken & bits_of(map, word)) != bits_of(map, word);
 }
 
-int32_t tags_library_see_to_all(struct tags_hand *hand, struct tags_told *told)
+static struct tags_told see_to_all(struct map *map)
 {
-	struct map *map = member_of(hand)->map;
+	if (is_any_listed(map))
+		for (uint32_t word = 0; word < map->words; word++)
+			if (is_any_free(map, word))
+				return see_to(map, 1);
+	return (struct tags_told){ 0, 0 };
+}
+
+/*
+ * Rounds
+ */
+
+static int32_t end_wait(struct member *member, uint32_t list, int32_t answer, struct tags_told *told)
+{
+	remove_from(member->map, list, bit_of(member), "gets up");
+	*told = see_to_all(member->map);
+	member->is_waiting = false;
+	return answer;
+}
+
+/* The hand of a new wait has just made a get, so its life is not used up. Any hand of the model can wait at once. */
+static int32_t make_round(struct tags_hand *hand, uint32_t list, int32_t why, bool again, struct tags_told *told)
+{
+	struct member *member = member_of(hand);
+	uint64_t left;
+	int32_t tag;
 
 	*told = (struct tags_told){ 0, 0 };
-	if (!is_any_listed(map))
-		return 0;
-	for (uint32_t word = 0; word < map->words; word++) {
-		if (is_any_free(map, word)) {
-			*told = see_to(map, 1);
-			return 0;
-		}
-	}
-	return 0;
+	if (again != member->is_waiting)
+		fault(again ? "a wait goes on that did not begin" : "a wait begins anew");
+	if (why == TAGS_OK && again && is_spent(member))
+		why = TAGS_SPENT;
+	if (why != TAGS_OK)
+		return end_wait(member, list, why, told);
+	if (member->kept)
+		return end_wait(member, list, get_kept(member), told);
+	if (!again)
+		take_turn(member);
+	member->is_waiting = true;
+	list_self(member, list);
+	tag = get(member, &left);
+	return tag == TAGS_NO_TAG ? tag : end_wait(member, list, tag, told);
+}
+
+int32_t tags_library_wait_on(struct tags_hand *hand, int32_t why, uint32_t again, struct tags_told *told)
+{
+	return make_round(hand, SLEEPERS, why, again, told);
+}
+
+int32_t tags_library_listen_on(struct tags_hand *hand, int32_t why, uint32_t again, struct tags_told *told)
+{
+	return make_round(hand, LISTENERS, why, again, told);
 }
 
 /*

@@ -151,6 +151,9 @@ void before_load(const volatile void *address);
 bool has_lock(int thread);
 const char *name_of(uintptr_t address);
 
+/* Of the library, for tests alone: 0 if the hand is in this list, of sleepers or of listeners, and 1 if not. */
+int32_t tags_library_is_told(struct tags_hand *hand, uint32_t listens);
+
 /*
  * map.c alone: the tags that a hand keeps, those who are in a list of the pool, and the latest turn of a hand
  */

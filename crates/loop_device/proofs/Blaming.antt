@@ -1,9 +1,9 @@
 -- What a play reports where it fails.
-use Rattle.loop_device.proofs.Uses.{[], AreTagsFor, arith, clean, Contains, Contains-append_right, Done, Err, false, Faults, get_or, Hand, HasRun, IfOk, inr, Io, IsHistory, IsLineOf, IsPlayFault, IsRun, IsSeen, length, length-map, List, Lost, map, Memory, Ok, OnOk, PlayFault, refl, Result, SaysSeen, Setup, Spurious, subst, suc, sym, Tags, Twice, zero, ℕ}
+use Rattle.loop_device.proofs.Uses.{[], AreTagsFor, arith, clean, Contains, Contains-append_right, Done, Err, false, Faults, get_or, HasRun, IfOk, inr, Io, IsHistory, IsLineOf, IsPlayFault, IsRun, IsSeen, length, length-map, List, Lost, map, Memory, Ok, OnOk, PlayFault, Queue, QueueHand, refl, Result, SaysSeen, Setup, Spurious, subst, suc, sym, Twice, zero, ℕ}
 use Rattle.std.proofs.Common.{◌≡◌, ◌≢◌, ◌<◌, ◌∷◌, IfErr}
 use Rattle.tag_model.specs.declared.totals.Totals.{Totals}
 use Rattle.tag_queue.specs.declared.gather.QueueTotals.{QueueTotals}
-use Rattle.tag_sets.specs.Gathering.{IsGathered}
+use Rattle.tag_queue.specs.Gathering.{IsGathered}
 use Rattle.loop_device.specs.declared.fault.PlayFault.TheVariants as variants
 use Rattle.loop_device.specs.declared.report.Report.{Report}
 use Rattle.loop_device.specs.declared.setup.Setup.{Setup as Asked}
@@ -54,7 +54,7 @@ no_setup ios done totals faults (Err fault) is = λ (e : fault ≡ Setup).
     subst (λ (f : PlayFault). IsJudged ios done totals faults f) e is
 
 -- what the threads did under tags that are gathered then is a run
-pub runs : (tags : Tags ℕ) (setup : Asked) (ios : List Io) (hands : List (Hand ℕ)) (faults : Faults)
+pub runs : (tags : Queue ℕ) (setup : Asked) (ios : List Io) (hands : List (QueueHand ℕ)) (faults : Faults)
     (gathered : QueueTotals) → AreTagsFor setup tags → (faults.memory ≡ false → HasRun tags setup ios hands faults)
     → IsGathered tags hands gathered → faults.memory ≡ false → IsRun setup ios gathered.tags faults
 runs tags setup ios hands faults gathered asked run all none = record {

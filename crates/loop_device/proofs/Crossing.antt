@@ -16,8 +16,8 @@ use Rattle.loop_device.specs.contracts.device_queue.Worker as worker
 use Rattle.loop_device.specs.contracts.segments.Segments as stamps
 use Rattle.loop_device.specs.contracts.segments.Segments.TheKnot as knot
 use Rattle.loop_device.specs.declared.segments.Segments.TheBlock.{the_members, member-Segments}
-use Rattle.tag_sets.proofs.Crossing.{hand_send, tags_field_sync}
-use Rattle.tag_sets.specs.contracts.hand.Hand as hand
+use Rattle.tag_queue.proofs.Crossing.{hand_send, queue_field_sync}
+use Rattle.tag_queue.specs.contracts.hand.QueueHand as hand
 use Rattle.loop_device.specs.contracts.io.Log as log
 use Rattle.loop_device.specs.contracts.store.Store as store
 
@@ -60,7 +60,7 @@ store_goes = search (stamps_field_go, sendable, crosses) depth 60
 pub device_shared : (B : RattleType) (total : tagged.Ghosts B.Denot) → IsSend B → IsSync B → IsSync (device.the_row B total)
 device_shared B total sent shared = recorded_sync _ _ _ (device.the_type B total).to_one
     (struct_sync (fields_of (device.the_type B total)) (
-      tags_field_sync u64-field.row (search sendable) (search sendable),
+      queue_field_sync u64-field.row (search sendable) (search sendable),
       (
         search (table_sync, sendable, crosses) depth 60,
         (

@@ -1,5 +1,5 @@
 -- Threads that are started one after another, and joined from the last on.
-use Rattle.loop_device.proofs.Uses.{[], added, All-cons, All-nil, ap, append_assoc, AreJoined, arith, Bool, clean, DidParts, false, Faults, fold-append, Hand, HasRun, HavePromised, Io, IsHandOf, IsPart, IsTrue, KeepInTurn, Keeps, length, length-append, List, map, map-append, nat_tests, nil_from_length, None, not, Option, Part, refl, Returns, rules, Some, SomeIff, submitter_at, subst, sym, Tags, true, ℕ, ⊎_elim, ◌∙◌}
+use Rattle.loop_device.proofs.Uses.{[], added, All-cons, All-nil, ap, append_assoc, AreJoined, arith, Bool, clean, DidParts, false, Faults, fold-append, HasRun, HavePromised, Io, IsHandOf, IsPart, IsTrue, KeepInTurn, Keeps, length, length-append, List, map, map-append, nat_tests, nil_from_length, None, not, Option, Part, Queue, QueueHand, refl, Returns, rules, Some, SomeIff, submitter_at, subst, sym, true, ℕ, ⊎_elim, ◌∙◌}
 use Rattle.std.proofs.Common.{◌≡◌, ◌+◌, ◌-◌, ◌≤◌, ◌∷◌, ◌++◌, fold}
 use Rattle.std.specs.List.{All}
 use Rattle.std.specs.declared.thread.PromisedHandle.{PromisedHandle}
@@ -11,7 +11,7 @@ use Rattle.loop_device.proofs.Parting.{parted}
 abbrev Handles : Type 0
 Handles = List (PromisedHandle Worked Part)
 
-abbrev hand_of : Worked → Hand ℕ
+abbrev hand_of : Worked → QueueHand ℕ
 hand_of worked = worked.hand
 
 abbrev with_faults : Faults → Worked → Faults
@@ -23,7 +23,7 @@ pub numbered : (o : Option ℕ) (completers thread : ℕ) → SomeIff o (complet
 numbered None completers thread none = grind (arith, nat_tests)
 numbered (Some number) completers thread is = grind (arith, nat_tests)
 
-module _ (tags : Tags ℕ) (setup : Asked) (ios : List Io) where
+module _ (tags : Queue ℕ) (setup : Asked) (ios : List Io) where
   -- before the first
   pub promised_none : HavePromised tags setup ios []
   promised_none before handle after parts =
@@ -47,7 +47,7 @@ module _ (tags : Tags ℕ) (setup : Asked) (ios : List Io) where
   kept_as : (thread : ℕ) (part : Part) (worked : Worked) → IsPart tags setup ios thread part → Keeps part worked
       → Returns tags setup ios (submitter_at setup.completers thread) worked
   kept_as thread part worked is keeps = subst
-      (λ (z : Tags ℕ × Asked × List Io × Option ℕ). Returns z.0 z.1 z.2 z.3 worked)
+      (λ (z : Queue ℕ × Asked × List Io × Option ℕ). Returns z.0 z.1 z.2 z.3 worked)
       (λ i. (is.tags_are i, is.setup_is i, is.ios_are i, is.number_is i)) keeps
 
   -- the threads that were joined did their parts, and returned hands of the tags
@@ -86,28 +86,28 @@ kept_both old mid new (w ∷ ws) more turn then =
     (turn.0, turn.1, turn.2, turn.3, kept_both turn.0 mid new ws more turn.4 then)
 
 -- nothing is joined
-pub joined_none : (handles : Handles) (hands : List (Hand ℕ)) (faults : Faults)
+pub joined_none : (handles : Handles) (hands : List (QueueHand ℕ)) (faults : Faults)
     → AreJoined handles handles hands hands faults faults
 joined_none handles hands faults =
     record { works = []; kept = refl; back_is = sym (append-nil hands); all_are = refl }
 
 -- joined in two goes
-pub joined_both : (old mid new : Handles) (hands middle back : List (Hand ℕ)) (faults between all : Faults)
+pub joined_both : (old mid new : Handles) (hands middle back : List (QueueHand ℕ)) (faults between all : Faults)
     → AreJoined old mid hands middle faults between → AreJoined mid new middle back between all
     → AreJoined old new hands back faults all
 joined_both old mid new hands middle back faults between all one other = record {
   works = one.works ++ other.works;
   kept = kept_both old mid new one.works other.works one.kept other.kept;
-  back_is = other.back_is ∙ ap (λ (l : List (Hand ℕ)). l ++ map hand_of other.works) one.back_is
+  back_is = other.back_is ∙ ap (λ (l : List (QueueHand ℕ)). l ++ map hand_of other.works) one.back_is
       ∙ append_assoc hands (map hand_of one.works) (map hand_of other.works)
-      ∙ ap (λ (l : List (Hand ℕ)). hands ++ l) (sym (map-append hand_of one.works other.works));
+      ∙ ap (λ (l : List (QueueHand ℕ)). hands ++ l) (sym (map-append hand_of one.works other.works));
   all_are = other.all_are ∙ ap (λ (f : Faults). fold with_faults f other.works) one.all_are
       ∙ sym (fold-append with_faults faults one.works other.works);
 }
 
 -- one thread more
 pub joined_more : (old mid rest : Handles) (last : PromisedHandle Worked Part) (worked : Worked)
-    (hands middle back : List (Hand ℕ)) (faults between all : Faults) → AreJoined old mid hands middle faults between
+    (hands middle back : List (QueueHand ℕ)) (faults between all : Faults) → AreJoined old mid hands middle faults between
     → mid ≡ rest ++ last ∷ [] → Keeps last.promise worked → back ≡ middle ++ worked.hand ∷ []
     → all ≡ added between worked.faults → AreJoined old rest hands back faults all
 joined_more old mid rest last worked hands middle back faults between all was parts keeps pushed noted =
@@ -126,14 +126,14 @@ none_first faults (worked ∷ works) none =
     let either = none_first (with_faults faults worked) works none in grind (arith, nat_tests)
 
 -- all threads are joined in two goes
-module _ (tags : Tags ℕ) (setup : Asked) (ios : List Io) (old mid new : Handles) (hands middle back : List (Hand ℕ))
+module _ (tags : Queue ℕ) (setup : Asked) (ios : List Io) (old mid new : Handles) (hands middle back : List (QueueHand ℕ))
     (faults between all : Faults) (were : HavePromised tags setup ios old) (none_yet : hands ≡ [])
     (none_left : length new ≤ 0) (one : AreJoined old mid hands middle faults between)
     (other : AreJoined mid new middle back between all) where
   done : AreJoined old [] [] back faults all
   done =
       let none : length new ≡ 0 = omega arith in
-      subst (λ (z : Handles × List (Hand ℕ)). AreJoined old z.0 z.1 back faults all)
+      subst (λ (z : Handles × List (QueueHand ℕ)). AreJoined old z.0 z.1 back faults all)
       (λ i. (nil_from_length new none i, none_yet i))
       (joined_both old mid new hands middle back faults between all one other)
 

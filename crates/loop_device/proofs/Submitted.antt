@@ -1,5 +1,5 @@
 -- One line more submitted.
-use Rattle.loop_device.proofs.Uses.{[], ap, arith, get_or, Io, length, List, share_of, State, Submits, subst, sym, Tags, take, TakesTurns, ℕ, ◌∙◌}
+use Rattle.loop_device.proofs.Uses.{[], ap, arith, get_or, Io, length, List, Queue, share_of, State, Submits, subst, sym, take, TakesTurns, ℕ, ◌∙◌}
 use Rattle.std.proofs.Common.{◌≡◌, ◌≢◌, ◌+◌, ◌%◌, ◌<◌, ◌∷◌, ◌++◌}
 use Rattle.loop_device.proofs.Turns.{one_more, share_with, share_without}
 
@@ -7,7 +7,7 @@ some_line : (ios : List Io) → 0 < length ios → Io
 some_line [] low = absurd (omega arith)
 some_line (io ∷ ios) low = io
 
-module _ (tags : Tags ℕ) (room : ℕ) (items ios : List Io) (same : items ≡ ios) (number submitters index : ℕ)
+module _ (tags : Queue ℕ) (room : ℕ) (items ios : List Io) (same : items ≡ ios) (number submitters index : ℕ)
     (low : index < length items) (first mid : State)
     (so_far : TakesTurns (Submits tags room ios) (share_of number submitters (take index ios)) first mid) where
   within : index < length ios

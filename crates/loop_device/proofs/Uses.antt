@@ -44,6 +44,7 @@ pub use Rattle.loop_device.specs.declared.threads.Part.{Part}
 pub use Rattle.loop_device.specs.declared.workers.Faults.{Faults}
 pub use Rattle.tag_lines.proofs.LineFacts.{first_part}
 pub use Rattle.tag_lines.specs.Lines.{has_gap, line_words, lines_of, number_below, parts_of}
-pub use Rattle.tag_sets.specs.Hands.{IsHandOf, total_of}
-pub use Rattle.tag_sets.specs.declared.hand.Hand.{Hand}
-pub use Rattle.tag_sets.specs.declared.tags.Tags.{Tags}
+pub use Rattle.tag_pool.specs.Hands.{total_of}
+pub use Rattle.tag_queue.specs.Hands.{in_pool, IsHandOf, pool_of, SameCounts}
+pub use Rattle.tag_queue.specs.declared.hand.QueueHand.{QueueHand}
+pub use Rattle.tag_queue.specs.declared.queue.Queue.{Queue}

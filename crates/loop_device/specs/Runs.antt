@@ -4,15 +4,16 @@ use Rattle.tag_layout.specs.Layout.{HasShift}
 use Rattle.tag_model.specs.declared.totals.Totals.{Totals}
 use Rattle.tag_model.specs.declared.world.TheConstants.{MOST_WON}
 use Rattle.wake_book.specs.declared.book_opening.TheConstants.{MAX_CAP}
+use Rattle.tag_pool.specs.declared.kind.Kind.TheVariants.{Ordinary, Reserved}
+use Rattle.tag_pool.specs.declared.options.Options.{Options}
+use Rattle.tag_pool.specs.Hands.{total_of, reserved_of, layout_of}
+use Rattle.tag_pool.specs.Opening.{HoldsNone}
 use Rattle.tag_queue.specs.declared.gather.QueueTotals.{QueueTotals}
-use Rattle.tag_queue.specs.declared.queue.Options.{Options}
-use Rattle.tag_queue.specs.declared.queue.Waits.TheVariants.{InGroups}
-use Rattle.tag_sets.specs.declared.hand.Hand.{Hand}
-use Rattle.tag_sets.specs.declared.kind.Kind.TheVariants.{Ordinary, Reserved}
-use Rattle.tag_sets.specs.declared.tags.Tags.{Tags}
-use Rattle.tag_sets.specs.Gathering.{IsGathered}
-use Rattle.tag_sets.specs.Hands.{IsHandOf, total_of, reserved_of, layout_of}
-use Rattle.tag_sets.specs.Opening.{HoldsNone, IsOpen}
+use Rattle.tag_queue.specs.declared.hand.QueueHand.{QueueHand}
+use Rattle.tag_queue.specs.declared.queue.Queue.{Queue}
+use Rattle.tag_queue.specs.Gathering.{IsGathered}
+use Rattle.tag_queue.specs.Hands.{in_pool, IsHandOf, pool_of}
+use Rattle.tag_queue.specs.Opening.{IsOpen}
 use Rattle.loop_device.specs.declared.device_queue.Worker.{Worker}
 use Rattle.loop_device.specs.declared.fault.PlayFault.{PlayFault}
 use Rattle.loop_device.specs.declared.fault.PlayFault.TheVariants.{Memory, Setup, Lost, Twice, Spurious}
@@ -29,52 +30,54 @@ use Rattle.loop_device.specs.Playing.{IsJudged}
 use Rattle.loop_device.specs.Submitting.{SubmitsShare}
 use Rattle.loop_device.specs.Working.{begins, ends, clean, added}
 
--- the options of the tags of a play: a hand for each thread, the shift of the setup, and otherwise the defaults
+-- the options of the tags of a play: the tags and the shift of the setup, a hand for each thread, and otherwise the
+-- defaults
 abbrev pub options_for : Asked → Options
 options_for setup = record {
+  depth = setup.total;
+  reserved = setup.reserved;
+  hands = setup.submitters + setup.completers;
   shift = setup.shift;
+  by_hands = false;
   round_robin = false;
   min_shallow = None;
-  callers = setup.submitters + setup.completers;
   life = MOST_WON;
-  cap = MAX_CAP;
-  waits = InGroups;
 }
 
 -- the tags are those that the setup asks for, and were opened with these options
-pub record AreTagsFor (setup : Asked) (tags : Tags ℕ) : Type 0 where
-  pub opened : (hands : List (Hand ℕ)) × IsOpen (options_for setup) tags hands
-  pub total : total_of tags ≡ setup.total
-  pub reserved : reserved_of tags ≡ setup.reserved
-  pub ordinary_shift : HasShift (setup.total - setup.reserved) setup.shift (layout_of tags Ordinary).shift
-  pub reserved_shift : HasShift setup.reserved setup.shift (layout_of tags Reserved).shift
+pub record AreTagsFor (setup : Asked) (tags : Queue ℕ) : Type 0 where
+  pub opened : (hands : List (QueueHand ℕ)) × IsOpen (options_for setup) MAX_CAP tags hands
+  pub total : total_of (pool_of tags) ≡ setup.total
+  pub reserved : reserved_of (pool_of tags) ≡ setup.reserved
+  pub ordinary_shift : HasShift (setup.total - setup.reserved) setup.shift (layout_of (pool_of tags) Ordinary).shift
+  pub reserved_shift : HasShift setup.reserved setup.shift (layout_of (pool_of tags) Reserved).shift
 
 -- the hand belongs to the tags and holds none of them
-abbrev pub IsFreshOf : Tags ℕ → Hand ℕ → Type 0
-IsFreshOf tags hand = IsHandOf tags hand × HoldsNone hand
+abbrev pub IsFreshOf : Queue ℕ → QueueHand ℕ → Type 0
+IsFreshOf tags hand = IsHandOf tags hand × HoldsNone (in_pool hand)
 
 -- the thread had a fresh hand, and served the numbers that it popped
-pub record Completed (tags : Tags ℕ) (ios : List Io) (worked : Worked) : Type 0 where
-  pub first : Hand ℕ
+pub record Completed (tags : Queue ℕ) (ios : List Io) (worked : Worked) : Type 0 where
+  pub first : QueueHand ℕ
   pub fresh : IsFreshOf tags first
   pub last : Worker
   pub served : ServesPopped tags ios (begins first (worker false [] [])) (ends worked last)
 
 -- the thread had a fresh hand, and submitted its share of the lines
-pub record Submitted (tags : Tags ℕ) (setup : Asked) (ios : List Io) (number : ℕ) (worked : Worked) : Type 0 where
-  pub first : Hand ℕ
+pub record Submitted (tags : Queue ℕ) (setup : Asked) (ios : List Io) (number : ℕ) (worked : Worked) : Type 0 where
+  pub first : QueueHand ℕ
   pub fresh : IsFreshOf tags first
   pub last : Worker
   pub shared : SubmitsShare tags setup.queue ios number setup.submitters (begins first (worker true [] []))
       (ends worked last)
 
 -- the part of a thread in a play: it completes, or has this number among the submitters
-abbrev pub DoesPart : Tags ℕ → Asked → List Io → Option ℕ → Worked → Type 0
+abbrev pub DoesPart : Queue ℕ → Asked → List Io → Option ℕ → Worked → Type 0
 DoesPart tags setup ios None worked = Completed tags ios worked
 DoesPart tags setup ios (Some number) worked = Submitted tags setup ios number worked
 
 -- what a thread returns: a hand of the tags, after its part
-abbrev pub Returns : Tags ℕ → Asked → List Io → Option ℕ → Worked → Type 0
+abbrev pub Returns : Queue ℕ → Asked → List Io → Option ℕ → Worked → Type 0
 Returns tags setup ios number worked = IsHandOf tags worked.hand × DoesPart tags setup ios number worked
 
 -- the number among the submitters of this thread of a play, whose first threads complete
@@ -82,7 +85,7 @@ abbrev pub submitter_at : ℕ → ℕ → Option ℕ
 submitter_at completers thread = if nat_lt thread completers then None else Some (thread - completers)
 
 -- the threads from this one on did their parts, the last of them first in the list
-abbrev pub DidParts : Tags ℕ → Asked → List Io → ℕ → List Worked → Type 0
+abbrev pub DidParts : Queue ℕ → Asked → List Io → ℕ → List Worked → Type 0
 DidParts tags setup ios thread [] = Unit {0}
 DidParts tags setup ios thread (worked ∷ before) =
     DoesPart tags setup ios (submitter_at setup.completers (thread + length before)) worked
@@ -93,7 +96,7 @@ abbrev pub faults_of : List Worked → Faults
 faults_of works = fold (λ faults worked. added faults worked.faults) clean works
 
 -- so many threads as the setup asks for did their parts, and returned these hands and these faults
-pub record HasRun (tags : Tags ℕ) (setup : Asked) (ios : List Io) (hands : List (Hand ℕ)) (faults : Faults) : Type 0 where
+pub record HasRun (tags : Queue ℕ) (setup : Asked) (ios : List Io) (hands : List (QueueHand ℕ)) (faults : Faults) : Type 0 where
   pub works : List Worked
   pub count : length works ≡ setup.completers + setup.submitters
   pub parts : DidParts tags setup ios 0 works
@@ -102,9 +105,9 @@ pub record HasRun (tags : Tags ℕ) (setup : Asked) (ios : List Io) (hands : Lis
 
 -- so the play ran: under the tags that the setup asks for, with these totals of them, and these faults of its threads
 pub record IsRun (setup : Asked) (ios : List Io) (totals : Totals) (faults : Faults) : Type 0 where
-  pub tags : Tags ℕ
+  pub tags : Queue ℕ
   pub asked : AreTagsFor setup tags
-  pub hands : List (Hand ℕ)
+  pub hands : List (QueueHand ℕ)
   pub run : HasRun tags setup ios hands faults
   pub gathered : QueueTotals
   pub all : IsGathered tags hands gathered

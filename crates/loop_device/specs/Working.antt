@@ -1,6 +1,6 @@
 -- What a thread of a play has, and how it goes through its work.
 use Rattle.std.specs.Prelude.{◌≡◌, ◌||◌, ℕ, true, false, List, [], ◌∷◌, Result, Ok, Err}
-use Rattle.tag_sets.specs.declared.hand.Hand.{Hand}
+use Rattle.tag_queue.specs.declared.hand.QueueHand.{QueueHand}
 use Rattle.loop_device.specs.declared.device_queue.Worker.{Worker}
 use Rattle.loop_device.specs.declared.fault.PlayFault.{PlayFault}
 use Rattle.loop_device.specs.declared.fault.PlayFault.TheVariants.{Memory, Setup, Lost, Twice, Spurious, Totals}
@@ -20,12 +20,12 @@ added faults other = record {
 
 -- what a thread has: its hand, what the rule of the queue knows of it, and the faults that it noted
 pub record State : Type 0 where
-  pub hand : Hand ℕ
+  pub hand : QueueHand ℕ
   pub view : Worker
   pub faults : Faults
 
 -- a thread that begins has noted no fault
-abbrev pub begins : Hand ℕ → Worker → State
+abbrev pub begins : QueueHand ℕ → Worker → State
 begins hand view = record { hand = hand; view = view; faults = clean }
 
 -- what a thread returns, and what the rule of the queue knows of it then

@@ -4,13 +4,13 @@ use crate::device_queue::{DeviceQueue, Tagged};
 use crate::store::Store;
 use std::sync::Mutex;
 use std::sync::atomic::AtomicBool;
-use tag_sets::Tags;
+use tag_queue::Queue;
 
 /// What the threads of a play share, besides the log and the gate.
 #[derive(Drop)]
 pub(crate) struct Device<B: Tagged> {
     /// A submitted line is in the slot of its tag.
-    pub(crate) tags: Tags<u64>,
+    pub(crate) tags: Queue<u64>,
     /// Tags that are posted and not yet taken.
     pub(crate) queue: DeviceQueue<B>,
     /// What was carried out.

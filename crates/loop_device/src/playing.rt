@@ -1,6 +1,7 @@
 //! Plays a log: threads that share tags carry it out.
 ghost use Rattle.std.specs.Prelude.{◌≡◌, ◌≢◌, ◌+◌, ◌<◌, ◌↔◌, All, length, IfOk, IfErr, OnOk};
-ghost use Rattle.tag_sets.specs.Hands.{total_of};
+ghost use Rattle.tag_pool.specs.Hands.{total_of};
+ghost use Rattle.tag_queue.specs.Hands.{pool_of};
 ghost use Rattle.loop_device.specs.History.{IsHistory};
 ghost use Rattle.loop_device.specs.Playing.{IsPlayed, IsClean, IsJudged, NamesLine};
 ghost use Rattle.loop_device.specs.Runs.{AreTagsFor, IsFreshOf, IsRun, SaysSeen};
@@ -24,7 +25,7 @@ use std::sync::atomic::AtomicBool;
 use std::sync::{Mutex, Wait};
 use std::thread::Threads;
 use tag_model::Totals;
-use tag_sets::{Hand, Options, Tags};
+use tag_queue::{MAX_CAP, Options, Queue, QueueHand};
 
 /// Carries out each I/O line of the log once, in threads that share tags, and joins them all. `Setup` is reported
 /// before anything runs, and of several other faults the first in the order Memory, Spurious, Twice, Lost, Totals.
@@ -47,11 +48,12 @@ pub fn play<G: Gate, R: Threads + Wait + Sync>(
         return Err(PlayFault::Setup);
     }
     let options = Options {
+        reserved: setup.reserved,
         shift: setup.shift,
-        ..Options::new(setup.submitters + setup.completers)
+        ..Options::new(setup.total, setup.submitters + setup.completers)
     };
     // A legal setup is refused only if memory runs out.
-    let Ok((tags, hands)) = Tags::open(alloc, setup.total, setup.reserved, options, 0u64) else {
+    let Ok((tags, hands)) = Queue::open(alloc, options, MAX_CAP, 0u64) else {
         return Err(PlayFault::Memory);
     };
     play_under::<Brand, G, R>(rt, alloc, log, setup, gate, tags, hands)
@@ -64,10 +66,10 @@ fn play_under<B: Tagged + Send + Sync, G: Gate, R: Threads + Wait + Sync>(
     log: &Log,
     setup: Setup,
     gate: &G,
-    tags: Tags<u64>,
-    hands: Vec<Hand<u64>>,
+    tags: Queue<u64>,
+    hands: Vec<QueueHand<u64>>,
 ) -> Result<Report, PlayFault>
-    requires total { total_of tags ≡ B.total }
+    requires total { total_of (pool_of tags) ≡ B.total }
     requires tags { AreTagsFor setup tags }
     requires hands { All (IsFreshOf tags) hands.items }
     requires count { length hands.items ≡ setup.submitters + setup.completers }
@@ -101,7 +103,7 @@ fn play_under<B: Tagged + Send + Sync, G: Gate, R: Threads + Wait + Sync>(
     };
     let done = store.into_inner().into_history();
     // A hand is missing only if its thread could not be started.
-    let Ok(totals) = Tags::gather(tags, hands) else {
+    let Ok(totals) = Queue::gather(tags, hands) else {
         return Err(PlayFault::Memory);
     };
     judge(alloc, log, totals.tags, done, faults)

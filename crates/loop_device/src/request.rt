@@ -1,8 +1,9 @@
 //! Completing one request.
 ghost use Rattle.std.specs.Prelude.{◌≡◌, IfOk, IfErr, IfSome, IsNone, OnOk, OnErr};
 ghost use Rattle.std.specs.List.{Contains};
-ghost use Rattle.tag_sets.specs.Hands.{IsHandOf, Holds};
-ghost use Rattle.tag_sets.specs.Holding.{HoldsSame};
+ghost use Rattle.tag_pool.specs.Hands.{Holds};
+ghost use Rattle.tag_pool.specs.Holding.{HoldsSame};
+ghost use Rattle.tag_queue.specs.Hands.{IsHandOf, in_pool};
 ghost use Rattle.loop_device.specs.History.{AddsLine};
 ghost use Rattle.loop_device.specs.Lines.{LinesAscend};
 ghost use Rattle.loop_device.specs.Requests.{IsLineOf, Completes, EndsRequest, EndsWithout, IsCarryFault, IsRequestFault};
@@ -12,7 +13,7 @@ use crate::gate::Gate;
 use crate::io::{Io, Log};
 use crate::store::Store;
 use std::sync::{Mutex, Wait};
-use tag_sets::{Hand, Ring, Tags};
+use tag_queue::{Queue, QueueHand, Ring};
 
 /// Completes the request of a posted tag: takes the tag, carries out the line in its slot, clears the tag and returns
 /// the line. `Spurious` means that there is no such tag, that it was found not posted (a step in the hand's list), or
@@ -20,8 +21,8 @@ use tag_sets::{Hand, Ring, Tags};
 /// A tag that was taken is cleared whatever became of its line. No clause says what the store holds.
 pub fn complete<G: Gate, W: Wait>(
     rt: &W,
-    tags: &Tags<u64>,
-    hand: &mut Hand<u64>,
+    tags: &Queue<u64>,
+    hand: &mut QueueHand<u64>,
     tag: u32,
     log: &Log,
     store: &Mutex<Store>,
@@ -29,7 +30,7 @@ pub fn complete<G: Gate, W: Wait>(
 ) -> Result<u64, PlayFault>
     requires hand { IsHandOf tags.now hand.old }
     ensures hand { IsHandOf tags.now hand.new }
-    ensures held { HoldsSame hand.old hand.new }
+    ensures held { HoldsSame (in_pool hand.old) (in_pool hand.new) }
     ensures line { IfOk result (IsLineOf log.now.ios.items) }
     ensures ok { IfOk result (λ line. Completes tags.now tag line hand.old hand.new) }
     ensures fault { IfErr result (λ fault. IsRequestFault tags.now log.now.ios.items tag fault hand.old hand.new) }
@@ -43,15 +44,15 @@ pub fn complete<G: Gate, W: Wait>(
 /// Carries out the line in the slot of a tag that the hand holds, and clears the tag, whatever became of the line.
 pub(crate) fn finish<G: Gate, W: Wait>(
     rt: &W,
-    tags: &Tags<u64>,
-    hand: &mut Hand<u64>,
+    tags: &Queue<u64>,
+    hand: &mut QueueHand<u64>,
     tag: u32,
     log: &Log,
     store: &Mutex<Store>,
     gate: &G,
 ) -> Result<u64, PlayFault>
     requires hand { IsHandOf tags.now hand.old }
-    requires held { Holds hand.old tag }
+    requires held { Holds (in_pool hand.old) tag }
     ensures hand { IsHandOf tags.now hand.new }
     ensures line { IfOk result (IsLineOf log.now.ios.items) }
     ensures ok { IfOk result (λ line. EndsRequest tags.now tag line hand.old hand.new) }

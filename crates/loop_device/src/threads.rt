@@ -1,7 +1,8 @@
 //! The threads of a play: one for each hand, started and joined in one scope.
 ghost use Rattle.std.specs.Prelude.{◌≡◌, ◌+◌, ◌<◌, ◌≤◌, All, false, IsTrue, is_some, vec_len, vec_capacity, IfOk, []};
 ghost use Rattle.crossbeam_queue.specs.Passes.{view, IsPassOf, ruled_capacity};
-ghost use Rattle.tag_sets.specs.Hands.{IsHandOf, total_of};
+ghost use Rattle.tag_pool.specs.Hands.{total_of};
+ghost use Rattle.tag_queue.specs.Hands.{IsHandOf, pool_of};
 ghost use Rattle.loop_device.specs.DeviceQueue.{worker};
 ghost use Rattle.loop_device.specs.Runs.{IsFreshOf, Returns, HasRun};
 ghost use Rattle.loop_device.specs.Promises.{AreJoined, HavePromised};
@@ -18,12 +19,12 @@ use std::sync::Wait;
 use std::sync::atomic::Ordering::SeqCst;
 use std::thread;
 use std::thread::{Promise, PromisedHandle, Scope, Threads};
-use tag_sets::{Hand, Tags};
+use tag_queue::{Queue, QueueHand};
 
 /// A thread's promise to do its part of a play, and to return a hand of the play's tags.
 #[derive(Clone, Copy)]
 pub(crate) struct Part<'a> {
-    tags: &'a Tags<u64>,
+    tags: &'a Queue<u64>,
     log: &'a Log,
     setup: Setup,
     /// The thread's number among the submitters. A completer has none.
@@ -47,14 +48,14 @@ pub(crate) fn run_threads<B: Tagged + Send + Sync, G: Gate, R: Threads + Wait + 
     log: &Log,
     gate: &G,
     device: &Device<B>,
-    hands: Vec<Hand<u64>>,
+    hands: Vec<QueueHand<u64>>,
     pass: Pass<u32, Worker>,
     setup: Setup,
-) -> Result<(Vec<Hand<u64>>, Faults), AllocError>
+) -> Result<(Vec<QueueHand<u64>>, Faults), AllocError>
     requires hands { All (IsFreshOf device.now.tags) hands.items }
     requires count { vec_len hands ≡ setup.completers + setup.submitters }
     requires pass { IsPassOf device.now.queue pass }
-    requires total { total_of device.now.tags ≡ B.total }
+    requires total { total_of (pool_of device.now.tags) ≡ B.total }
     requires room { ruled_capacity device.now.queue ≡ setup.queue }
     requires submitters { 0 < setup.submitters }
     ensures hands { IfOk result (λ back. All (IsHandOf device.now.tags) back.0.items) }
@@ -64,10 +65,10 @@ pub(crate) fn run_threads<B: Tagged + Send + Sync, G: Gate, R: Threads + Wait + 
     thread::scope(
         thread::scope_env(),
         rt,
-        |scope| -> Result<(Vec<Hand<u64>>, Faults), AllocError>
+        |scope| -> Result<(Vec<QueueHand<u64>>, Faults), AllocError>
             requires { All (IsFreshOf device.now.tags) hands.items
                 × (vec_len hands ≡ setup.completers + setup.submitters) × IsPassOf device.now.queue pass
-                × (total_of device.now.tags ≡ B.total) × (ruled_capacity device.now.queue ≡ setup.queue)
+                × (total_of (pool_of device.now.tags) ≡ B.total) × (ruled_capacity device.now.queue ≡ setup.queue)
                 × (0 < setup.submitters) }
             ensures { IfOk result (λ back. All (IsHandOf device.entry.now.tags) back.0.items
                 × (back.1.memory ≡ false
@@ -109,14 +110,14 @@ fn start_all<'s, E, B: Tagged + Send + Sync, G: Gate, R: Wait + Sync>(
     log: &'s Log,
     gate: &'s G,
     device: &'s Device<B>,
-    hands: Vec<Hand<u64>>,
+    hands: Vec<QueueHand<u64>>,
     mut pass: Pass<u32, Worker>,
     setup: Setup,
     handles: &mut Vec<Handle<'s>>,
 ) -> bool
     requires hands { All (IsFreshOf device.now.tags) hands.items }
     requires pass { IsPassOf device.now.queue pass }
-    requires total { total_of device.now.tags ≡ B.total }
+    requires total { total_of (pool_of device.now.tags) ≡ B.total }
     requires capacity { ruled_capacity device.now.queue ≡ setup.queue }
     requires submitters { 0 < setup.submitters }
     requires none { handles.old.items ≡ [] }
@@ -138,7 +139,7 @@ fn start_all<'s, E, B: Tagged + Send + Sync, G: Gate, R: Wait + Sync>(
             part,
             move || -> Worked
                 requires { IsFreshOf device.now.tags hand × IsPassOf device.now.queue mine
-                    × (total_of device.now.tags ≡ B.total) × (ruled_capacity device.now.queue ≡ setup.queue)
+                    × (total_of (pool_of device.now.tags) ≡ B.total) × (ruled_capacity device.now.queue ≡ setup.queue)
                     × (0 < setup.submitters) × (view mine ≡ worker (is_some number) [] []) }
                 ensures { Returns device.entry.now.tags setup log.entry.now.ios.items number result }
             { do_part(rt, log, gate, device, hand, mine, number, setup) },
@@ -157,7 +158,7 @@ fn do_part<B: Tagged, G: Gate, W: Wait>(
     log: &Log,
     gate: &G,
     device: &Device<B>,
-    hand: Hand<u64>,
+    hand: QueueHand<u64>,
     pass: Pass<u32, Worker>,
     number: Option<usize>,
     setup: Setup,
@@ -165,7 +166,7 @@ fn do_part<B: Tagged, G: Gate, W: Wait>(
     requires hand { IsFreshOf device.now.tags hand }
     requires pass { IsPassOf device.now.queue pass }
     requires begins { view pass ≡ worker (is_some number) [] [] }
-    requires total { total_of device.now.tags ≡ B.total }
+    requires total { total_of (pool_of device.now.tags) ≡ B.total }
     requires room { ruled_capacity device.now.queue ≡ setup.queue }
     requires submitters { 0 < setup.submitters }
     ensures { Returns device.now.tags setup log.now.ios.items number result }
@@ -203,7 +204,7 @@ fn join_down_to<'s, R: Threads>(
     rt: &R,
     left: usize,
     handles: &mut Vec<Handle<'s>>,
-    back: &mut Vec<Hand<u64>>,
+    back: &mut Vec<QueueHand<u64>>,
     faults: &mut Faults,
 )
     requires { vec_len back.old + vec_len handles.old ≤ vec_capacity back.old }

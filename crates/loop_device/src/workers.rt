@@ -2,9 +2,9 @@
 ghost use Rattle.std.specs.Prelude.{◌≡◌, ◌<◌, true, IfOk};
 ghost use Rattle.crossbeam_queue.specs.Passes.{view, IsPassOf, ruled_capacity};
 ghost use Rattle.refusals.specs.Refusals.{RefusesBy};
-ghost use Rattle.tag_queue.specs.declared.queue.Waits.TheVariants.{InGroups};
-ghost use Rattle.tag_sets.specs.Hands.{IsHandOf, total_of};
-ghost use Rattle.tag_sets.specs.Refusals.{blocking_checks};
+ghost use Rattle.tag_pool.specs.Hands.{total_of};
+ghost use Rattle.tag_queue.specs.Hands.{IsHandOf, pool_of};
+ghost use Rattle.tag_queue.specs.Refusals.{blocking_checks};
 ghost use Rattle.loop_device.specs.Completing.{ServesPopped};
 ghost use Rattle.loop_device.specs.Submitting.{PostsLine, SubmitsAs, SubmitsShare};
 ghost use Rattle.loop_device.specs.Working.{clean, added, noted, begins, ends};
@@ -19,7 +19,7 @@ use crossbeam_queue::Pass;
 use std::sync::Wait;
 use std::sync::atomic::Ordering::SeqCst;
 use std::thread;
-use tag_sets::{Hand, TagFault, Tags};
+use tag_queue::{Queue, QueueHand, WaitFault};
 
 /// Faults that threads ran into and that the store's history does not show.
 #[derive(Clone, Copy, Debug, PartialEq, Eq)]
@@ -64,7 +64,7 @@ impl Faults {
 /// What a thread returns.
 #[derive(Drop)]
 pub(crate) struct Worked {
-    pub(crate) hand: Hand<u64>,
+    pub(crate) hand: QueueHand<u64>,
     pub(crate) faults: Faults,
 }
 
@@ -74,7 +74,7 @@ pub(crate) fn complete_all<B: Tagged, G: Gate, W: Wait>(
     log: &Log,
     gate: &G,
     device: &Device<B>,
-    mut hand: Hand<u64>,
+    mut hand: QueueHand<u64>,
     mut pass: Pass<u32, Worker>,
 ) -> (Worked, Drained, Pass<u32, Worker>)
     requires hand { IsHandOf device.now.tags hand }
@@ -108,7 +108,7 @@ pub(crate) fn submit_all<B: Tagged, G: Gate, W: Wait>(
     log: &Log,
     gate: &G,
     device: &Device<B>,
-    mut hand: Hand<u64>,
+    mut hand: QueueHand<u64>,
     mut pass: Pass<u32, Worker>,
     number: usize,
     submitters: usize,
@@ -116,7 +116,7 @@ pub(crate) fn submit_all<B: Tagged, G: Gate, W: Wait>(
     requires hand { IsHandOf device.now.tags hand }
     requires pass { IsPassOf device.now.queue pass }
     requires submitter { (view pass).submits ≡ true }
-    requires total { total_of device.now.tags ≡ B.total }
+    requires total { total_of (pool_of device.now.tags) ≡ B.total }
     requires submitters { 0 < submitters }
     ensures hand { IsHandOf device.now.tags result.0.hand }
     ensures submitted { SubmitsShare device.now.tags (ruled_capacity device.now.queue) log.now.ios.items number submitters
@@ -143,14 +143,14 @@ fn submit<B: Tagged, G: Gate, W: Wait>(
     log: &Log,
     gate: &G,
     device: &Device<B>,
-    hand: &mut Hand<u64>,
+    hand: &mut QueueHand<u64>,
     pass: &mut Pass<u32, Worker>,
     line: u64,
 ) -> Result<u64, PlayFault>
     requires hand { IsHandOf device.now.tags hand.old }
     requires pass { IsPassOf device.now.queue pass.old }
     requires submitter { (view pass.old).submits ≡ true }
-    requires total { total_of device.now.tags ≡ B.total }
+    requires total { total_of (pool_of device.now.tags) ≡ B.total }
     ensures hand { IsHandOf device.now.tags hand.new }
     ensures pass { IsPassOf device.now.queue pass.new }
     ensures submitter { (view pass.new).submits ≡ true }
@@ -175,15 +175,15 @@ fn submit<B: Tagged, G: Gate, W: Wait>(
 /// Gets a tag, writes the line into its slot, and posts it.
 fn post_line<W: Wait>(
     rt: &W,
-    tags: &Tags<u64>,
-    hand: &mut Hand<u64>,
+    tags: &Queue<u64>,
+    hand: &mut QueueHand<u64>,
     line: u64,
-) -> Result<u32, TagFault>
+) -> Result<u32, WaitFault>
     requires hand { IsHandOf tags.now hand.old }
     ensures hand { IsHandOf tags.now hand.new }
-    ensures tag { IfOk result (λ tag. tag < total_of tags.now) }
+    ensures tag { IfOk result (λ tag. tag < total_of (pool_of tags.now)) }
     ensures posts { IfOk result (λ tag. PostsLine tags.now line tag hand.old hand.new) }
-    ensures refusals { RefusesBy (blocking_checks InGroups tags.now hand.old) (hand.new ≡ hand.old) result }
+    ensures refusals { RefusesBy (blocking_checks tags.now hand.old) (hand.new ≡ hand.old) result }
 {
     let tag = tags.get_blocking(rt, hand)?;
     let _former = tags.write_held(hand, tag, line);

@@ -12,7 +12,7 @@ pub use Rattle.tag_core.proofs.Crossing.{caller_send, map_sync}
 pub use Rattle.tag_core.specs.Callers.{layout_of}
 pub use Rattle.tag_core.specs.declared.caller.Caller.{Caller}
 pub use Rattle.tag_layout.specs.Layout.{IsWithin, Layout, place_of, word_bits, word_depth, word_of}
-pub use Rattle.tag_queue.proofs.Crossing.{agent_send, queue_sync}
+pub use Rattle.tag_queue.proofs.Crossing.{hand_send as queue_hand_send, queue_sync}
 pub use Rattle.tag_search.specs.Gains.{Gains, GainsRun}
 pub use Rattle.tag_pool.proofs.Crossing.{hand_send, pool_field_sync, pool_sync}
 pub use Rattle.tag_pool.specs.Hands.{IsHandOf}

@@ -42,7 +42,7 @@ fn subcommand<'a>(alloc: Global, workload: Workload) -> Result<Command<'a>, Allo
         Workload::Traffic(traffic) => driver(alloc, traffic),
         Workload::Batch => batch(alloc),
         Workload::Queue(_) => queue(alloc),
-        Workload::Sets(_) => sets(alloc),
+        Workload::Pool(_) => pool(alloc),
         Workload::Cache(_) => cache(alloc),
     }
 }
@@ -99,8 +99,8 @@ fn queue<'a>(alloc: Global) -> Result<Command<'a>, AllocError> {
         .arg(threads(alloc))
 }
 
-fn sets<'a>(alloc: Global) -> Result<Command<'a>, AllocError> {
-    Command::new(alloc, "sets")
+fn pool<'a>(alloc: Global) -> Result<Command<'a>, AllocError> {
+    Command::new(alloc, "pool")
         .about("pair, ring, full and handoff over a pool without reserved tags")
         .arg(one_of(alloc, &DRIVEN))?
         .arg(depth(alloc, BY_DEPTHS))?

@@ -94,7 +94,7 @@ fn run_workload<R: AllocGlobal + Threads + Wait + Sync + Clock + CpuClock + Prin
         Workload::Traffic(traffic) => run_on_map(rt, options, traffic),
         Workload::Batch => batches::run(rt, options),
         Workload::Queue(queued) => run_queue(rt, options, queued),
-        Workload::Sets(traffic) => run_pool(rt, options, traffic),
+        Workload::Pool(traffic) => run_pool(rt, options, traffic),
         Workload::Cache(traffic) => run_caches(rt, options, traffic),
     }
 }
@@ -123,7 +123,7 @@ fn run_on_pool<R: AllocGlobal + Threads + Sync + Clock + CpuClock + Print>(
     options: &Options,
     traffic: Traffic,
 ) -> Result<(), Failed> {
-    traffic::run::<R, Pool<u64>>(rt, options, "sets ", traffic)
+    traffic::run::<R, Pool<u64>>(rt, options, "pool ", traffic)
 }
 
 /// Runs the workload of a pool that was asked for, or each.

@@ -20,7 +20,7 @@ pub(crate) enum Failed {
     Memory,
     /// The library has no map, pool, queue or book of these sizes.
     Sizes,
-    /// A caller, a hand, an agent or a teller didn't come back from its thread.
+    /// A caller, a hand or a teller didn't come back from its thread.
     Missing,
     /// The clock or the output failed.
     Io,

@@ -25,8 +25,8 @@ pub(crate) enum Workload {
     Batch,
     /// The same over a queue: one of its workloads, or each.
     Queue(Option<Queued>),
-    /// The same over a pool, which is called tag sets here: one of these workloads, or each.
-    Sets(Option<Traffic>),
+    /// The same over a pool: one of these workloads, or each.
+    Pool(Option<Traffic>),
     /// The same over a pool, where each thread has a cache: one of these workloads, or each.
     Cache(Option<Traffic>),
 }
@@ -43,7 +43,7 @@ pub(crate) const WORKLOADS: [Workload; 12] = [
     Workload::Traffic(Traffic::Handoff),
     Workload::Batch,
     Workload::Queue(None),
-    Workload::Sets(None),
+    Workload::Pool(None),
     Workload::Cache(None),
 ];
 
@@ -86,7 +86,7 @@ pub(crate) struct Options {
 pub(crate) fn read(alloc: Global, matches: &ArgMatches) -> Result<Options, AllocError> {
     let (workload, chosen) = match matches.subcommand() {
         Some(("queue", chosen)) => (Some(Workload::Queue(queued_of(chosen))), chosen),
-        Some(("sets", chosen)) => (Some(Workload::Sets(driven_by(chosen))), chosen),
+        Some(("pool", chosen)) => (Some(Workload::Pool(driven_by(chosen))), chosen),
         Some(("cache", chosen)) => (Some(Workload::Cache(driven_by(chosen))), chosen),
         Some((name, chosen)) => (workload_of(name), chosen),
         None => (None, matches),

@@ -5,8 +5,7 @@ use crate::options::Options;
 use std::sync::Wait;
 use std::thread::Threads;
 use std::time::{Clock, CpuClock};
-use tag_queue::{Agent, Queue};
-use wake_book::Ring;
+use tag_queue::{Queue, QueueHand, Ring};
 
 /// Runs each case. Where no count of tags is asked for, there are half as many as threads, and at least one.
 pub(crate) fn run<R: AllocGlobal + Threads + Wait + Sync + Print + Clock + CpuClock>(
@@ -45,14 +44,14 @@ struct Waiters<'a, R> {
 
 impl<R: Wait + Sync> Job<Queue<u64>> for Waiters<'_, R> {
     #[inline(never)]
-    fn work(&self, queue: &Queue<u64>, agent: &mut Agent<u64>, _index: usize, plan: Plan) {
+    fn work(&self, queue: &Queue<u64>, hand: &mut QueueHand<u64>, _index: usize, plan: Plan) {
         for round in 0..plan.rounds {
-            let Ok(tag) = queue.get_blocking(self.rt, agent) else {
+            let Ok(tag) = queue.get_blocking(self.rt, hand) else {
                 return;
             };
-            // Neither is refused a tag that the agent holds.
-            let _ = queue.write(agent, tag, u64::from(round));
-            let _ = queue.clear::<Ring>(agent, tag);
+            // Neither is refused a tag that the hand holds.
+            let _ = queue.write(hand, tag, u64::from(round));
+            let _ = queue.clear::<Ring>(hand, tag);
         }
     }
 }

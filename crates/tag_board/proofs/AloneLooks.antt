@@ -1,11 +1,10 @@
--- What the looks of a set's only agent find in it.
+-- What the looks of a set's only caller find in it.
 use Rattle.std.proofs.Common.{◌≡◌, ℕ, zero, suc, ◌+◌, ◌<◌, ◌≤◌, Bool, true, false, not, ◌&&◌, ◌||◌, nat_eq, nat_lt, List, [], ◌∷◌, length, get_or, refl, sym, ap, ◌∙◌, subst, arith}
-use Rattle.tag_board.proofs.Uses.{agent_of, ltb-true, lt-ltb, bit_at-lt, bit_at, Hand, IsAlone, Kind, Layout, layout_of, own_after, own_found, word_of, words, place_of, word_of-below, Record, record_in, sets_of, Step, Tags, cells_left, words_left, state_after, is_busy, place_small, Pool, pool_of}
+use Rattle.tag_board.proofs.Uses.{caller_of, ltb-true, lt-ltb, bit_at-lt, bit_at, Hand, IsAlone, Kind, Layout, layout_of, own_after, own_found, word_of, words, place_of, word_of-below, Record, record_in, sets_in, Step, Pool, cells_left, words_left, state_after, is_busy, place_small, Places, places_of}
 use Rattle.tag_core.specs.declared.word_step.WordStep.{WordStep}
 use Rattle.tag_core.specs.Steps.{Words, Quiet, words_after_all}
-use Rattle.tag_queue.specs.Agents.{caller_of}
-use Rattle.tag_sets.specs.Looks as looks
-use Rattle.tag_sets.specs.Shows.{LooksAround}
+use Rattle.tag_pool.specs.Looks as looks
+use Rattle.tag_pool.specs.Shows.{LooksAround}
 use Rattle.tag_search.proofs.AloneFacts.{EachFound, found_changes, own_of_record}
 use Rattle.tag_board.proofs.Only.{both_same, narrow, set_of}
 
@@ -42,7 +41,7 @@ and_under true x y e = e refl
 and_under false x y e = refl
 
 -- the pool is unchanged; what was found busy in it is busy, and what was found aside is set aside
-pub record Sees (l : Layout) (found : List (ℕ × ℕ)) (old new : Pool) : Type 0 where
+pub record Sees (l : Layout) (found : List (ℕ × ℕ)) (old new : Places) : Type 0 where
   pub same : new ≡ old
   pub busy : (number : ℕ) → (nat_lt number l.depth && looks.is_busy_in l found number)
       ≡ (nat_lt number l.depth && is_busy old (word_of l number) (place_of l number))
@@ -52,17 +51,17 @@ pub record Sees (l : Layout) (found : List (ℕ × ℕ)) (old new : Pool) : Type
 -- quiet looks at each word do so
 sees : (l : Layout) (found : List (ℕ × ℕ)) → l.shift ≤ 6 → length found ≡ words l → (w : Words)
     → Quiet (looks.looks_from 0 found) w
-    → Sees l found (pool_of w) (pool_of (words_after_all (looks.looks_from 0 found) w))
+    → Sees l found (places_of w) (places_of (words_after_all (looks.looks_from 0 found) w))
 sees l found few each w quiet = record {
-  same = ap pool_of (looks_leave found 0 w);
+  same = ap places_of (looks_leave found 0 w);
   busy = λ number. let i : ℕ = word_of l number in let p : ℕ = place_of l number in
-      and_under (nat_lt number l.depth) (looks.is_busy_in l found number) (is_busy (pool_of w) i p)
+      and_under (nat_lt number l.depth) (looks.is_busy_in l found number) (is_busy (places_of w) i p)
       (λ t. let low = ltb-true number l.depth t in let at = word_found number low in
       (λ j. nat_eq (bit_at (at.0 j) p) 1 && nat_eq (bit_at (at.1 j) p) 0)
       ∙ busy_bits (nat_lt p 64) (bit_at (w.word i) p) (bit_at (w.aside i) p) (near number low)
       (bit_at-lt (w.word i) p) (bit_at-lt (w.aside i) p));
   aside = λ number. let i : ℕ = word_of l number in let p : ℕ = place_of l number in
-      and_under (nat_lt number l.depth) (looks.is_aside_in l found number) ((pool_of w).aside i p)
+      and_under (nat_lt number l.depth) (looks.is_aside_in l found number) ((places_of w).aside i p)
       (λ t. let low = ltb-true number l.depth t in
       ap (λ (x : ℕ). nat_eq (bit_at x p) 1) (word_found number low).1
       ∙ ap (λ (b : Bool). b && nat_eq (bit_at (w.aside i) p) 1) (sym (near number low)));
@@ -80,8 +79,8 @@ sees l found few each w quiet = record {
         let at = looks_found found 0 w quiet (word_of l number) (omega arith) in
         (at.0 ∙ ap w.word is, at.1 ∙ ap w.aside is)
 
-module _ (tags : Tags ℕ) (kind : Kind) (found : List (ℕ × ℕ)) (old new : Hand ℕ)
-    (a : LooksAround (layout_of tags kind) kind found old new) (one : IsAlone (caller_of (agent_of new kind))) where
+module _ (pool : Pool ℕ) (kind : Kind) (found : List (ℕ × ℕ)) (old new : Hand ℕ)
+    (a : LooksAround (layout_of pool kind) kind found old new) (one : IsAlone (caller_of new kind)) where
   abbrev made : List WordStep
   made = looks.looks_from 0 found
 
@@ -91,22 +90,23 @@ module _ (tags : Tags ℕ) (kind : Kind) (found : List (ℕ × ℕ)) (old new : 
   steps_are : (record_in new kind).steps ≡ own_after made older
   steps_are = ap (λ (r : Record ℕ). r.steps) a.looks.changed.known ∙ own_of_record made (record_in old kind)
 
-  -- the looks of an agent that is alone see its set
-  pub seen : Sees (layout_of tags kind) found (sets_of tags old kind).pool (sets_of tags new kind).pool
-  seen = subst (λ (s : List (Step ℕ)). Sees (layout_of tags kind) found (pool_of (words_left older)) (pool_of (words_left s)))
-      (sym steps_are) (found_changes (Sees (layout_of tags kind) found) made older
-      (subst (λ (s : List (Step ℕ)). EachFound s) steps_are (own_found (caller_of (agent_of new kind)) one))
-      (sees (layout_of tags kind) found (narrow tags kind) a.each))
+  -- the looks of a caller that is alone see its set
+  pub seen : Sees (layout_of pool kind) found (sets_in pool old kind).pool (sets_in pool new kind).pool
+  seen = subst (λ (s : List (Step ℕ)).
+      Sees (layout_of pool kind) found (places_of (words_left older)) (places_of (words_left s)))
+      (sym steps_are) (found_changes (Sees (layout_of pool kind) found) made older
+      (subst (λ (s : List (Step ℕ)). EachFound s) steps_are (own_found (caller_of new kind) one))
+      (sees (layout_of pool kind) found (narrow pool kind) a.each))
 
   -- and leave both sets unchanged
-  pub looked : sets_of tags new ≡ sets_of tags old
+  pub looked : sets_in pool new ≡ sets_in pool old
   looked = let state = ap (λ (s : List (Step ℕ)). (cells_left s).state) steps_are ∙ state_after made older in
       both_same kind (
         (λ j. record {
-          layout = layout_of tags kind;
+          layout = layout_of pool kind;
           pool = seen.same j;
           posted = λ tag. nat_eq (state j tag) 1;
-          hint = a.looks.changed.same_else.0 j;
+          hint = a.looks.changed.hint j;
         }),
         ap (set_of _) a.looks.other,
       )

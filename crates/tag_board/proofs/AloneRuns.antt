@@ -1,6 +1,6 @@
--- How the only agent of a set changes it by giving back a list of tags.
+-- How the only caller of a set changes it by giving back a list of tags.
 use Rattle.std.proofs.Common.{◌≡◌, ℕ, ◌^◌, ◌<◌, ◌≤◌, Bool, true, false, ◌&&◌, ◌||◌, cond, nat_eq, nat_lt, List, [], ◌∷◌, ⊎_elim, refl, sym, ap, ◌∙◌, subst, arith, eq-eqb, eqb-true}
-use Rattle.tag_board.proofs.Uses.{∥∥₁_elim, and_parts, and_from, cases_lt, lt-ltb, ltb-true, bit_at_above, bit_at, Layout, word_of, place_of, word_depth, Caller, Record, Shape, Step, Word, Give, record_of, cells_left, words_left, Pool, pool_of, free_at, or_false, IsAlone, Agent, Run, IsRun, AreRuns, GivesBack, record_after_runs, same_shape, freed, is_named, give_back}
+use Rattle.tag_board.proofs.Uses.{∥∥₁_elim, and_parts, and_from, cases_lt, lt-ltb, ltb-true, bit_at_above, bit_at, Layout, word_of, place_of, word_depth, Caller, Record, Shape, Step, Word, Give, record_of, cells_left, words_left, Places, places_of, free_at, or_false, IsAlone, Side, caller_in, Run, IsRun, AreRuns, record_after_runs, same_shape, freed, is_named, give_back}
 use mathlib.Core.Bool.{Bool-set}
 use Rattle.std.proofs.lemmas.List.Folds.{list_any-append, Any-from_list_any, list_any-from_Any}
 use Rattle.tag_model.specs.Event.{IsInLayout}
@@ -11,7 +11,7 @@ use Rattle.tag_core.specs.Meeting.{HasHistory}
 use Rattle.tag_core.proofs.Stand.{bit_tag}
 use Rattle.tag_core.proofs.TagBits.{small_word}
 use Rattle.tag_search.proofs.PlainPools.{give_pool}
-use Rattle.tag_queue.specs.Agents.{caller_of}
+use Rattle.tag_pool.specs.Runs.{Gives}
 use Rattle.tag_board.proofs.Holdings.{same_test}
 use Rattle.tag_board.proofs.Only.{set_of}
 
@@ -117,13 +117,13 @@ module _ (k : Shape) (narrow : k.layout.shift ≤ 6) where
   -- the runs free the places of their tags
   runs_pool : (runs : List Run) (tags : List ℕ) (r : Record ℕ) → AreRuns l tags runs
       → are_within l (record_after_runs runs r).steps ≡ true
-      → pool_of (words_left (record_after_runs runs r).steps) ≡ freed l tags (pool_of (words_left r.steps))
-  runs_pool [] tags r none all = let p : Pool = pool_of (words_left r.steps) in λ j. record p {
+      → places_of (words_left (record_after_runs runs r).steps) ≡ freed l tags (places_of (words_left r.steps))
+  runs_pool [] tags r none all = let p : Places = places_of (words_left r.steps) in λ j. record p {
     free = λ word place. (sym (or_false (p.free word place))
         ∙ ap (λ (ts : List ℕ). p.free word place || is_named l ts word place) (sym none)) j;
   }
   runs_pool (run ∷ runs) tags r cut all =
-      let p : Pool = pool_of (words_left r.steps) in let before : List ℕ = cut.0 in
+      let p : Places = places_of (words_left r.steps) in let before : List ℕ = cut.0 in
       let newest = record_after_runs runs r in
       let both = and_parts (nat_lt run.mask (2 ^ word_depth l run.word)) (are_within l newest.steps) all in
       let within = ltb-true run.mask (2 ^ word_depth l run.word) both.0 in
@@ -138,19 +138,19 @@ module _ (k : Shape) (narrow : k.layout.shift ≤ 6) where
             ∙ ap (λ (ts : List ℕ). is_named l ts word place) (sym cut.1))) j;
       })
 
--- gives of an agent that is alone free the places of the list
-pub give : (old new : Agent ℕ) (numbers : List ℕ) → IsAlone (caller_of new) → (l : Layout)
-    → (record_of (caller_of old)).shape.layout ≡ l → l.shift ≤ 6 → GivesBack l numbers old new
+-- gives of a side that is alone free the places of the list
+pub give : (old new : Side ℕ) (numbers : List ℕ) → IsAlone (caller_in new) → (l : Layout)
+    → (record_of (caller_in old)).shape.layout ≡ l → l.shift ≤ 6 → Gives l numbers old new
     → set_of l new ≡ give_back numbers (set_of l old)
-give old new numbers one l is = subst (λ (m : Layout). m.shift ≤ 6 → GivesBack m numbers old new
+give old new numbers one l is = subst (λ (m : Layout). m.shift ≤ 6 → Gives m numbers old new
     → set_of m new ≡ give_back numbers (set_of m old)) is (λ narrow g.
-    let before : Record ℕ = record_of (caller_of old) in let runs : List Run = g.gives.runs in
+    let before : Record ℕ = record_of (caller_in old) in let runs : List Run = g.gives.runs in
     let k : Shape = before.shape in let known = g.gives.known in
-    let layout : (record_of (caller_of new)).shape.layout ≡ k.layout =
+    let layout : (record_of (caller_in new)).shape.layout ≡ k.layout =
     ap (λ (r : Record ℕ). r.shape.layout) known ∙ ap (λ (k : Shape). k.layout) (same_shape runs before) in
     let all : are_within k.layout (record_after_runs runs before).steps ≡ true =
-    sym (λ j. are_within (layout j) (known j).steps) ∙ own_within (caller_of new) one in
-    let pool = ap (λ (r : Record ℕ). pool_of (words_left r.steps)) known
+    sym (λ j. are_within (layout j) (known j).steps) ∙ own_within (caller_in new) one in
+    let pool = ap (λ (r : Record ℕ). places_of (words_left r.steps)) known
     ∙ runs_pool k narrow runs numbers before g.gives.cut all in
     λ j. record {
       layout = k.layout;

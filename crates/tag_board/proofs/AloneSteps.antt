@@ -1,6 +1,6 @@
 -- What one step of a set's only caller changes in it.
 use Rattle.std.proofs.Common.{◌≡◌, ℕ, Bool, true, false, not, ◌&&◌, ◌||◌, ◌∷◌, cond, nat_eq, nat_lt, List, [], Some, None, refl, sym, ap, ◌∙◌}
-use Rattle.tag_board.proofs.Uses.{bit_at-zero, Hint, Layout, Step, cells_left, words_left, pool_of, pool_ext, or_false, and_true, and_false, set_left, post_in, take_in, untouched}
+use Rattle.tag_board.proofs.Uses.{bit_at-zero, Hint, Layout, Step, cells_left, words_left, places_of, pool_ext, or_false, and_true, and_false, set_left, post_in, take_in, untouched}
 use Rattle.tag_core.specs.declared.step.Step.TheVariants.{Post, Take}
 use Rattle.tag_search.proofs.AloneFacts.{EachFound}
 
@@ -19,8 +19,8 @@ taken_bit false x = sym (and_true (nat_eq x 1))
 
 module _ (l : Layout) (hint : Hint) where
   -- each place of a map without steps is free
-  blank_pool : pool_of (words_left {R = ℕ} []) ≡ (untouched l false).pool
-  blank_pool = pool_ext (pool_of (words_left {R = ℕ} [])) (untouched l false).pool
+  blank_pool : places_of (words_left {R = ℕ} []) ≡ (untouched l false).pool
+  blank_pool = pool_ext (places_of (words_left {R = ℕ} [])) (untouched l false).pool
       (λ i k. ap (λ (x : ℕ). nat_lt k 64 && nat_eq x 0) (bit_at-zero k) ∙ and_true (nat_lt k 64))
       (λ i k. ap (λ (x : ℕ). nat_lt k 64 && nat_eq x 1) (bit_at-zero k) ∙ and_false (nat_lt k 64))
 

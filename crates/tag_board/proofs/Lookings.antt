@@ -1,11 +1,11 @@
 -- What looks report of the state.
 use Rattle.std.proofs.Common.{◌≡◌, ◌≢◌, ne_eqb, ℕ, zero, suc, ◌+◌, ◌-◌, ◌*◌, ◌<◌, ◌≤◌, ◌&&◌, Bool, false, cond, if◌then◌else◌, nat_lt, nat_eq, List, [], ◌++◌, length, take, drop, sym, ap, ◌∙◌, arith}
-use Rattle.tag_board.proofs.Uses.{dite, ℕ_discrete, le-ltb, and_false, append-nil, drop_all, take_at, bit_at, Layout, word_of, place_of, count_below, Hand, Kind, Ordinary, Reserved, Shown, Tags, layout_of, reserved_of, total_of, word_in, depth_of, state_of_all, one_if, one_if-le}
-use Rattle.tag_sets.specs.Bits.{bit_in}
-use Rattle.tag_sets.specs.Busy as busy
-use Rattle.tag_sets.specs.Dumps as dumps
-use Rattle.tag_sets.specs.Looks.{is_busy_in, is_aside_in}
-use Rattle.tag_sets.specs.Shows as shows
+use Rattle.tag_board.proofs.Uses.{dite, ℕ_discrete, le-ltb, and_false, append-nil, drop_all, take_at, bit_at, Layout, word_of, place_of, count_below, Hand, QueueHand, Kind, Ordinary, Pool, Queue, Reserved, Shown, pool_of, layout_of, reserved_of, total_of, word_in, depth_of, state_of_all, one_if, one_if-le}
+use Rattle.tag_pool.specs.Bits.{bit_in}
+use Rattle.tag_pool.specs.Busy as busy
+use Rattle.tag_pool.specs.Dumps as dumps
+use Rattle.tag_pool.specs.Looks.{is_busy_in, is_aside_in}
+use Rattle.tag_pool.specs.Shows as shows
 
 -- a bit that is 0 is not 1
 not_both : (a : Bool) (n : ℕ) → one_if (a && nat_eq n 0) + one_if (nat_eq n 1) ≤ 1
@@ -24,38 +24,41 @@ few_shown l found (suc n) =
     let before = few_shown l found n in let pair = word_in found (word_of l n) in
     let one = not_both (nat_eq (bit_at pair.0 (place_of l n)) 1) (bit_at pair.1 (place_of l n)) in omega arith
 
-module _ (tags : Tags ℕ) (hands : List (Hand ℕ)) where
+module _ (queue : Queue ℕ) (hands : List (QueueHand ℕ)) where
+  abbrev pool : Pool ℕ
+  pool = pool_of queue
+
   -- the number of tags of a set
-  pub depth_is : (kind : Kind) → (layout_of tags kind).depth ≡ depth_of (state_of_all tags hands) kind
+  pub depth_is : (kind : Kind) → (layout_of pool kind).depth ≡ depth_of (state_of_all queue hands) kind
   depth_is Ordinary = omega arith
-  depth_is Reserved = tags.reserved_is
+  depth_is Reserved = pool.reserved_is
 
   module _ (old new : Hand ℕ) where
     -- each bit past the last tag is 0
-    pub past_busy : (bits : List ℕ) (count tag : ℕ) → busy.ListsBusy tags bits count old new → total_of tags ≤ tag
+    pub past_busy : (bits : List ℕ) (count tag : ℕ) → busy.ListsBusy pool bits count old new → total_of pool ≤ tag
         → tag < 64 * length bits
         → bit_in 64 bits tag ≡ 0
     past_busy bits count tag b high low =
-        let few : nat_lt tag (reserved_of tags) ≡ false = le-ltb tag (reserved_of tags) (omega arith) in
-        let none : nat_lt tag (total_of tags) ≡ false = le-ltb tag (total_of tags) high in
-        let l = is_busy_in (layout_of tags Ordinary) b.ordinary (tag - reserved_of tags) in
+        let few : nat_lt tag (reserved_of pool) ≡ false = le-ltb tag (reserved_of pool) (omega arith) in
+        let none : nat_lt tag (total_of pool) ≡ false = le-ltb tag (total_of pool) high in
+        let l = is_busy_in (layout_of pool Ordinary) b.ordinary (tag - reserved_of pool) in
         b.bits_are tag low
-        ∙ ap (λ (t : Bool). cond (if t then is_busy_in (layout_of tags Reserved) b.reserved tag else
-        (nat_lt tag (total_of tags) && l)) 1 0) few
+        ∙ ap (λ (t : Bool). cond (if t then is_busy_in (layout_of pool Reserved) b.reserved tag else
+        (nat_lt tag (total_of pool) && l)) 1 0) few
         ∙ ap (λ (t : Bool). cond (t && l) 1 0) none
 
-    pub show_few : (kind : Kind) (shown : Shown) → shows.Shows tags kind shown old new
-        → shown.busy + shown.cleared ≤ depth_of (state_of_all tags hands) kind
+    pub show_few : (kind : Kind) (shown : Shown) → shows.Shows pool kind shown old new
+        → shown.busy + shown.cleared ≤ depth_of (state_of_all queue hands) kind
     show_few kind shown s =
-        let few = few_shown (layout_of tags kind) s.found (layout_of tags kind).depth in let d = depth_is kind in
+        let few = few_shown (layout_of pool kind) s.found (layout_of pool kind).depth in let d = depth_is kind in
         let b = ap (λ (x : Shown). x.busy) s.shown_is in let a = ap (λ (x : Shown). x.cleared) s.shown_is in omega arith
 
-    pub past_dump : (kind : Kind) (bytes : List ℕ) (tag : ℕ) → dumps.Packs (layout_of tags kind) kind bytes old new
-        → depth_of (state_of_all tags hands) kind ≤ tag → bit_in 8 bytes tag ≡ 0
+    pub past_dump : (kind : Kind) (bytes : List ℕ) (tag : ℕ) → dumps.Packs (layout_of pool kind) kind bytes old new
+        → depth_of (state_of_all queue hands) kind ≤ tag → bit_in 8 bytes tag ≡ 0
     past_dump kind bytes tag p high =
-        let d = depth_is kind in let none : nat_lt tag (layout_of tags kind).depth ≡ false =
-        le-ltb tag (layout_of tags kind).depth (omega arith) in
-        p.bits_are tag ∙ ap (λ (t : Bool). cond (t && is_busy_in (layout_of tags kind) p.found tag) 1 0) none
+        let d = depth_is kind in let none : nat_lt tag (layout_of pool kind).depth ≡ false =
+        le-ltb tag (layout_of pool kind).depth (omega arith) in
+        p.bits_are tag ∙ ap (λ (t : Bool). cond (t && is_busy_in (layout_of pool kind) p.found tag) 1 0) none
 
 -- what a call left in a list that it filled whole
 pub whole_list : (items into : List ℕ) (n : ℕ) → length into ≡ n → take n (into ++ drop (length into) items) ≡ into

@@ -3,7 +3,7 @@ use Rattle.std.proofs.Common.{◌≡◌, ℕ, zero, suc, [], ◌∷◌, get_or, 
 use Rattle.tag_board.proofs.Uses.{and_parts, and_from, or_left, or_right, le-leb, leb-true, bit_at, list_any, is_answer, is_in_run, is_in_list}
 use Rattle.std.proofs.lemmas.Map.Views.{Contains-from_any}
 use Rattle.std.specs.Prelude.{Contains}
-use Rattle.tag_sets.specs.Gets as gets
+use Rattle.tag_pool.specs.Gets as gets
 use Rattle.tag_board.proofs.Holdings.{Names}
 
 -- the test for equality with a tag names exactly that tag

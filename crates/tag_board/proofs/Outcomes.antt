@@ -1,5 +1,6 @@
 -- What follows from clauses on results.
-use Rattle.std.proofs.Common.{◌≡◌, false, Option, Some, None, is_some, Result, Ok, Err, OnOk, IfOk, refl}
+use Rattle.std.proofs.Common.{◌≡◌, false, Option, Some, None, is_some, Result, Ok, Err, OnErr, OnOk, IfOk, refl}
+use Rattle.refusals.specs.Refusals.{Checks, RefusesBy}
 
 -- a fact about the value implies another
 pub ok_map : {A E : Type 0} {P Q : A → Type 0} (r : Result A E) → IfOk r P → ((a : A) → P a → Q a) → IfOk r Q
@@ -24,3 +25,8 @@ both_on P Q (Err e) p q = tt
 pub on_map : {A E Q : Type 0} (P : Type 0) (r : Result A E) → OnOk r P → (P → Q) → IfOk r (λ a. Q)
 on_map P (Ok a) p f = f p
 on_map P (Err e) p f = tt
+
+-- a refusal that changes less than another clause says
+pub refused_whole : {A E : Type 0} {checks : Checks E} {P Q : Type 0} (r : Result A E) → RefusesBy checks P r
+    → OnErr r Q → RefusesBy checks Q r
+refused_whole r by same = record { first = by.first; passes = by.passes; same = same }

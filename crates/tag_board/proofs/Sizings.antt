@@ -1,9 +1,8 @@
 -- The number of tags that a hand holds is the number of ones in its masks.
 use Rattle.std.proofs.Common.{◌≡◌, ℕ, ◌+◌, ◌<◌, ◌≤◌, Bool, false, cond, ◌&&◌, nat_eq, sym, ap, ◌∙◌, arith, ⊎_elim}
-use Rattle.tag_board.proofs.Uses.{∥∥₁_elim, lt-ltb, le-ltb, cases_lt, bit_at-lt, sum_below, sum_below-same, sum_below-split, count_below, Caller, Record, Shape, record_of, tag_bit, size_of, Hand, Kind, Ordinary, Reserved, Tags, IsHandOf, layout_of, reserved_of, total_of, split_of, kind_of, number_in_set, reserved_below, ordinary_above, record_in, has, holds, one_if-bit, le-sum_below}
+use Rattle.tag_board.proofs.Uses.{∥∥₁_elim, lt-ltb, le-ltb, cases_lt, bit_at-lt, sum_below, sum_below-same, sum_below-split, count_below, Caller, Record, Shape, record_of, tag_bit, size_of, Hand, Kind, Ordinary, Pool, Reserved, IsPoolHandOf, caller_of, layout_of, reserved_of, total_of, split_of, kind_of, number_in_set, reserved_below, ordinary_above, record_in, has, holds, one_if-bit, le-sum_below}
 use native.Mathlib.Nat.{ℕ_set}
 use Rattle.tag_core.proofs.Ends.{by_tags}
-use Rattle.tag_queue.specs.Agents as queue
 use Rattle.tag_board.proofs.Ranges.{shape_there}
 
 module _ {R : Type 0} where
@@ -43,29 +42,29 @@ module _ {R : Type 0} where
   holds_none hand one other tag =
       let n : ℕ = number_in_set (split_of hand) tag in
       elim (kind_of (split_of hand) tag) as (λ (k : Kind). has (record_in hand k) n ≡ false) [
-        | Ordinary ↦ has_none (queue.caller_of hand.ordinary) one n
-        | Reserved ↦ has_none (queue.caller_of hand.reserved) other n
+        | Ordinary ↦ has_none (caller_of hand Ordinary) one n
+        | Reserved ↦ has_none (caller_of hand Reserved) other n
       ]
 
-  module _ (tags : Tags R) (hand : Hand R) (own : IsHandOf tags hand) where
+  module _ (pool : Pool R) (hand : Hand R) (own : IsPoolHandOf pool hand) where
     -- the test of a reserved tag is that of the reserved set, and the test of an ordinary tag that of the ordinary set
-    holds_reserved : (tag : ℕ) → tag < reserved_of tags → holds hand tag ≡ has (record_in hand Reserved) tag
-    holds_reserved tag low = let is = reserved_below (reserved_of tags) tag low in
+    holds_reserved : (tag : ℕ) → tag < reserved_of pool → holds hand tag ≡ has (record_in hand Reserved) tag
+    holds_reserved tag low = let is = reserved_below (reserved_of pool) tag low in
         ap (λ (s : ℕ). has (record_in hand (kind_of s tag)) (number_in_set s tag)) own.2
         ∙ (λ j. has (record_in hand (is.kind j)) (is.number j))
 
-    holds_ordinary : (n : ℕ) → holds hand (reserved_of tags + n) ≡ has (record_in hand Ordinary) n
-    holds_ordinary n = let tag : ℕ = reserved_of tags + n in
-        let is = ordinary_above (reserved_of tags) tag (omega arith) in
-        let number : number_in_set (reserved_of tags) tag ≡ n = let e = is.number in omega arith in
+    holds_ordinary : (n : ℕ) → holds hand (reserved_of pool + n) ≡ has (record_in hand Ordinary) n
+    holds_ordinary n = let tag : ℕ = reserved_of pool + n in
+        let is = ordinary_above (reserved_of pool) tag (omega arith) in
+        let number : number_in_set (reserved_of pool) tag ≡ n = let e = is.number in omega arith in
         ap (λ (s : ℕ). has (record_in hand (kind_of s tag)) (number_in_set s tag)) own.2
         ∙ (λ j. has (record_in hand (is.kind j)) (number j))
 
     -- as many tags of the range pass the test as the masks of both sets have ones
-    pub size_holds : count_below (holds hand) (total_of tags)
+    pub size_holds : count_below (holds hand) (total_of pool)
         ≡ size_of (record_in hand Ordinary).held + size_of (record_in hand Reserved).held
     size_holds =
-        let r : ℕ = reserved_of tags in let n : ℕ = (layout_of tags Ordinary).depth in
+        let r : ℕ = reserved_of pool in let n : ℕ = (layout_of pool Ordinary).depth in
         let split = sum_below-split (λ tag. cond (holds hand tag) 1 0) r n in
         let first = sum_below-same (λ tag. cond (holds hand tag) 1 0)
         (λ tag. cond (has (record_in hand Reserved) tag) 1 0) r
@@ -73,9 +72,9 @@ module _ {R : Type 0} where
         let second = sum_below-same (λ k. cond (holds hand (r + k)) 1 0)
         (λ k. cond (has (record_in hand Ordinary) k) 1 0) n
         (λ k low. ap (λ (b : Bool). cond b 1 0) (holds_ordinary k)) in
-        let deep = λ (kind : Kind). ap (λ (k : Shape). k.layout.depth) (shape_there tags hand own kind) in
-        let one = ap (count_below (has (record_in hand Reserved))) (sym (deep Reserved ∙ tags.reserved_is))
-        ∙ size_has (queue.caller_of hand.reserved) in
+        let deep = λ (kind : Kind). ap (λ (k : Shape). k.layout.depth) (shape_there pool hand own kind) in
+        let one = ap (count_below (has (record_in hand Reserved))) (sym (deep Reserved ∙ pool.reserved_is))
+        ∙ size_has (caller_of hand Reserved) in
         let other = ap (count_below (has (record_in hand Ordinary))) (sym (deep Ordinary))
-        ∙ size_has (queue.caller_of hand.ordinary) in
+        ∙ size_has (caller_of hand Ordinary) in
         omega arith

@@ -16,12 +16,13 @@ pub use Rattle.sums.specs.Below.{count_below, one_if, sum_below}
 pub use Rattle.step_ledger.specs.Gather.{HasAll}
 pub use Rattle.step_ledger.specs.History.{total}
 pub use Rattle.tag_layout.proofs.PlaceFacts.{word_bits-le, word_of-below}
-pub use Rattle.tag_layout.specs.Layout.{HasShift, Layout, place_of, word_bits, word_depth, word_of, words}
+pub use Rattle.tag_layout.specs.Layout.{Layout, place_of, word_bits, word_depth, word_of, words}
 pub use Rattle.tag_core.proofs.Entries.{all_at, entry, entry_or}
 pub use Rattle.tag_core.specs.Callers.{record_of}
 pub use Rattle.tag_core.specs.Records.{record_after, tag_bit}
 pub use Rattle.tag_core.specs.Sizes.{size_of, total_of as sum_of}
 pub use Rattle.tag_core.specs.declared.caller.Caller.{Caller}
+pub use Rattle.tag_core.specs.declared.map.Map.{Map}
 pub use Rattle.tag_core.specs.declared.record.Record.{Record}
 pub use Rattle.tag_core.specs.declared.shape.Shape.{Shape}
 pub use Rattle.tag_core.specs.declared.step.Step.{Step}
@@ -32,7 +33,7 @@ pub use Rattle.tag_search.proofs.Pools.{and_false, and_true, or_false, pool_ext}
 pub use Rattle.tag_search.specs.Alone.{IsAlone}
 pub use Rattle.tag_search.specs.AloneLaws.{cells_left, own_after, words_left}
 pub use Rattle.tag_search.specs.Gains.{count_of, count_of_run}
-pub use Rattle.tag_search.specs.Pool.{free_at, is_busy, Pool, pool_of}
+pub use Rattle.tag_search.specs.Pool.{free_at, is_busy, Pool as Places, pool_of as places_of}
 pub use Rattle.tag_search.specs.Search.{Visit}
 pub use Rattle.tag_search.specs.declared.found.Found.{Found}
 pub use Rattle.tag_search.specs.declared.hint.Hint.{Hint}
@@ -41,32 +42,36 @@ pub use Rattle.wake_book.specs.declared.charge.Charge.{Charge}
 pub use Rattle.wake_book.specs.declared.charge.Charge.TheVariants.{Below, Busy, Full, Won}
 pub use Rattle.wake_book.specs.declared.steps.GroupStep.{GroupStep}
 pub use Rattle.wake_book.specs.declared.waiting.Left.{Left}
-pub use Rattle.tag_queue.proofs.Giving.{same_number, same_shape}
-pub use Rattle.tag_queue.specs.Agents.{caller_of, records_of, SameCounts, SameElse, standing_of as standing_of_agent}
-pub use Rattle.tag_queue.specs.Batches.{AreRuns, CountsTags, GivesBack, IsRun, record_after_runs, Run}
-pub use Rattle.tag_queue.specs.declared.agent.Agent.{Agent}
-pub use Rattle.tag_queue.specs.declared.queue.Options.{Options}
+pub use Rattle.tag_pool.proofs.Numbering.{IsOrdinary, IsReserved, ordinary_above, reserved_below, stands}
+pub use Rattle.tag_pool.proofs.RunMasks.{same_shape}
+pub use Rattle.tag_pool.specs.Bits.{bit_in}
+pub use Rattle.tag_pool.specs.Gathering.{records_of, shape_of}
+pub use Rattle.tag_pool.specs.Hands.{back_of, caller_of, HasRoom, hint_of, Holds, IsHandOf as IsPoolHandOf, IsTagOf, layout_of, least_of, reserved_of, split_of, total_of}
+pub use Rattle.tag_pool.specs.Holding.{HoldsLess, HoldsMore, HoldsSame}
+pub use Rattle.tag_pool.specs.Lending.{side_of}
+pub use Rattle.tag_pool.specs.Looks.{looks_from, MakesLooks, word_in}
+pub use Rattle.tag_pool.specs.Resizing.{held_in_both, posted_in_both}
+pub use Rattle.tag_pool.specs.Runs.{AreRuns, CountsTags, IsRun, record_after_runs, Run}
+pub use Rattle.tag_pool.specs.Sets.{first_of, kind_of, number_in_set, other_kind}
+pub use Rattle.tag_pool.specs.Sides.{caller_of as caller_in, hint_of as hint_in}
+pub use Rattle.tag_pool.specs.Tallies.{back_in_both, won_of}
+pub use Rattle.tag_pool.specs.declared.fault.TagFault.{TagFault}
+pub use Rattle.tag_pool.specs.declared.fault.TagFault.TheVariants.{BadCount, NoSuchTag, NotHeld, NotPosted}
+pub use Rattle.tag_pool.specs.declared.hand.Hand.{Hand}
+pub use Rattle.tag_pool.specs.declared.kind.Kind.{Kind}
+pub use Rattle.tag_pool.specs.declared.kind.Kind.TheVariants.{Ordinary, Reserved}
+pub use Rattle.tag_pool.specs.declared.options.Options.{Options}
+pub use Rattle.tag_pool.specs.declared.pool.Pool.{Pool}
+pub use Rattle.tag_pool.specs.declared.shown.Shown.{Shown}
+pub use Rattle.tag_pool.specs.declared.side.Side.{Side}
+pub use Rattle.tag_queue.specs.Hands.{all_in_pool, book_steps, group_steps, hands_of, in_pool, IsHandOf, IsStillOf, number_of, numbers_of, pool_of, SameCounts, SameTags, standing_of, teller_of, waiter_of as group_waiter_of}
+pub use Rattle.tag_queue.specs.Resizing.{BalanceInBoth, HasMap, standing_count}
+pub use Rattle.tag_queue.specs.declared.hand.QueueHand.{QueueHand}
 pub use Rattle.tag_queue.specs.declared.queue.Queue.{Queue}
-pub use Rattle.tag_sets.proofs.Numbering.{IsOrdinary, IsReserved, ordinary_above, reserved_below, stands}
-pub use Rattle.tag_sets.proofs.Opening.{all_part}
-pub use Rattle.tag_sets.specs.Gathering.{hands_of, IsGathered, numbers_of}
-pub use Rattle.tag_sets.specs.Hands.{agent_of, book_steps, group_steps, HasRoom, hint_of, Holds, IsHandOf, IsTagOf, layout_of, number_of, queue_of, reserved_of, split_of, standing_of, total_of, wait_index_of}
-pub use Rattle.tag_sets.specs.Holding.{HoldsLess, HoldsMore, HoldsSame}
-pub use Rattle.tag_sets.specs.Looks.{looks_from, MakesLooks, word_in}
-pub use Rattle.tag_sets.specs.Opening.{IsOpen as AreOpen, ordinary_part, reserved_part}
-pub use Rattle.tag_sets.specs.Resizing.{BalanceInBoth, HasMap, held_in_both, posted_in_both, standing_count}
-pub use Rattle.tag_sets.specs.Sets.{kind_of, number_in_set, other_kind}
-pub use Rattle.tag_sets.specs.declared.fault.TagFault.{TagFault}
-pub use Rattle.tag_sets.specs.declared.fault.TagFault.TheVariants.{BadCount, NoSuchTag, NotHeld, NotPosted, NotWaiting}
-pub use Rattle.tag_sets.specs.declared.hand.Hand.{Hand}
-pub use Rattle.tag_sets.specs.declared.kind.Kind.{Kind}
-pub use Rattle.tag_sets.specs.declared.kind.Kind.TheVariants.{Ordinary, Reserved}
-pub use Rattle.tag_sets.specs.declared.shown.Shown.{Shown}
-pub use Rattle.tag_sets.specs.declared.tags.Tags.{Tags}
-pub use Rattle.tag_board.specs.AloneSets.{AloneBatch, AloneClearsList, AloneDumps, AloneGets, AloneListsBusy, AloneResizes, AloneSet, AloneSets, AloneShows, AloneTakes, AreUntouched, ChangesOne, ChangesTag, first_of, freed, give_back, is_busy_in, is_busy_tag, is_named, plain, post_in, put_back, set_left, shallow, take_in, untouched}
+pub use Rattle.tag_board.specs.AloneSets.{AloneBatch, AloneClearsList, AloneDumps, AloneGets, AloneListsBusy, AloneResizes, AloneSet, AloneSets, AloneShows, AloneTakes, AreUntouched, ChangesOne, ChangesTag, freed, give_back, is_busy_in, is_busy_tag, is_named, IsLaidOut, plain, post_in, put_back, set_left, shallow, take_in, untouched}
 pub use Rattle.tag_board.specs.Boards.{state_of}
 pub use Rattle.tag_board.specs.Looks.{depth_of, Dumps, ListsBusy}
-pub use Rattle.tag_board.specs.Parts.{AreOrdered, has, holds, no_sets, part_of, record_in, sets_of, state_of_all, terms_of, waiter_of}
+pub use Rattle.tag_board.specs.Parts.{AreOrdered, has, holds, no_sets, part_of, record_in, sets_in, sets_of, state_of_all, terms_of, waiter_of}
 pub use Rattle.tag_board.specs.Refusals.{AreHeldOnce, AreOrdinary, leave_checks, list_checks, MayWin, tag_checks, wait_checks}
 pub use Rattle.tag_board.specs.Replays.{Answers, as_before, AsBefore, Changes, cleared, Gets, GetsBatch, GetsShallow, HoldsAll, is_answer, is_in_list, is_in_run, IsOf, joined, left, left as parted, NobodyElseHolds, NobodyHolds, standing, Takes, Wins, won, won_more}
 pub use Rattle.tag_board.specs.States.{back_in, got_in, idle, newcomer, Part, posted_in, standing_in, State, Waiter}

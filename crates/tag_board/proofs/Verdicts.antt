@@ -1,43 +1,34 @@
 -- The checks of each call of a hand are those of its command.
 use Rattle.std.proofs.Common.{◌≡◌, ℕ, ◌<◌, ◌↔◌, true, false, inl, inr, List, [], ◌∷◌}
 use Rattle.refusals.specs.Refusals.{Checks, FailsFirst, PassesAll}
-use Rattle.tag_board.proofs.Uses.{TagFault, NoSuchTag, NotHeld, BadCount, NotWaiting, CountsTags, State, tag_checks, list_checks, wait_checks, leave_checks, AreOrdinary, AreHeldOnce}
-use Rattle.tag_sets.specs.declared.fault.TagFault.TheVariants.{OtherWait, Waiting}
+use Rattle.tag_board.proofs.Uses.{NoSuchTag, NotHeld, BadCount, CountsTags, State, tag_checks, list_checks, wait_checks, leave_checks, AreOrdinary, AreHeldOnce}
+use Rattle.tag_queue.specs.declared.fault.WaitFault.TheVariants.{NotWaiting, Waiting}
 
 -- the same check of both fails first, and all pass of both or of neither
-pub record Means (checks known : Checks TagFault) : Type 0 where
-  pub fails : (told : TagFault) → FailsFirst checks told → FailsFirst known told
+pub record Means {E : Type 0} (checks known : Checks E) : Type 0 where
+  pub fails : (told : E) → FailsFirst checks told → FailsFirst known told
   pub passes : PassesAll checks → PassesAll known
 
 -- no check is left
-ends : Means [] []
+ends : {E : Type 0} → Means {E = E} [] []
 ends = record { fails = λ told first. first; passes = λ all. all }
 
 -- one check that passes exactly if the other does, and those after it
-next : {check other : Type 0} {fault : TagFault} {later known : Checks TagFault} → check ↔ other → Means later known
+next : {E check other : Type 0} {fault : E} {later known : Checks E} → check ↔ other → Means later known
     → Means ((check, fault) ∷ later) ((other, fault) ∷ known)
-next {check} {other} {fault} {later} {known} is m = record {
+next {E} {check} {other} {fault} {later} {known} is m = record {
   fails = fails;
   passes = λ all. (is.0 all.0, m.passes all.1);
 }
   where
-    fails : (told : TagFault) → FailsFirst ((check, fault) ∷ later) told → FailsFirst ((other, fault) ∷ known) told
+    fails : (told : E) → FailsFirst ((check, fault) ∷ later) told → FailsFirst ((other, fault) ∷ known) told
     fails told (inl first) = inl ((λ passes. first.0 (is.1 passes)), first.1)
     fails told (inr rest) = inr (is.0 rest.0, m.fails told rest.1)
 
 -- one check that is the same
-as_it_is : {check : Type 0} {fault : TagFault} {later known : Checks TagFault} → Means later known
+as_it_is : {E check : Type 0} {fault : E} {later known : Checks E} → Means later known
     → Means ((check, fault) ∷ later) ((check, fault) ∷ known)
 as_it_is m = next ((λ passes. passes), (λ passes. passes)) m
-
--- one check that always passes here
-passed : {check : Type 0} {fault : TagFault} {later known : Checks TagFault} → check → Means later known
-    → Means ((check, fault) ∷ later) known
-passed {check} {fault} {later} {known} is m = record { fails = fails; passes = λ all. m.passes all.1 }
-  where
-    fails : (told : TagFault) → FailsFirst ((check, fault) ∷ later) told → FailsFirst known told
-    fails told (inl first) = absurd (first.0 is)
-    fails told (inr rest) = m.fails told rest.1
 
 module _ (s : State) (caller : ℕ) where
   pub tag_means : {holds : Type 0} (tag : ℕ) → holds ↔ ((s.part caller).held tag ≡ true)
@@ -49,9 +40,9 @@ module _ (s : State) (caller : ℕ) where
       (list_checks s caller tags)
   list_means tags held = as_it_is (as_it_is (next held ends))
 
-  pub wait_means : {so out : Type 0} → so → out ↔ ((s.part caller).stands ≡ false)
-      → Means ((so, OtherWait) ∷ (out, Waiting) ∷ []) (wait_checks s caller)
-  wait_means is stands = passed is (next stands ends)
+  pub wait_means : {out : Type 0} → out ↔ ((s.part caller).stands ≡ false)
+      → Means ((out, Waiting) ∷ []) (wait_checks s caller)
+  wait_means stands = next stands ends
 
   pub leave_means : {within : Type 0} → within ↔ ((s.part caller).stands ≡ true)
       → Means ((within, NotWaiting) ∷ []) (leave_checks s caller)

@@ -1,5 +1,5 @@
 -- Both sets of a board with one caller, as its steps determine them, and the answers of its commands.
-use Rattle.tag_board.specs.Uses.{bit_in, Bool, cells_left, cond, count_below, Err, false, Hint, IsLaidOut, Kind, kind_of, Layout, length, List, list_any, map, nat_eq, nat_lt, None, not, NotPosted, number_in_set, Ok, Option, Options, Ordinary, other_kind, place_of, Reserved, Result, Shown, slice_index, TagFault, true, word_of, words_left, ℕ}
+use Rattle.tag_board.specs.Uses.{bit_in, Bool, cells_left, cond, count_below, Err, false, first_of, HasShiftOf, Hint, Kind, kind_of, Layout, length, List, list_any, map, nat_eq, nat_lt, None, not, NotPosted, number_in_set, Ok, Option, Options, Ordinary, other_kind, place_of, Reserved, Result, Shown, slice_index, TagFault, true, word_of, words_left, ℕ}
 use Rattle.std.specs.Prelude.{◌≡◌, ◌-◌, ◌<◌, ◌*◌, ◌&&◌, ◌||◌, if◌then◌else◌}
 use Rattle.tag_core.specs.declared.step.Step.{Step}
 use Rattle.tag_search.specs.Batch.{batch_words}
@@ -9,7 +9,7 @@ use Rattle.tag_search.specs.Hints.{reduced}
 use Rattle.tag_search.specs.Pool.{Pool, pool_of, is_busy, set_aside}
 use Rattle.tag_search.specs.Search.{Visit}
 use Rattle.tag_search.specs.Visits.{plain_visits, shallow_visits}
-use Rattle.tag_sets.specs.Gets.{whole, whole_run}
+use Rattle.tag_pool.specs.Gets.{whole, whole_run}
 
 -- a set with one caller: its layout, which places are free and which set aside, which tags are posted, and where the
 -- next get begins
@@ -48,11 +48,6 @@ set_left layout steps hint = record {
 -- the number of reserved tags, which are the lowest of the range
 abbrev pub split_in : AloneSets → ℕ
 split_in sets = (sets Reserved).layout.depth
-
--- the first tag of a set, if the first `split` tags are reserved
-abbrev pub first_of : ℕ → Kind → ℕ
-first_of split Ordinary = split
-first_of split Reserved = 0
 
 -- one set changed so, and the other is unchanged
 abbrev pub ChangesOne : Kind → (AloneSet → AloneSet → Type 0) → AloneSets → AloneSets → Type 0
@@ -178,10 +173,14 @@ pub record AloneDumps (kind : Kind) (old : AloneSets) (bytes : List ℕ) (new : 
   pub bits_are : (tag : ℕ) → bit_in 8 bytes tag ≡ cond (is_busy_in (old kind) tag) 1 0
   pub same : new ≡ old
 
+-- the layout has this depth, and the shift of the options or, without one, the default for the depth
+abbrev pub IsLaidOut : ℕ → Options → Layout → Type 0
+IsLaidOut depth options layout = (layout.depth ≡ depth) × HasShiftOf options depth layout.shift
+
 -- both sets have the layouts that the options determine, and no step was made in them
-pub record AreUntouched (total reserved : ℕ) (options : Options) (sets : AloneSets) : Type 0 where
-  pub ordinary_layout : IsLaidOut (total - reserved) options (sets Ordinary).layout
-  pub reserved_layout : IsLaidOut reserved options (sets Reserved).layout
+pub record AreUntouched (options : Options) (sets : AloneSets) : Type 0 where
+  pub ordinary_layout : IsLaidOut (options.depth - options.reserved) options (sets Ordinary).layout
+  pub reserved_layout : IsLaidOut options.reserved options (sets Reserved).layout
   pub untouched : (kind : Kind) → sets kind ≡ untouched (sets kind).layout options.round_robin
 
 -- the set continues with `depth` tags, all of them free; the shift and the hint stay

@@ -6,7 +6,7 @@ use Rattle.tag_board.specs.Parts.{state_of_all}
 
 -- the state of a board
 abbrev pub state_of : Board → State
-state_of board = state_of_all board.tags board.hands.items
+state_of board = state_of_all board.queue board.hands.items
 
 -- the board has a caller with this number
 abbrev pub IsCallerOf : Board → ℕ → Type 0

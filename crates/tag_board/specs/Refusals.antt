@@ -1,8 +1,7 @@
 -- Which commands are refused: what each checks, in order, with the fault that it answers if the check fails.
-use Rattle.tag_board.specs.Uses.{[], All, AllPairs, BadCount, Checks, false, Kind, List, NoReserved, NoSuchTag, NotHeld, NotWaiting, Ordinary, Reserved, Spent, TagFault, TooShallow, true, ℕ}
+use Rattle.tag_board.specs.Uses.{[], All, AllPairs, BadCount, Checks, false, Kind, List, NoReserved, NoSuchTag, NotHeld, NotWaiting, Ordinary, Reserved, Spent, TagFault, TooShallow, true, WaitFault, Waiting, ℕ}
 use Rattle.std.specs.Prelude.{◌≡◌, ◌≢◌, ◌+◌, ◌<◌, ◌≤◌, ◌∷◌}
-use Rattle.tag_sets.specs.declared.fault.TagFault.TheVariants.{Waiting}
-use Rattle.tag_queue.specs.Batches.{CountsTags}
+use Rattle.tag_pool.specs.Runs.{CountsTags}
 use Rattle.tag_board.specs.States.{State}
 
 -- the caller may win n more tags of a set
@@ -41,9 +40,9 @@ list_checks s caller tags =
     (CountsTags tags, BadCount) ∷ (AreOrdinary s tags, NoSuchTag) ∷ (AreHeldOnce s caller tags, NotHeld) ∷ []
 
 -- a wait
-abbrev pub wait_checks : State → ℕ → Checks TagFault
+abbrev pub wait_checks : State → ℕ → Checks WaitFault
 wait_checks s caller = ((s.part caller).stands ≡ false, Waiting) ∷ []
 
 -- the end of a wait
-abbrev pub leave_checks : State → ℕ → Checks TagFault
+abbrev pub leave_checks : State → ℕ → Checks WaitFault
 leave_checks s caller = ((s.part caller).stands ≡ true, NotWaiting) ∷ []

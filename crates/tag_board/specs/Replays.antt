@@ -1,5 +1,5 @@
 -- The answer of each command, and the state that it leaves.
-use Rattle.tag_board.specs.Uses.{bit_at, Bool, Checks, Err, FailsFirst, false, IsTrue, Kind, Left, length, List, list_any, nat_eq, nat_le, None, NoSuchTag, not, NotPosted, Ok, Option, Ordinary, PassesAll, Reserved, Result, Some, TagFault, true, Wakes, ℕ}
+use Rattle.tag_board.specs.Uses.{bit_at, Bool, Checks, Err, FailsFirst, false, IsTrue, Kind, Left, length, List, list_any, nat_eq, nat_le, None, NoSuchTag, not, NotPosted, Ok, Option, Ordinary, PassesAll, Reserved, Result, Some, TagFault, true, WaitFault, Wakes, ℕ}
 use Rattle.std.specs.Prelude.{◌≡◌, ◌≢◌, ◌+◌, ◌-◌, ◌<◌, ◌≤◌, ◌&&◌, ◌||◌}
 use Rattle.tag_search.specs.Gains.{count_of, count_of_run}
 use Rattle.tag_board.specs.AloneSets.{AloneSets, plain, shallow, put_back, post_in, ChangesTag, AloneGets, AloneBatch, AloneClearsList, AloneTakes}
@@ -9,7 +9,7 @@ use Rattle.tag_board.specs.Refusals.{get_checks, shallow_checks, batch_checks, t
 
 -- every check passes, and `done` holds of the answer; or the fault is that of the first check that fails, and nothing
 -- changes
-abbrev pub Answers : {A : Type 0} → Checks TagFault → (A → Type 0) → State → Result A TagFault → State → Type 0
+abbrev pub Answers : {A E : Type 0} → Checks E → (A → Type 0) → State → Result A E → State → Type 0
 Answers checks done old (Ok answer) new = PassesAll checks × done answer
 Answers checks done old (Err fault) new = FailsFirst checks fault × (new ≡ old)
 
@@ -141,12 +141,12 @@ Takes tag caller old (Err NotPosted) new = (tag < old.total)
 Takes tag caller old (Err fault) new = ⊥
 
 -- a wait, with the group that the caller entered
-abbrev pub Waits : ℕ → State → Result ℕ TagFault → State → Type 0
+abbrev pub Waits : ℕ → State → Result ℕ WaitFault → State → Type 0
 Waits caller old result new = Answers (wait_checks old caller)
     (λ group. Changes caller (standing true) (Enters group) AsBefore old new) old result new
 
 -- the end of a wait, which tells whether the caller used a wakeup
-abbrev pub Leaves : ℕ → State → Result Left TagFault → State → Type 0
+abbrev pub Leaves : ℕ → State → Result Left WaitFault → State → Type 0
 Leaves caller old result new = Answers (leave_checks old caller)
     (λ left. Changes caller (standing false) (LeavesGroup left) AsBefore old new) old result new
 

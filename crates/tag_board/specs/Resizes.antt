@@ -1,9 +1,8 @@
 -- Resizes: which are refused, and the state after one.
 use Rattle.std.specs.Prelude.{◌≡◌, ℕ, ◌≤◌, true, Result, Ok, Err}
-use Rattle.tag_queue.specs.declared.resizes.ResizeCause.{ResizeCause}
-use Rattle.tag_queue.specs.declared.resizes.ResizeCause.TheVariants.{DepthTooLarge, InUse, Waiting}
-use Rattle.tag_sets.specs.Opening.{HasRange}
-use Rattle.tag_sets.specs.Resizing.{IsOutOfRange}
+use Rattle.tag_pool.specs.Resizing.{HasRange, IsOutOfRange}
+use Rattle.tag_pool.specs.declared.resizes.ResizeCause.{ResizeCause}
+use Rattle.tag_pool.specs.declared.resizes.ResizeCause.TheVariants.{DepthTooLarge, InUse, Waiting}
 use Rattle.tag_board.specs.States.{State, held_in, posted_in, standing_in}
 use Rattle.tag_board.specs.Replays.{NobodyHolds}
 use Rattle.tag_board.specs.AloneSets.{AloneResizes}

@@ -3,7 +3,7 @@ ghost use Rattle.tag_board.specs.Boards.{state_of, IsCallerOf};
 ghost use Rattle.tag_board.specs.Replays.{Clears, ClearsList};
 
 use crate::board::Board;
-use tag_sets::{Ring, TagFault};
+use tag_queue::{Ring, TagFault};
 
 impl Board {
     /// Gives a held tag back, and returns the number of waiters woken: 0 for a reserved tag. `NoSuchTag` for a tag past
@@ -12,7 +12,7 @@ impl Board {
         requires { IsCallerOf self.old caller }
         ensures { Clears tag caller (state_of self.old) result (state_of self.new) }
     {
-        self.tags
+        self.queue
             .clear::<Ring>(&mut self.hands[caller as usize], tag)
     }
 
@@ -22,7 +22,7 @@ impl Board {
         requires { IsCallerOf self.old caller }
         ensures { ClearsList tags.now caller (state_of self.old) result (state_of self.new) }
     {
-        self.tags
+        self.queue
             .clear_batch::<Ring>(&mut self.hands[caller as usize], tags)
     }
 }

@@ -5,7 +5,7 @@ ghost use Rattle.tag_board.specs.Closing.{totals_in};
 
 use crate::board::Board;
 use tag_model::Totals;
-use tag_sets::Tags;
+use tag_queue::Queue;
 
 impl Board {
     /// Gathers all callers. Returns the totals over both sets: tags got, given back, held and posted. They balance.
@@ -14,12 +14,12 @@ impl Board {
         ensures balance { result.got ≡ result.back + result.held + result.posted }
     {
         let Board {
-            tags,
+            queue,
             hands,
             total: _,
             reserved: _,
         } = self;
-        let Ok(totals) = Tags::gather(tags, hands) else {
+        let Ok(totals) = Queue::gather(queue, hands) else {
             unreachable!()
         };
         totals.tags

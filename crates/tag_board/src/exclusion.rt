@@ -32,7 +32,7 @@ impl Board {
             let own = caller as usize;
             let mut later = self.hands.remove(own.max(other));
             let mut earlier = self.hands.remove(own.min(other));
-            self.tags.apart(&mut earlier, &mut later, tag);
+            self.queue.apart(&mut earlier, &mut later, tag);
             unreachable!()
         }
     }

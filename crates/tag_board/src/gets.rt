@@ -1,10 +1,10 @@
 //! Commands that take tags.
-ghost use Rattle.tag_sets.specs.declared.kind.Kind.TheVariants.{Ordinary, Reserved};
+ghost use Rattle.tag_pool.specs.declared.kind.Kind.TheVariants.{Ordinary, Reserved};
 ghost use Rattle.tag_board.specs.Boards.{state_of, IsCallerOf};
 ghost use Rattle.tag_board.specs.Replays.{Gets, GetsShallow, GetsBatch};
 
 use crate::board::Board;
-use tag_sets::{Found, TagFault};
+use tag_queue::{Found, TagFault};
 
 impl Board {
     /// Takes an ordinary tag that no caller held, or `None` if the search found none. `Spent` if winning one more tag
@@ -14,7 +14,7 @@ impl Board {
         ensures { Gets Ordinary caller (state_of self.old) result (state_of self.new) }
     {
         // Nobody sleeps on a board, so no tag that the sweeps freed keeps anybody waiting.
-        let Found { answer, .. } = self.tags.get_and_report(&mut self.hands[caller as usize])?;
+        let Found { answer, .. } = self.queue.get_quietly(&mut self.hands[caller as usize])?;
         self.tell_free(caller, answer);
         Ok(answer)
     }
@@ -25,7 +25,7 @@ impl Board {
         requires { IsCallerOf self.old caller }
         ensures { Gets Reserved caller (state_of self.old) result (state_of self.new) }
     {
-        let answer = self.tags.get_reserved(&mut self.hands[caller as usize])?;
+        let answer = self.queue.get_reserved(&mut self.hands[caller as usize])?;
         self.tell_free(caller, answer);
         Ok(answer)
     }
@@ -37,8 +37,8 @@ impl Board {
         ensures { GetsShallow depth caller (state_of self.old) result (state_of self.new) }
     {
         let Found { answer, .. } = self
-            .tags
-            .get_shallow_and_report(&mut self.hands[caller as usize], depth)?;
+            .queue
+            .get_shallow_quietly(&mut self.hands[caller as usize], depth)?;
         self.tell_free(caller, answer);
         Ok(answer)
     }
@@ -51,8 +51,8 @@ impl Board {
         ensures { GetsBatch n caller (state_of self.old) result (state_of self.new) }
     {
         let Found { answer, .. } = self
-            .tags
-            .get_batch_and_report(&mut self.hands[caller as usize], n)?;
+            .queue
+            .get_batch_quietly(&mut self.hands[caller as usize], n)?;
         self.tell_run_free(caller, answer);
         Ok(answer)
     }

@@ -5,7 +5,7 @@ ghost use Rattle.tag_board.specs.Looks.{ListsBusy, Shows, Dumps, depth_of};
 
 use crate::board::Board;
 use std::alloc::{AllocError, Global};
-use tag_sets::{Kind, Shown};
+use tag_queue::{Kind, Shown};
 
 impl Board {
     /// Returns a bit for each tag, 1 for a busy one: tag `t` is the bit `t % 64` of the word `t / 64`.
@@ -14,7 +14,7 @@ impl Board {
         ensures { IfOk result (λ bits. ListsBusy caller (state_of self.old) bits.items (state_of self.new)) }
     {
         let mut bits = vec![in alloc; 0u64; self.total.div_ceil(64) as usize]?;
-        self.tags.busy(&mut self.hands[caller as usize], &mut bits);
+        self.queue.busy(&mut self.hands[caller as usize], &mut bits);
         Ok(bits)
     }
 
@@ -23,7 +23,7 @@ impl Board {
         requires { IsCallerOf self.old caller }
         ensures { Shows kind caller (state_of self.old) result (state_of self.new) }
     {
-        self.tags.show(&mut self.hands[caller as usize], kind)
+        self.queue.show(&mut self.hands[caller as usize], kind)
     }
 
     /// Returns a bit for each tag of a set, 1 for a busy one, eight per byte, low bit first.
@@ -33,10 +33,11 @@ impl Board {
     {
         let depth = self.depth(kind);
         let mut bytes = vec![in alloc; 0u8; depth.div_ceil(8) as usize]?;
-        self.tags
+        self.queue
             .dump(&mut self.hands[caller as usize], kind, &mut bytes);
         Ok(bytes)
     }
+
     /// Returns the number of tags of a set.
     fn depth(&self, kind: Kind) -> u32
         ensures { result ≡ depth_of (state_of self.now) kind }

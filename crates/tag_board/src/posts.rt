@@ -3,7 +3,7 @@ ghost use Rattle.tag_board.specs.Boards.{state_of, IsCallerOf};
 ghost use Rattle.tag_board.specs.Replays.{Posts, Takes};
 
 use crate::board::Board;
-use tag_sets::TagFault;
+use tag_queue::TagFault;
 
 impl Board {
     /// Hands a held tag on, to whichever caller takes it first. `NoSuchTag` for a tag past the last, `NotHeld` for one
@@ -12,7 +12,7 @@ impl Board {
         requires { IsCallerOf self.old caller }
         ensures { Posts tag caller (state_of self.old) result (state_of self.new) }
     {
-        self.tags.post(&mut self.hands[caller as usize], tag)
+        self.queue.post(&mut self.hands[caller as usize], tag)
     }
 
     /// Takes a posted tag, which no caller held. `NoSuchTag` for a tag past the last, `NotPosted` if the call did not
@@ -21,7 +21,7 @@ impl Board {
         requires { IsCallerOf self.old caller }
         ensures { Takes tag caller (state_of self.old) result (state_of self.new) }
     {
-        self.tags.take(&mut self.hands[caller as usize], tag)?;
+        self.queue.take(&mut self.hands[caller as usize], tag)?;
         self.tell_free(caller, Some(tag));
         Ok(())
     }

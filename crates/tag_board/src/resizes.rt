@@ -5,7 +5,7 @@ ghost use Rattle.tag_board.specs.Resizes.{Resizes, MayResize};
 
 use crate::board::Board;
 use std::alloc::{AllocError, Global};
-use tag_sets::{ResizeCause, Tags, TagsResizeFault};
+use tag_queue::{Queue, QueueResizeFault, ResizeCause};
 
 impl Board {
     /// Continues with `total` tags, as many of them reserved as before, and with all callers. Returns the board with
@@ -19,26 +19,32 @@ impl Board {
         ensures memory { IsErr result → MayResize (state_of self) total }
     {
         let Board {
-            tags,
+            queue,
             hands,
             total: before,
             reserved,
         } = self;
-        match Tags::resize(alloc, tags, hands, total) {
-            Ok((tags, hands)) => Ok((
+        match Queue::resize(alloc, queue, hands, total) {
+            Ok((queue, hands)) => Ok((
                 Ok(()),
                 Board {
-                    tags,
+                    queue,
                     hands,
                     total,
                     reserved,
                 },
             )),
-            Err(TagsResizeFault { cause, tags, hands }) => match cause {
+            Err(
+                QueueResizeFault {
+                    cause,
+                    queue,
+                    hands,
+                },
+            ) => match cause {
                 ResizeCause::Memory => Err(AllocError),
                 _ => {
                     let board = Board {
-                        tags,
+                        queue,
                         hands,
                         total: before,
                         reserved,

@@ -2,6 +2,7 @@ mod Uses
 pub mod Calling
 pub mod Collected
 pub mod Flags
+pub mod Going
 pub mod Joining
 pub mod Owners
 pub mod Pairing

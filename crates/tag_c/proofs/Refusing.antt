@@ -39,6 +39,15 @@ no_hand value none has = subst (λ (x : Option Object). IsHandIn has.0 x) none h
 pub no_pool : (value : Option Object) → value ≡ None → ¬ (HasPool value)
 no_pool value none has = subst (λ (x : Option Object). IsPoolOf has.0 x) none has.1
 
+-- a handle has a hand if its object is one
+pub hand_behind : (value : Option Object) (object : Object) (kind : Kind) (tags : Pool ℕ) → value ≡ Some object
+    → object.kind ≡ kind → IsMemberIn tags kind → HasHand value
+hand_behind value object kind tags some is has = (
+  tags,
+  subst (λ (v : Option Object). IsHandIn tags v) (sym some)
+      (subst (λ (k : Kind). IsMemberIn tags k) (sym is) has),
+)
+
 -- the object behind a handle that has a hand is a hand
 pub hand_there : (value : Option Object) (object : Object) → value ≡ Some object → HasHand value → (tags : Pool ℕ)
     × IsMemberIn tags object.kind

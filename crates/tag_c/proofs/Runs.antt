@@ -1,5 +1,5 @@
 -- The first tag of a batch, and a single tag, is below the total, so its number fits.
-use Rattle.std.specs.Prelude.{◌+◌, ◌≡◌, ◌≤◌}
+use Rattle.std.specs.Prelude.{◌+◌, ◌<◌, ◌≡◌, ◌≤◌}
 use Rattle.tag_c.proofs.Uses.{answer_of, ap, arith, batch_checks, Bool, CountsBatch, Err, false, Found, GetsBatch, Hand, hint_of, IfOk, IfSome, IsAnswer, IsOkAnd, IsTagIn, IsTrue, layout_of, MAX_DEPTH, None, Ok, OnOk, Option, PassesAll, PoolState, refl, reserved_of, Result, Some}
 use Rattle.tag_c.proofs.Uses.{subst, sym, TagFault, total_of, true, unwrap_or, whole_run, ℕ}
 use Rattle.tag_pool.specs.Sides as side
@@ -74,3 +74,16 @@ pub ordinary_fits : (shared : PoolState) {answer : Result (Option ℕ) TagFault}
     → IfOk answer (λ known. IfSome known (λ tag. tag ≤ MAX_DEPTH))
 ordinary_fits shared (Ok known) is low = rw is (fits shared known.answer low)
 ordinary_fits shared (Err fault) is low = rw is tt
+
+only_fits : (shared : PoolState) (tag : ℕ) (answer : Option ℕ) → tag < total_of shared.tags
+    → IfSome answer (λ won. won ≡ tag) → IfSome answer (λ won. won ≤ MAX_DEPTH)
+only_fits shared tag None low only = tt
+only_fits shared tag (Some won) low only = let few = few shared in omega (arith, low, only)
+
+-- a get of one given tag of the pool answers no other
+pub exact_fits : (shared : PoolState) (tag : ℕ) (Room : Type 0) {answer : Result (Option ℕ) TagFault}
+    (found : Result (Found ℕ) TagFault) → answer ≡ answer_of found → OnOk found ((tag < total_of shared.tags) × Room)
+    → IfOk found (λ known. IfSome known.answer (λ won. won ≡ tag))
+    → IfOk answer (λ known. IfSome known (λ won. won ≤ MAX_DEPTH))
+exact_fits shared tag Room (Ok known) is passes only = rw is (only_fits shared tag known.answer passes.0 only)
+exact_fits shared tag Room (Err fault) is passes only = rw is tt

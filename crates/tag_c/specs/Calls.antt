@@ -4,9 +4,11 @@ use Rattle.std.specs.Prelude.{◌≡◌}
 use Rattle.tag_c.specs.Uses.{arc_value, Found, IfOk, IfSome, List, None, Option, pos, Result, Set, Some, TagFault, Pool, ℕ, ℤ, ⊤}
 use Rattle.tag_pool.specs.Batches as batches
 use Rattle.tag_pool.specs.Clears as clears
+use Rattle.tag_pool.specs.Exact as exact
 use Rattle.tag_pool.specs.Gets as gets
 use Rattle.tag_pool.specs.Slots as slots
 use Rattle.tag_cache.specs.Calls as caches
+use Rattle.tag_cache.specs.Exact as exact_caches
 use Rattle.tag_c.specs.declared.cached.CachedMember.{CachedMember}
 use Rattle.tag_c.specs.declared.member.Member.{Member}
 use Rattle.tag_c.specs.declared.object.Kind.{Kind}
@@ -65,6 +67,12 @@ DoesGetShallow depth left tags answer old new =
     Either (gets.DoesGetShallow depth tags answer) (caches.DoesGetShallow depth tags answer) old new
     × (left ≡ left_of answer)
 
+-- gets this tag, if it is free, and tells how many tags it left free, 0 if it is refused
+abbrev pub DoesGetExactly : ℕ → ℕ → Pool ℕ → Result (Found ℕ) TagFault → Holder → Holder → Type 0
+DoesGetExactly tag left tags answer old new =
+    Either (exact.DoesGetExactly tag tags answer) (exact_caches.DoesGetExactly tag tags answer) old new
+    × (left ≡ left_of answer)
+
 -- gets up to n ordinary tags, writes the mask of those won, if there are any, and tells how many tags it left free
 abbrev pub DoesGetBatch : ℕ → ℕ → ℕ → Pool ℕ → Result (Found (ℕ × ℕ)) TagFault → Holder → Holder → Type 0
 DoesGetBatch n won left tags answer old new =
@@ -87,10 +95,10 @@ abbrev pub DoesClearMask : ℕ → ℕ → Pool ℕ → Result ⊤ TagFault → 
 DoesClearMask first mask tags answer = Either (batches.DoesClearMask first mask tags answer)
     (λ old new. (freed : Result ℕ TagFault) × (answer ≡ done_of freed) × caches.DoesClearMask first mask tags freed old new)
 
--- gives all kept tags back, of which a hand alone has none
+-- gives all kept tags back, of which a hand alone has none, and tells how many they were
 abbrev pub DoesFlush : ℤ → Pool ℕ → Holder → Holder → Type 0
-DoesFlush code tags old new = (code ≡ pos 0)
-    × Either (λ old new. new ≡ old) (λ old new. (freed : ℕ) × caches.DoesFlush tags freed old new) old new
+DoesFlush code tags = Either (λ old new. (code ≡ pos 0) × (new ≡ old))
+    (λ old new. (freed : ℕ) × (code ≡ pos freed) × caches.DoesFlush tags freed old new)
 
 -- reads the slot of a tag
 abbrev pub DoesRead : ℕ → ℕ → Pool ℕ → Result ℕ TagFault → Holder → Holder → Type 0

@@ -1,5 +1,6 @@
 -- What the calls do that open, join, leave and close pools through their handles.
 use Rattle.std.specs.Prelude.{if◌then◌else◌, ◌<◌, ◌≡◌, ◌≤◌, ◌⊎◌}
+use Rattle.core.specs.Ordering.{int_eq}
 use Rattle.tag_c.specs.Uses.{[], arc_value, FailsFirst, Hand, IsSome, List, Memory, nat_eq, negsuc, None, open_checks, OpenFault, Option, Options, PassesAll, Pool, pos, Some, suc, Totals, zero, ℕ, ℤ}
 use Rattle.tag_model.specs.declared.world.TheConstants.{MOST_WON}
 use Rattle.tag_cache.specs.declared.keeping.Keeping.TheVariants.{Always, WhileHolding}
@@ -9,7 +10,7 @@ use Rattle.tag_c.specs.declared.object.Kind.TheVariants.{Pool as IsPool, Member 
 use Rattle.tag_c.specs.declared.object.Object.{Object}
 use Rattle.tag_c.specs.declared.status.Status.{Status}
 use Rattle.tag_c.specs.declared.status.Status.TheVariants.{BadHandle, NotEmpty, HandsOut, BadFlag, NotOpened, NoBerth, HandLost, CacheTooLarge}
-use Rattle.tag_c.specs.declared.structs.TheConstants.{MAX_CACHE}
+use Rattle.tag_c.specs.declared.structs.TheConstants.{BY_HANDS, MAX_CACHE}
 use Rattle.tag_c.specs.declared.structs.Sums.{Sums}
 use Rattle.tag_c.specs.declared.structs.RequestedOptions.{RequestedOptions}
 use Rattle.tag_c.specs.Codes.{code_of}
@@ -55,13 +56,15 @@ abbrev pub unless_zero : ℕ → Option ℕ
 unless_zero zero = None
 unless_zero (suc n) = Some (suc n)
 
--- the options that C asks for; each hand may win as many tags as a hand can
+-- the options that C asks for; words are for the number of hands if the shift says so, and each hand may win as many tags as
+-- a hand can
 abbrev pub options_of : RequestedOptions → Options
 options_of requested = record {
   depth = requested.total;
   reserved = requested.reserved;
   hands = requested.hands;
   shift = unless_negative requested.shift;
+  by_hands = int_eq requested.shift BY_HANDS;
   round_robin = nat_eq requested.flags 1;
   min_shallow = unless_zero requested.min_shallow;
   life = MOST_WON;

@@ -1,5 +1,6 @@
 mod Uses
 pub mod Bell
+pub mod Rounds
 pub mod Sharing
 pub mod Codes
 pub mod Holders

@@ -1,8 +1,8 @@
-//! Waits for an ordinary tag by the bell, through the handle of a hand. The C files of the library make these calls:
-//! whoever they say was told is theirs to wake.
+//! Who sees to those that wait by the bell, through the handle of a hand. The C files of the library make these calls: whoever
+//! they say was told is theirs to wake. Whether a hand was told only tests ask.
 ghost use Rattle.std.specs.Prelude.{◌≡◌, ◌<◌};
 ghost use Rattle.tag_core.specs.declared.bell.TheConstants.{LISTS};
-ghost use Rattle.tag_c.specs.Bell.{list_of, turn_of, code_of_answer, told_of, DoesListSelf, DoesGetUp, DoesSeeTo, DoesSeeToAll, Answers, SaysNumber};
+ghost use Rattle.tag_c.specs.Bell.{list_of, told_of, Answers, DoesSeeTo, SaysNumber};
 ghost use Rattle.tag_c.specs.Calls.{CallsBy};
 ghost use Rattle.tag_c.specs.Codes.{IsRefusal};
 
@@ -10,7 +10,7 @@ use crate::any_hand::{AnyHand, on_hand};
 use crate::cached::CachedMember;
 use crate::handle::Handle;
 use crate::member::Member;
-use tag_pool::{LISTENERS, Numbered, SLEEPERS, Told, Turn};
+use tag_pool::{LISTENERS, Numbered, SLEEPERS, Told};
 
 /// The hands that a call told, a bit for the number of each: 1 is told.
 #[repr(C)]
@@ -23,7 +23,7 @@ pub struct ToldHands {
 }
 
 impl ToldHands {
-    fn of(told: Told) -> ToldHands
+    pub(crate) fn of(told: Told) -> ToldHands
         ensures { told_of result ≡ told }
     {
         ToldHands {
@@ -41,46 +41,16 @@ fn list_of(listens: u32) -> u32
     if listens == 0 { SLEEPERS } else { LISTENERS }
 }
 
-/// Returns the turn that the hand had, or the next one if `again` is 0.
-#[inline]
-fn turn_of(again: u32) -> Turn
-    ensures { result ≡ turn_of again }
-{
-    if again == 0 { Turn::Next } else { Turn::Same }
-}
-
-/// Returns 1 for yes, and 0 for no.
-#[inline]
-fn answer_code(answer: bool) -> i32
-    ensures { result ≡ code_of_answer answer }
-{
-    i32::from(answer)
-}
-
-/// Calls of those who wait, and of those who see to them.
+/// Calls of those who see to others that wait.
 trait BellCalls: AnyHand {
-    /// Lists the hand among those that wait, and returns 0.
-    fn list_self(&mut self, list: u32, turn: Turn) -> i32
-        requires { list < LISTS }
-        ensures { Self.changes (DoesListSelf list result) self.old self.new };
-
     /// Returns 1 if the hand was told, or does not wait there, and 0 if not.
     fn is_told(&mut self, list: u32) -> i32
         requires { list < LISTS }
         ensures { Self.changes (Answers result) self.old self.new };
 
-    /// Ends the hand's wait. Returns 1 if somebody had told it, or it did not wait there, and 0 if not.
-    fn get_up(&mut self, list: u32) -> i32
-        requires { list < LISTS }
-        ensures { Self.changes (DoesGetUp list result) self.old self.new };
-
     /// Sees to all that the hand has to see to, after it gave so many ordinary tags back, and fills in whom it told.
     fn see_to(&mut self, freed: u32, told: &mut ToldHands) -> i32
         ensures { Self.changes (DoesSeeTo freed told.new result) self.old self.new };
-
-    /// Sees to all that the hand has to see to, after it was told and got up, and fills in whom it told.
-    fn see_to_all(&mut self, told: &mut ToldHands) -> i32
-        ensures { Self.changes (DoesSeeToAll told.new result) self.old self.new };
 
     /// Returns the number of the hand, below 64.
     fn number(&mut self) -> i32
@@ -89,30 +59,13 @@ trait BellCalls: AnyHand {
 
 impl BellCalls for Member {
     #[inline(always)]
-    fn list_self(&mut self, list: u32, turn: Turn) -> i32 {
-        self.shared.tags.list_self(&mut self.hand, list, turn);
-        0
-    }
-
-    #[inline(always)]
     fn is_told(&mut self, list: u32) -> i32 {
-        answer_code(self.shared.tags.is_told(&self.hand, list))
-    }
-
-    #[inline(always)]
-    fn get_up(&mut self, list: u32) -> i32 {
-        answer_code(self.shared.tags.get_up(&mut self.hand, list))
+        i32::from(self.shared.tags.is_told(&self.hand, list))
     }
 
     #[inline(always)]
     fn see_to(&mut self, freed: u32, told: &mut ToldHands) -> i32 {
         *told = ToldHands::of(self.shared.tags.see_to(&mut self.hand, freed));
-        0
-    }
-
-    #[inline(always)]
-    fn see_to_all(&mut self, told: &mut ToldHands) -> i32 {
-        *told = ToldHands::of(self.shared.tags.see_to_all(&mut self.hand));
         0
     }
 
@@ -124,19 +77,8 @@ impl BellCalls for Member {
 
 impl BellCalls for CachedMember {
     #[inline(always)]
-    fn list_self(&mut self, list: u32, turn: Turn) -> i32 {
-        self.cache.list_self(&self.shared.tags, list, turn);
-        0
-    }
-
-    #[inline(always)]
     fn is_told(&mut self, list: u32) -> i32 {
-        answer_code(self.cache.is_told(&self.shared.tags, list))
-    }
-
-    #[inline(always)]
-    fn get_up(&mut self, list: u32) -> i32 {
-        answer_code(self.cache.get_up(&self.shared.tags, list))
+        i32::from(self.cache.is_told(&self.shared.tags, list))
     }
 
     #[inline(always)]
@@ -146,24 +88,9 @@ impl BellCalls for CachedMember {
     }
 
     #[inline(always)]
-    fn see_to_all(&mut self, told: &mut ToldHands) -> i32 {
-        *told = ToldHands::of(self.cache.see_to_all(&self.shared.tags));
-        0
-    }
-
-    #[inline(always)]
     fn number(&mut self) -> i32 {
         self.cache.number() as i32
     }
-}
-
-#[unsafe(no_mangle)]
-pub extern "C" fn tags_list_self(hand: &mut Handle, listens: u32, again: u32) -> i32
-    ensures { CallsBy (DoesListSelf (list_of listens) result) result hand.old.object.value hand.new.object.value }
-{
-    let list = list_of(listens);
-    let turn = turn_of(again);
-    on_hand!(hand.list_self(list, turn))
 }
 
 #[unsafe(no_mangle)]
@@ -175,27 +102,11 @@ pub extern "C" fn tags_is_told(hand: &mut Handle, listens: u32) -> i32
 }
 
 #[unsafe(no_mangle)]
-pub extern "C" fn tags_get_up(hand: &mut Handle, listens: u32) -> i32
-    ensures { CallsBy (DoesGetUp (list_of listens) result) result hand.old.object.value hand.new.object.value }
-{
-    let list = list_of(listens);
-    on_hand!(hand.get_up(list))
-}
-
-#[unsafe(no_mangle)]
 pub extern "C" fn tags_see_to(hand: &mut Handle, freed: u32, told: &mut ToldHands) -> i32
     ensures calls { CallsBy (DoesSeeTo freed told.new result) result hand.old.object.value hand.new.object.value }
     ensures kept { IsRefusal result → told.new ≡ told.old }
 {
     on_hand!(hand.see_to(freed, told))
-}
-
-#[unsafe(no_mangle)]
-pub extern "C" fn tags_see_to_all(hand: &mut Handle, told: &mut ToldHands) -> i32
-    ensures calls { CallsBy (DoesSeeToAll told.new result) result hand.old.object.value hand.new.object.value }
-    ensures kept { IsRefusal result → told.new ≡ told.old }
-{
-    on_hand!(hand.see_to_all(told))
 }
 
 #[unsafe(no_mangle)]

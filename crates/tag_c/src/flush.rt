@@ -9,7 +9,7 @@ use crate::member::Member;
 
 /// Calls that give kept tags back, of which a hand without a cache has none.
 trait FlushCalls: AnyHand {
-    /// Gives all kept tags back, and returns 0.
+    /// Gives all kept tags back, and returns how many they were.
     fn flush(&mut self) -> i32
         ensures { Self.changes (DoesFlush result) self.old self.new };
 
@@ -33,8 +33,7 @@ impl FlushCalls for Member {
 impl FlushCalls for CachedMember {
     #[inline(never)]
     fn flush(&mut self) -> i32 {
-        self.cache.flush_quietly(&self.shared.tags);
-        0
+        self.cache.flush_quietly(&self.shared.tags) as i32
     }
 
     #[inline(always)]

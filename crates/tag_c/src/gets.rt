@@ -3,7 +3,7 @@ ghost use Rattle.std.specs.Prelude.{◌≡◌};
 ghost use Rattle.tag_c.specs.declared.status.Status.TheVariants.{BadHandle};
 ghost use Rattle.tag_search.specs.declared.search.Unfinished.TheVariants.{Full, Lost};
 ghost use Rattle.tag_c.specs.Begun.{TriesFirst};
-ghost use Rattle.tag_c.specs.Calls.{HandCalls, CacheCalls, CallsBy, Through, DoesGet, DoesGetReserved, DoesGetShallow, DoesGetBatch};
+ghost use Rattle.tag_c.specs.Calls.{HandCalls, CacheCalls, CallsBy, Through, DoesGet, DoesGetExactly, DoesGetReserved, DoesGetShallow, DoesGetBatch};
 ghost use Rattle.tag_c.specs.Codes.{IsRefusal, code_of, code_of_get, code_of_found, code_of_found_batch};
 
 use crate::any_hand::{AnyHand, on_hand};
@@ -27,6 +27,10 @@ trait GetCalls: AnyHand {
     fn get_shallow(&mut self, depth: u32, left: &mut u64) -> i32
         ensures { Self.changes (Through (DoesGetShallow depth left.new) code_of_found result)
             self.old self.new };
+
+    /// Takes this tag, if it is free, and returns it.
+    fn get_exactly(&mut self, tag: u32, left: &mut u64) -> i32
+        ensures { Self.changes (Through (DoesGetExactly tag left.new) code_of_found result) self.old self.new };
 
     /// Takes up to `n` ordinary tags of one word, and returns the first tag of their run. Bit 0 of `won` becomes 1 if
     /// that tag was won, bit 1 if the next one was, and so on. If no tag was won, `won` keeps its value.
@@ -107,6 +111,12 @@ impl GetCalls for Member {
     }
 
     #[inline(always)]
+    fn get_exactly(&mut self, tag: u32, left: &mut u64) -> i32 {
+        let found = self.shared.tags.get_exactly_quietly(&mut self.hand, tag);
+        get_code(tell_left(found, left))
+    }
+
+    #[inline(always)]
     fn get_batch(&mut self, n: u32, won: &mut u64, left: &mut u64) -> i32 {
         let answer = tell_left(self.shared.tags.get_batch_quietly(&mut self.hand, n), left);
         if let Ok(Some((_, mask))) = answer {
@@ -151,6 +161,12 @@ impl GetCalls for CachedMember {
     }
 
     #[inline(never)]
+    fn get_exactly(&mut self, tag: u32, left: &mut u64) -> i32 {
+        let found = self.cache.get_exactly_quietly(&self.shared.tags, tag);
+        get_code(tell_left(found, left))
+    }
+
+    #[inline(never)]
     fn get_batch(&mut self, n: u32, won: &mut u64, left: &mut u64) -> i32 {
         let answer = tell_left(self.cache.get_batch_quietly(&self.shared.tags, n), left);
         if let Ok(Some((_, taken))) = answer {
@@ -186,6 +202,16 @@ pub extern "C" fn tags_get_shallow(hand: &mut Handle, depth: u32, left: &mut u64
 {
     *left = 0;
     on_hand!(hand.get_shallow(depth, left))
+}
+
+#[unsafe(no_mangle)]
+pub extern "C" fn tags_get_exactly(hand: &mut Handle, tag: u32, left: &mut u64) -> i32
+    ensures calls { CallsBy (Through (DoesGetExactly tag left.new) code_of_found result) result
+        hand.old.object.value hand.new.object.value }
+    ensures bad_handle { result ≡ code_of BadHandle → left.new ≡ 0 }
+{
+    *left = 0;
+    on_hand!(hand.get_exactly(tag, left))
 }
 
 #[unsafe(no_mangle)]

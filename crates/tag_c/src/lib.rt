@@ -23,6 +23,7 @@ mod pool_state;
 mod pools;
 mod reports;
 mod resizes;
+mod rounds;
 mod status;
 mod structs;
 mod values;

@@ -3,12 +3,12 @@ ghost use Rattle.std.specs.Prelude.{◌≡◌};
 ghost use Rattle.tag_c.specs.Exports.{options_of, sums_of, terms_of};
 
 use crate::cached::CacheTerms;
-use crate::structs::{ROUND_ROBIN, RequestedOptions, Sums, WHILE_HOLDING};
+use crate::structs::{BY_HANDS, ROUND_ROBIN, RequestedOptions, Sums, WHILE_HOLDING};
 use tag_cache::Keeping;
 use tag_pool::{MOST_WON, Options, Totals};
 
 /// Returns the options as `tag_pool` takes them. A negative shift and a `min_shallow` of 0 become `None`, and each hand
-/// may win as much as the limit allows.
+/// may win as much as the limit allows. The words are for the number of hands if the shift is `BY_HANDS`.
 pub(crate) fn read_options(requested: &RequestedOptions) -> Options
     ensures { result ≡ options_of requested.now }
 {
@@ -27,6 +27,7 @@ pub(crate) fn read_options(requested: &RequestedOptions) -> Options
         reserved: requested.reserved,
         hands: requested.hands,
         shift,
+        by_hands: requested.shift == BY_HANDS,
         round_robin: requested.flags == ROUND_ROBIN,
         min_shallow,
         life: MOST_WON,

@@ -6,6 +6,9 @@ pub const ROUND_ROBIN: u32 = 1;
 /// The number for hands that keep tags only while they hold another one. 0 stands for hands that keep them always.
 pub const WHILE_HOLDING: u32 = 1;
 
+/// The shift for words by the number of hands.
+pub const BY_HANDS: i32 = -1;
+
 /// The most tags that a hand may keep.
 pub const MAX_CACHE: u32 = u64::BITS;
 
@@ -17,7 +20,8 @@ pub struct RequestedOptions {
     pub total: u32,
     /// Number of reserved tags, at most `total`. They come first, from tag 0.
     pub reserved: u32,
-    /// Binary logarithm of the bits per word, at most `MAX_SHIFT`. A negative shift chooses the default for the depth.
+    /// Binary logarithm of the bits per word, at most `MAX_SHIFT`. A negative shift chooses the default for the depth:
+    /// `BY_HANDS` that for the number of hands, and any other the kernel's.
     pub shift: i32,
     /// The least depth that a shallow get may ask for. 0 allows any from 1.
     pub min_shallow: u32,

@@ -2,8 +2,8 @@
 use Rattle.std.specs.Prelude.{◌≡◌, ◌≤◌}
 use Rattle.tag_cache.proofs.Uses.{arith, Cache, CanBeKept, count_of, HasNoPlace, IsKept, IsLast, KeepsAlso, KeepsNone, KeepsOnly, reused_of, SameTerms, subst, sym, ℕ, ⊎_elim, ◌∙◌}
 use Rattle.tag_cache.proofs.Carrying.{terms_twice}
-use Rattle.tag_cache.proofs.Looking.{same_known}
-use Rattle.tag_cache.proofs.Moving.{can_also}
+use Rattle.tag_cache.proofs.SameWindows.{same_known}
+use Rattle.tag_cache.proofs.KeptInWindow.{can_also}
 use Rattle.tag_cache.proofs.Reusing.{no_count}
 
 -- the window stayed

@@ -7,11 +7,12 @@ pub mod Reusing
 pub mod Tallying
 pub mod Giving
 pub mod Going
-pub mod Moving
-pub mod Looking
+pub mod KeptInWindow
+pub mod SameWindows
 pub mod Answering
 pub mod Cautious
 pub mod Sleeping
+pub mod Winning
 pub mod Rested
 pub mod Waking
 pub mod Shifting
@@ -20,8 +21,9 @@ pub mod Steady
 pub mod Reporting
 pub mod Meetings
 pub mod Gaining
-pub mod Listing
-pub mod Passing
-pub mod Getting
+pub mod ClearedLists
+pub mod Posting
+pub mod HandGets
+pub mod ExactGets
 pub mod Joining
 pub mod Refused

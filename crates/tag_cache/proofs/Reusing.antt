@@ -1,7 +1,7 @@
 -- What a change of the kept tags is for the user of a cache, and what is known of known ones.
 use Rattle.std.specs.Prelude.{◌+◌, ◌<◌, ◌^◌, ◌↔◌, ◌≡◌, ◌≢◌, ◌≤◌, ◌⊎◌}
 use Rattle.tag_cache.proofs.Uses.{ap, arith, Cache, cases_lt, count_of, count_ones, dite, Hand, Holds, HoldsLess, HoldsMore, inl, inr, IsIn, IsKept, IsKnown, IsLast, IsTagIn, IsWithin, KeepsAlso, KeepsNone, KeepsWithCare, ones_le_self, Ordinary, ordinary_above, Pool, SameHand, subst, sym}
-use Rattle.tag_cache.proofs.Uses.{TakesLeast, trailing_zeros, w64, WhileHolding, ℕ, ℕ_discrete, ⊎_elim}
+use Rattle.tag_cache.proofs.Uses.{TakesKept, trailing_zeros, w64, WhileHolding, ℕ, ℕ_discrete, ⊎_elim}
 use Rattle.tag_pool.specs.Hands as hands
 use Rattle.tag_pool.specs.Holding as hand_holding
 use Rattle.tag_cache.specs.Caches.{split_of}
@@ -9,8 +9,8 @@ use Rattle.tag_cache.proofs.Below.{held_below}
 use Rattle.tag_cache.proofs.Windows.{below_end, emptied, none_else, none_in, some_in, least_in}
 
 module _ {R : Type 0} where
-  -- the least kept tag is the user's from then on
-  pub taken : (old new : Cache R) (tag : ℕ) → TakesLeast tag old new → HoldsMore (λ other. other ≡ tag) old new
+  -- a kept tag that is handed out is the user's from then on
+  pub taken : (old new : Cache R) (tag : ℕ) → TakesKept tag old new → HoldsMore (λ other. other ≡ tag) old new
   taken old new tag p = record {
     fresh = λ other e h. h.1 (subst (λ (t : ℕ). IsKept old t) (sym e) p.was);
     joined = λ other e. (
@@ -44,7 +44,7 @@ module _ {R : Type 0} where
 
   -- the tag that is handed out again is an ordinary one
   pub reuse_ordinary : (pool : Pool R) (old new : Cache R) (tag : ℕ) → hands.IsHandOf pool old.hand
-      → TakesLeast tag old new → IsTagIn pool Ordinary tag
+      → TakesKept tag old new → IsTagIn pool Ordinary tag
   reuse_ordinary pool old new tag own p = let mine = old.own tag p.was in (
     held_below pool old.hand tag own mine.0,
     (ordinary_above (hands.reserved_of pool) tag (subst (λ (s : ℕ). s ≤ tag) own.2 mine.1)).kind,

@@ -30,25 +30,26 @@ module _ {R : Type 0} where
       (λ c d (l : side.SeesTo limit most told c d). adds_rests _ c d l.tells.only) x
 
   module _ (pool : Pool R) where
-    sleep_moves : (a b : Hand R) → hands.MaySleepNow pool SLEEPERS a b → Moves 0 0 a b
-    sleep_moves a b s = moves_then 0 0 a s.listed b (lists_moves SLEEPERS a s.listed s.lists)
+    pub sleep_moves : (list : ℕ) (a b : Hand R) → hands.MaySleepNow pool list a b → Moves 0 0 a b
+    sleep_moves list a b s = moves_then 0 0 a s.listed b (lists_moves list a s.listed s.lists)
         (gets_moves pool Ordinary None s.listed b s.none)
 
     sleeps_moves : (sleeps : ℕ) (a b : Hand R) → hands.AreSleeps sleeps pool a b → Moves 0 0 a b
     sleeps_moves zero a b same = (rests_unchanged a b same).moves
     sleeps_moves (suc sleeps) a b slept = moves_then 0 0 a slept.0 b (sleeps_moves sleeps a slept.0 slept.1)
-        (sleep_moves slept.0 b slept.2)
+        (sleep_moves SLEEPERS slept.0 b slept.2)
 
-    ends_moves : (told : Told) (a b : Hand R) → hands.EndsWait pool SLEEPERS told a b → Moves 0 0 a b
-    ends_moves told a b e = moves_then 0 0 a e.risen b
-        (moves_in Ordinary 0 0 _ a e.risen (λ c d (l : bell.GetsUp SLEEPERS e.was_told c d). adds_rests _ c d l.step.1)
+    ends_moves : (list : ℕ) (told : Told) (a b : Hand R) → hands.EndsWait pool list told a b → Moves 0 0 a b
+    ends_moves list told a b e = moves_then 0 0 a e.risen b
+        (moves_in Ordinary 0 0 _ a e.risen (λ c d (l : bell.GetsUp list e.was_told c d). adds_rests _ c d l.step.1)
         e.gets_up)
         (sees_moves 1 _ told e.risen b e.sees.set)
 
-    round_moves : (tag : ℕ) (told : Told) (a b : Hand R) → hands.WinsRound pool SLEEPERS tag told a b → Moves 1 0 a b
-    round_moves tag told a b w = moves_then 0 1 a w.listed b (lists_moves SLEEPERS a w.listed w.lists)
+    pub round_moves : (list tag : ℕ) (told : Told) (a b : Hand R) → hands.WinsRound pool list tag told a b
+        → Moves 1 0 a b
+    round_moves list tag told a b w = moves_then 0 1 a w.listed b (lists_moves list a w.listed w.lists)
         (moves_then 1 0 w.listed w.won b (gets_moves pool Ordinary (Some tag) w.listed w.won w.wins)
-        (ends_moves told w.won b w.ends))
+        (ends_moves list told w.won b w.ends))
 
     wins_moves : (tag : ℕ) (told : Told) (a b : Hand R)
         → hands.WinsAtOnce pool (Some tag) told a b ⊎ hands.SleepsForOne pool ⊥ (Some tag) told a b → Moves 1 0 a b
@@ -57,7 +58,7 @@ module _ {R : Type 0} where
     wins_moves tag told a b (inr s) = let w = s.sleeps in
         moves_then 0 1 a s.tried b (gets_moves pool Ordinary None a s.tried s.none)
         (moves_then 0 1 s.tried w.last b (sleeps_moves w.sleeps s.tried w.last w.slept)
-        (round_moves tag told w.last b w.ends))
+        (round_moves SLEEPERS tag told w.last b w.ends))
 
     blocking_moves : (tag : ℕ) (woken : Woken) (a b : Hand R) → hands.GetsBlocking pool tag woken a b → Moves 1 0 a b
     blocking_moves tag woken a b g = moves_then 1 0 a g.got b (wins_moves tag (told_by woken) a g.got g.gets.how)
@@ -100,10 +101,10 @@ module _ {R : Type 0} (pool : Pool R) (old new : Cache R) where
   pub kept_got : (tag : ℕ) (woken : Woken) → IsHandOf pool old.hand → Reuses tag old new → told_by woken ≡ nobody
       → Tallies 1 0 old new → GetsBlocking pool tag woken old new
   kept_got tag woken own r none tally = record {
-    more = taken old new tag r.takes;
-    ordinary = reuse_ordinary pool old new tag own r.takes;
+    more = taken old new tag r.hands_out.takes;
+    ordinary = reuse_ordinary pool old new tag own r.hands_out.takes;
     source = inl (record { reuses = r; none = none });
-    owes = λ list low owed. subst (λ (h : Hand R). callers.OwesNothing list (caller_of h Ordinary)) (sym r.takes.hand) owed;
-    knows = r.learns;
+    owes = λ list low owed. subst (λ (h : Hand R). callers.OwesNothing list (caller_of h Ordinary)) (sym r.hands_out.takes.hand) owed;
+    knows = r.hands_out.learns;
     tally = tally;
   }

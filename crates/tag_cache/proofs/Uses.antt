@@ -47,7 +47,7 @@ pub use Rattle.tag_pool.specs.declared.side.Side.{Side}
 pub use Rattle.tag_cache.specs.Batches.{answered_run, AreHeldOnce, AreLast, GivesKeptAndList, GoesOn, LeavesNone, ListGoes, ListGoesAlone}
 pub use Rattle.tag_cache.specs.Bell.{FindsNobody, LooksForWaiters, SeesTo, TellsWithKept}
 pub use Rattle.tag_cache.specs.Caches.{CanBeKept, count_of, HasNoPlace, Holds, IsCacheOf, IsFixed, IsKept, IsKnown, IsLast, IsWithin, keeping_of, KeepsNone, KeepsWithCare, kept_tags, LeavesWindow, reused_of}
-pub use Rattle.tag_cache.specs.Changes.{Forgets, IsUnchanged, KeepsAlso, KeepsOnly, KeepsSame, KnowsLess, KnowsNoneOf, Learns, Reuses, SameHand, SameTerms, SameWindow, TakesLeast}
+pub use Rattle.tag_cache.specs.Changes.{Forgets, HandsOut, IsUnchanged, KeepsAlso, KeepsOnly, KeepsSame, KnowsLess, KnowsNoneOf, Learns, Reuses, SameHand, SameTerms, SameWindow, TakesKept}
 pub use Rattle.tag_cache.specs.Clears.{CallsFor, GivesAlone, GivesKept, GivesList, GivesOne, GivesWith, Goes, GoesBy, GoesOrdinary}
 pub use Rattle.tag_cache.specs.Gets.{Gets, GetsAndLooks, GetsBy}
 pub use Rattle.tag_cache.specs.Holding.{HoldsLess, HoldsMore, HoldsSame, IsLeftWith, Writes}

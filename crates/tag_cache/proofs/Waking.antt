@@ -6,7 +6,7 @@ use Rattle.tag_model.proofs.HoldingFacts.{same_itself, same_then_same}
 use Rattle.tag_pool.specs.Sides as side
 use Rattle.tag_pool.proofs.Lifting as lifting
 use Rattle.tag_cache.proofs.Carrying.{none_after, terms_twice}
-use Rattle.tag_cache.proofs.Looking.{window_twice}
+use Rattle.tag_cache.proofs.SameWindows.{window_twice}
 use Rattle.tag_cache.proofs.Steady.{Rests}
 use Rattle.tag_cache.proofs.Tallying.{moves_in, record_rests, tallies_on}
 

@@ -60,20 +60,24 @@ pub record Forgets {R : Type 0} (tag : ℕ) (old new : Cache R) : Type 0 where
   pub same : SameHand old new
   pub knows : KnowsLess tag old new
 
--- the least kept tag is kept no more
-pub record TakesLeast {R : Type 0} (tag : ℕ) (old new : Cache R) : Type 0 where
+-- this kept tag is kept no more
+pub record TakesKept {R : Type 0} (tag : ℕ) (old new : Cache R) : Type 0 where
   pub hand : hand_of new ≡ hand_of old
   pub terms : SameTerms old new
   pub was : IsKept old tag
-  pub least : (other : ℕ) → IsKept old other → tag ≤ other
   pub left : (other : ℕ) → IsKept new other ↔ (IsKept old other × other ≢ tag)
   pub fewer : count_of old ≡ count_of new + 1
 
--- the least kept tag is kept no more, but handed to the user, once more than before
-pub record Reuses {R : Type 0} (tag : ℕ) (old new : Cache R) : Type 0 where
-  pub takes : TakesLeast tag old new
+-- this kept tag is kept no more, but handed to the user, once more than before
+pub record HandsOut {R : Type 0} (tag : ℕ) (old new : Cache R) : Type 0 where
+  pub takes : TakesKept tag old new
   pub learns : Learns tag old new
   pub reused : reused_of new ≡ reused_of old + 1
+
+-- the same of the least kept tag
+pub record Reuses {R : Type 0} (tag : ℕ) (old new : Cache R) : Type 0 where
+  pub hands_out : HandsOut tag old new
+  pub least : (other : ℕ) → IsKept old other → tag ≤ other
 
 -- this tag is kept besides the others, on the same terms, and none was handed out again
 pub record KeepsAlso {R : Type 0} (tag : ℕ) (old new : Cache R) : Type 0 where

@@ -1,6 +1,7 @@
 mod Uses
 pub mod Bell
 pub mod Sleeping
+pub mod Waits
 pub mod Telling
 pub mod Windows
 pub mod Refusals
@@ -10,6 +11,7 @@ pub mod Changes
 pub mod Holding
 pub mod Tallies
 pub mod Gets
+pub mod Exact
 pub mod Clears
 pub mod Same
 pub mod Slots

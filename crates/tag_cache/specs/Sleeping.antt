@@ -10,7 +10,7 @@ use Rattle.tag_cache.specs.Holding.{HoldsMore}
 use Rattle.tag_cache.specs.Tallies.{Tallies}
 
 -- the tag is the least kept one, by no step, and nobody was told
-pub record TakesKept {R : Type 0} (tag : ℕ) (woken : Woken) (old new : Cache R) : Type 0 where
+pub record FromKept {R : Type 0} (tag : ℕ) (woken : Woken) (old new : Cache R) : Type 0 where
   pub reuses : Reuses tag old new
   pub none : told_by woken ≡ nobody
 
@@ -26,7 +26,7 @@ pub record FromWaiting {R : Type 0} (pool : Pool R) (tag : ℕ) (woken : Woken) 
 pub record GetsBlocking {R : Type 0} (pool : Pool R) (tag : ℕ) (woken : Woken) (old new : Cache R) : Type 0 where
   pub more : HoldsMore (λ other. other ≡ tag) old new
   pub ordinary : IsTagIn pool Ordinary tag
-  pub source : TakesKept tag woken old new ⊎ FromWaiting pool tag woken old new
+  pub source : FromKept tag woken old new ⊎ FromWaiting pool tag woken old new
   pub owes : (list : ℕ) → list < LISTS → OwesNoMore list (caller_of (hand_of old) Ordinary) (caller_of (hand_of new) Ordinary)
   pub knows : Learns tag old new
   pub tally : Tallies 1 0 old new

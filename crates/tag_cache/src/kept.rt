@@ -1,7 +1,7 @@
 //! Which tags are kept.
 ghost use Rattle.std.specs.Prelude.{◌≡◌, ◌+◌, ◌<◌, ◌≤◌, ◌^◌, ◌↔◌, IsTrue, IsFalse};
 ghost use Rattle.tag_cache.specs.Caches.{IsKept, IsLast, HasPlace, HasNoPlace, KeepsNone, KeepsWithCare, LeavesWindow, CanBeKept, Holds, most_of, count_of, split_of, hand_of};
-ghost use Rattle.tag_cache.specs.Changes.{Reuses, Keeps, KeepsAlso, KnowsLess};
+ghost use Rattle.tag_cache.specs.Changes.{HandsOut, Reuses, Keeps, KeepsAlso, KnowsLess};
 
 use crate::cache::{Cache, MOST_REUSED, WINDOW};
 use crate::keeping::Keeping;
@@ -53,11 +53,31 @@ impl<R> Cache<R> {
         ensures { Reuses result self.old self.new }
     {
         let place = self.kept.trailing_zeros();
-        self.kept &= !(1 << place);
-        self.known |= 1 << place;
+        let tag = self.first + place;
+        self.hand_out_at(tag, place);
+        tag
+    }
+
+    /// Hands a kept tag to the user.
+    pub(crate) fn hand_out(&mut self, tag: u32)
+        requires { IsKept self.old tag }
+        ensures { HandsOut tag self.old self.new }
+    {
+        let offset = self.offset(tag);
+        self.hand_out_at(tag, offset);
+    }
+
+    /// Hands a kept tag to the user, this far behind the first tag of the window.
+    #[inline(always)]
+    fn hand_out_at(&mut self, tag: u32, offset: u32)
+        requires kept { IsKept self.old tag }
+        requires offset { (self.old.first + offset ≡ tag) × (offset < 64) }
+        ensures { HandsOut tag self.old self.new }
+    {
+        self.kept &= !(1 << offset);
+        self.known |= 1 << offset;
         self.room += 1;
         self.reused += 1;
-        self.first + place
     }
 
     /// Returns whether the tag may be kept where no other is.

@@ -34,16 +34,26 @@ word_depth l word = min (word_bits l) (l.depth - word * word_bits l)
 abbrev pub IsWithin : Layout → ℕ → ℕ → Type 0
 IsWithin l word mask = mask < 2 ^ word_depth l word
 
--- the greatest shift up to 6 with which there are four whole words, and 6 where there are fewer than four tags
-pub record IsDefaultShift (depth shift : ℕ) : Type 0 where
+-- the greatest shift up to 6 with which there are as many whole words as hands, and at least four; 0 where there are fewer
+-- tags than hands, and 6 where there are fewer than four
+pub record IsShiftByHands (depth hands shift : ℕ) : Type 0 where
   pub within : shift ≤ 6
-  pub four_words : 4 ≤ depth → 4 * 2 ^ shift ≤ depth
-  pub greatest : 4 ≤ depth → (other : ℕ) → other ≤ 6 → 4 * 2 ^ other ≤ depth → other ≤ shift
+  pub enough : max hands 4 ≤ depth → max hands 4 * 2 ^ shift ≤ depth
+  pub greatest : 4 ≤ depth → (other : ℕ) → other ≤ 6 → max hands 4 * 2 ^ other ≤ depth → other ≤ shift
+  pub none : 4 ≤ depth → depth < hands → shift ≡ 0
   pub few : depth < 4 → shift ≡ 6
+
+-- the shift by the kernel's rule, which asks for four whole words whatever the number of hands
+abbrev pub IsDefaultShift : ℕ → ℕ → Type 0
+IsDefaultShift depth shift = IsShiftByHands depth 4 shift
+
+-- the shift that was asked for, or the default one for so many hands
+abbrev pub HasShiftByHands : ℕ → ℕ → Option ℕ → ℕ → Type 0
+HasShiftByHands depth hands asked shift = MatchOption asked (IsShiftByHands depth hands shift) (λ s. shift ≡ s)
 
 -- the shift that was asked for, or the default one
 abbrev pub HasShift : ℕ → Option ℕ → ℕ → Type 0
-HasShift depth asked shift = MatchOption asked (IsDefaultShift depth shift) (λ s. shift ≡ s)
+HasShift depth asked shift = HasShiftByHands depth 4 asked shift
 
 -- the part of a shallow depth that falls to the first tags, rounded down
 abbrev pub share : Layout → ℕ → ℕ → ℕ

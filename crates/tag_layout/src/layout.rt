@@ -3,7 +3,7 @@ ghost use Rattle.std.specs.Prelude.{◌≡◌, ◌≢◌, ◌↔◌, [], ◌∷�
 ghost use Rattle.std.specs.Int.{bit_at};
 ghost use Rattle.sums.specs.Below.{sum_below};
 ghost use Rattle.refusals.specs.Refusals.{RefusesBy};
-ghost use Rattle.tag_layout.specs.Layout.{word_bits, words, word_of, place_of, tag_at, word_depth, HasShift, IsDefaultShift};
+ghost use Rattle.tag_layout.specs.Layout.{word_bits, words, word_of, place_of, tag_at, word_depth, HasShift, HasShiftByHands, IsDefaultShift, IsShiftByHands};
 
 use std::marker::Model;
 
@@ -56,12 +56,23 @@ impl Layout {
         ensures refusals { RefusesBy ((depth ≤ MAX_DEPTH, LayoutFault.DepthTooLarge)
             ∷ (IfSome shift (λ s. s ≤ MAX_SHIFT), LayoutFault.ShiftTooLarge) ∷ []) ⊤ result }
     {
+        Layout::by_hands(depth, 4, shift)
+    }
+
+    /// As `new`, but without a shift the words are of the number that `shift_by_hands` gives.
+    pub fn by_hands(depth: u32, hands: u32, shift: Option<u32>) -> Result<Layout, LayoutFault>
+        ensures depth { IfOk result (λ l. l.depth ≡ depth) }
+        ensures shift { IfOk result (λ l. HasShiftByHands depth hands shift l.shift) }
+
+        ensures refusals { RefusesBy ((depth ≤ MAX_DEPTH, LayoutFault.DepthTooLarge)
+            ∷ (IfSome shift (λ s. s ≤ MAX_SHIFT), LayoutFault.ShiftTooLarge) ∷ []) ⊤ result }
+    {
         if depth > MAX_DEPTH {
             return Err(LayoutFault::DepthTooLarge);
         }
         let shift = match shift {
             Some(wanted) => wanted,
-            None => Layout::default_shift(depth),
+            None => Layout::shift_by_hands(depth, hands),
         };
         if shift > MAX_SHIFT {
             return Err(LayoutFault::ShiftTooLarge);
@@ -69,15 +80,25 @@ impl Layout {
         Ok(Layout { depth, shift })
     }
 
-    /// The default shift: the greatest one, up to 6, with which the map has at least four whole words, and 6 below four
-    /// tags, as `sbitmap_calculate_shift` (lib/sbitmap.c) computes it.
+    /// The default shift by the kernel's rule: the greatest one, up to 6, with which the map has at least four whole
+    /// words, and 6 below four tags, as `sbitmap_calculate_shift` (lib/sbitmap.c) computes it.
     pub fn default_shift(depth: u32) -> u32
         ensures { IsDefaultShift depth result }
+    {
+        Layout::shift_by_hands(depth, 4)
+    }
+
+    /// The default shift for so many hands: the greatest one, up to 6, with which the map has as many whole words as hands,
+    /// and at least four. It is 0 with fewer tags than hands, and 6 below four tags. So threads seldom share a word,
+    /// and it is `default_shift` while there are 64 tags for each hand.
+    pub fn shift_by_hands(depth: u32, hands: u32) -> u32
+        ensures { IsShiftByHands depth hands result }
     {
         if depth < 4 {
             return MAX_SHIFT;
         }
-        (depth >> 2).ilog2().min(MAX_SHIFT)
+        let tags = (depth / hands.max(4)).max(1);
+        tags.ilog2().min(MAX_SHIFT)
     }
 
     /// Number of tags.

@@ -5,6 +5,7 @@ pub mod Lifting
 pub mod Passing
 pub mod AfterWaking
 pub mod Getting
+pub mod ExactGets
 pub mod FirstTry
 pub mod WaitsKeep
 pub mod Fronts
@@ -27,7 +28,7 @@ pub mod Sizes
 pub mod Marking
 pub mod Tallies
 pub mod Around
-pub mod Listing
+pub mod BusyBits
 pub mod Writings
 pub mod Dumped
 pub mod Gathered

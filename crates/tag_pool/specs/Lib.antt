@@ -10,6 +10,7 @@ pub mod Masks
 pub mod Lists
 pub mod Refusals
 pub mod Gets
+pub mod Exact
 pub mod FirstTry
 pub mod Waits
 pub mod Slots

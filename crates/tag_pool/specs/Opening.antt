@@ -1,6 +1,6 @@
 -- A new pool, and its hands.
-use Rattle.std.specs.Prelude.{◌+◌, ◌-◌, ◌≡◌}
-use Rattle.tag_pool.specs.Uses.{All, Caller, get_elem?, HasShift, Hint, Layout, length, List, Map, map, max, some, unwrap_or, ℕ}
+use Rattle.std.specs.Prelude.{if◌then◌else◌, ◌+◌, ◌-◌, ◌≡◌}
+use Rattle.tag_pool.specs.Uses.{All, Caller, get_elem?, HasShiftByHands, Hint, Layout, length, List, Map, map, max, some, unwrap_or, ℕ}
 use Rattle.tag_core.specs.Callers as core
 use Rattle.tag_core.specs.Opening.{IsNew, AreNew}
 use Rattle.tag_pool.specs.declared.hand.Hand.{Hand}
@@ -38,13 +38,21 @@ pub record AreParts {R : Type 0} (count : ℕ) (reserved ordinary : List (Caller
   pub ordinary_are : map ordinary_part hands ≡ ordinary
   pub split : All (IsSplitAt count) hands
 
+-- the hands that the default shift is for: those of the options or, by the kernel's rule, four
+abbrev pub counted_hands : Options → ℕ
+counted_hands options = if options.by_hands then options.hands else 4
+
+-- a set of this depth has the shift of the options or, without one, the default for this depth and the number of hands
+abbrev pub HasShiftOf : Options → ℕ → ℕ → Type 0
+HasShiftOf options depth shift = HasShiftByHands depth (counted_hands options) options.shift shift
+
 -- the reserved tags have the first layout, and the ordinary ones, which are the rest, the other: each has the shift of the
 -- options or, without one, the default for its own depth
 pub record AreLaidOut (options : Options) (first rest : Layout) : Type 0 where
   pub first_depth : first.depth ≡ options.reserved
   pub depths : first.depth + rest.depth ≡ options.depth
-  pub first_shift : HasShift options.reserved options.shift first.shift
-  pub rest_shift : HasShift (options.depth - options.reserved) options.shift rest.shift
+  pub first_shift : HasShiftOf options options.reserved first.shift
+  pub rest_shift : HasShiftOf options (options.depth - options.reserved) rest.shift
 
 -- a map of the options' hands and life, and its callers, in the order of their numbers, which have made no step
 pub record IsNewSet {R : Type 0} (options : Options) (set : Map R) (all : List (Caller R)) : Type 0 where

@@ -14,6 +14,7 @@ use Rattle.tag_pool.specs.Hands.{HasRoom, hint_of, Holds, layout_of, least_of, r
 use Rattle.tag_pool.specs.Lists.{AreOrdinary, AreHeldOnce}
 use Rattle.tag_pool.specs.Masks.{tags_in}
 use Rattle.tag_pool.specs.Runs.{CountsTags}
+use Rattle.tag_pool.specs.Sets.{kind_of}
 
 -- an open
 abbrev pub open_checks : Options → Checks OpenFault
@@ -47,6 +48,10 @@ blocking_checks pool hand = (reserved_of pool < total_of pool, NoSuchTag) ∷ (H
 -- a get of a reserved tag
 abbrev pub reserved_checks : {R : Type 0} → Pool R → Hand R → Checks TagFault
 reserved_checks pool hand = (1 ≤ reserved_of pool, NoReserved) ∷ (HasRoom hand Reserved 1, Spent) ∷ []
+
+-- a get of this tag
+abbrev pub exact_checks : {R : Type 0} → Pool R → ℕ → Hand R → Checks TagFault
+exact_checks pool tag hand = (tag < total_of pool, NoSuchTag) ∷ (HasRoom hand (kind_of (reserved_of pool) tag) 1, Spent) ∷ []
 
 -- a call on a tag
 abbrev pub number_checks : {R : Type 0} → Pool R → ℕ → Checks TagFault

@@ -6,6 +6,7 @@ use Rattle.tag_core.specs.Callers as core
 use Rattle.tag_core.specs.Holding as callers
 use Rattle.tag_search.specs.Alone.{IsAlone, Chooses, ChoosesRun}
 use Rattle.tag_search.specs.Batch.{IsBatchGet}
+use Rattle.tag_search.specs.Exact.{IsExactGet, visits_at}
 use Rattle.tag_search.specs.Gains.{Gains, GainsRun}
 use Rattle.tag_search.specs.Gets.{IsGet}
 use Rattle.tag_search.specs.Hints.{reduced}
@@ -153,6 +154,14 @@ pub record GetsBatch {R : Type 0} (l : Layout) (n : ℕ) (answer : Option (ℕ �
   pub alone : IsAlone (caller_of old)
       → ChoosesRun l n (word_of l (reduced l.depth (hint_of old).at)) answer (caller_of old) (caller_of new)
   pub hint : BatchFollows l.depth n (hint_of old) (hint_of new) answer
+
+-- a get of the tag with this number: it is gained, or nothing is, by a lawful visit of its place alone; if the caller is the
+-- only one, the answer is the choice. The next get starts where it would have
+pub record GetsExactly {R : Type 0} (l : Layout) (tag : ℕ) (answer : Option ℕ) (old new : Side R) : Type 0 where
+  pub gains : Gains l answer (caller_of old) (caller_of new)
+  pub steps : Makes (caller_of old) (caller_of new) (IsExactGet l tag answer)
+  pub alone : IsAlone (caller_of old) → Chooses l (visits_at l tag) answer (caller_of old) (caller_of new)
+  pub hint : hint_of new ≡ hint_of old
 
 -- the count is one that a batch can have, 1 to the bits of a word
 abbrev pub CountsBatch : Layout → ℕ → Type 0

@@ -4,7 +4,7 @@ pub use Rattle.std.specs.Prelude.{[], All, AllPairs, Bool, cond, Contains, count
 pub use mathlib.Core.Option.{some}
 pub use lib.ListN.{get_elem?}
 pub use Rattle.refusals.specs.Refusals.{Checks, RefusesBy}
-pub use Rattle.tag_layout.specs.Layout.{HasShift, Layout, place_of, word_bits, word_of, words}
+pub use Rattle.tag_layout.specs.Layout.{HasShiftByHands, Layout, place_of, word_bits, word_of, words}
 pub use Rattle.tag_layout.specs.declared.layout.TheConstants.{MAX_DEPTH, MAX_SHIFT}
 pub use Rattle.tag_model.specs.declared.world.TheConstants.{MAX_CALLERS, MOST_WON}
 pub use Rattle.tag_core.specs.Callers.{Adds, record_of, SameMap}

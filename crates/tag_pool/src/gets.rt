@@ -15,6 +15,7 @@ use tag_bell::Woken;
 use tag_search::Found;
 
 mod blocking;
+mod exact;
 mod quietly;
 pub(crate) mod rounds;
 

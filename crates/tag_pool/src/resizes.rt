@@ -14,6 +14,7 @@ use step_ledger::{GatherCause, all_there};
 use tag_layout::{Layout, MAX_DEPTH};
 use thiserror::Error;
 
+mod checks;
 mod next_map;
 mod reopens;
 mod shells;

@@ -52,8 +52,9 @@ impl<R: Copy> Side<R> {
     ghost use Rattle.std.specs.Prelude.{◌≡◌, ◌↔◌, ◌+◌, ◌<◌, ◌≤◌, ◌⊎◌, false, IsOk, IfOk, IsTrue, IsFalse, None, Ok, OnErr};
     ghost use mathlib.Core.Option.{some};
     ghost use Rattle.tag_core.specs.Callers.{layout_of, record_of};
+    ghost use Rattle.tag_search.specs.Exact.{most_exact_steps};
     ghost use Rattle.tag_search.specs.Freed.{left_free};
-    ghost use Rattle.tag_pool.specs.Sides.{caller_of, CountsBatch, GetsBatch, GetsPlain, GetsShallow, HasRoom, hint_of, Holds, HoldsSame, IsPlaced, IsSideOf, Misses, most_steps, number_of, Posts, Puts, slot_of, step_count, Takes, Writes};
+    ghost use Rattle.tag_pool.specs.Sides.{caller_of, CountsBatch, GetsBatch, GetsExactly, GetsPlain, GetsShallow, HasRoom, hint_of, Holds, HoldsSame, IsPlaced, IsSideOf, Misses, most_steps, number_of, Posts, Puts, slot_of, step_count, Takes, Writes};
     ghost use Rattle.std.specs.Prelude.{◌∷◌, []};
     ghost use Rattle.tag_layout.specs.Layout.{words};
     ghost use Rattle.tag_pool.specs.Looks.{MakesLooks, FindsHeld, looks_from};
@@ -168,6 +169,21 @@ impl<R: Copy> Side<R> {
         ensures err { OnErr result (self.new ≡ self.old) }
     {
         on_map::get_shallow(map, &mut self.caller, &mut self.hint, depth)
+    }
+
+    /// Takes the tag with this number, if it is free, and no other.
+    #[inline(always)]
+    pub(crate) fn get_exactly(&mut self, map: &Map<R>, tag: u32) -> Result<Found<u32>, Spent>
+        requires side { IsSideOf map.now self.old }
+        requires within { tag < (layout_of map.now).depth }
+        ensures side { IsSideOf map.now self.new × (number_of self.new ≡ number_of self.old) }
+        ensures room { IsOk result ↔ HasRoom self.old 1 }
+        ensures gets { IfOk result (λ found. GetsExactly (layout_of map.now) tag found.answer self.old self.new) }
+        ensures left { IfOk result (λ found. found.left ≡ left_free (caller_of self.old) (caller_of self.new)) }
+        ensures bound { step_count self.new ≤ most_exact_steps + step_count self.old }
+        ensures err { OnErr result (self.new ≡ self.old) }
+    {
+        on_map::get_exactly(map, &mut self.caller, tag)
     }
 
     /// Takes up to `n` free tags of a run, of which it returns the first and the mask of those won. Under round robin it

@@ -1,7 +1,7 @@
--- Whom the steps of an agent granted a wakeup, unrung: a look at the active count grants none, and neither do steps on the
+-- Whom the steps of a hand granted a wakeup, unrung: a look at the active count grants none, and neither do steps on the
 -- map.
 use Rattle.std.specs.Prelude.{◌∷◌, ◌≡◌}
-use Rattle.tag_queue.proofs.Uses.{active_at, Agent, ap, arith, batch_of, book_steps, cap_of, ChargesNow, Follows, get_or-replicate, GrantsUnrung, group_steps, GroupStep, IsCharge, List, Look, moved_by, Queue, refl, RingsNobody, SameCounts, slice_index, StandsAsBefore, steps_of, subst, sym, Teller}
+use Rattle.tag_queue.proofs.Uses.{active_at, QueueHand, ap, arith, batch_of, book_steps, cap_of, ChargesNow, Follows, get_or-replicate, GrantsUnrung, group_steps, GroupStep, IsCharge, List, Look, moved_by, Queue, refl, RingsNobody, SameCounts, slice_index, StandsAsBefore, steps_of, subst, sym, Teller}
 use Rattle.tag_queue.proofs.Uses.{teller_of, total, Waiter, waiter_of, ℕ, ◌∙◌}
 use Rattle.wake_book.specs.declared.grants.Grants.{Grants}
 use Rattle.wake_book.specs.declared.grants.TheConstants.{NO_GRANTS}
@@ -56,12 +56,12 @@ granted_since grants before old new none made = record {
 
 module _ {R : Type 0} where
   -- what holds of the waiter after steps on the map alone holds of it before them
-  pub told_after : (told : Waiter → Type 0) (old new : Agent R) → SameCounts old new → told (waiter_of new)
+  pub told_after : (told : Waiter → Type 0) (old new : QueueHand R) → SameCounts old new → told (waiter_of new)
       → told (waiter_of old)
   told_after told old new same = subst told same.1
 
   -- a charge is as lawful as it was once its grants are passed on, by no step
-  pub charges_told : (queue : Queue R) (n : ℕ) (old mid new : Agent R) (woken told : ℕ) → told ≡ woken
+  pub charges_told : (queue : Queue R) (n : ℕ) (old mid new : QueueHand R) (woken told : ℕ) → told ≡ woken
       → ChargesNow queue n old mid woken → group_steps new ≡ group_steps mid
       → StandsAsBefore (waiter_of mid) (waiter_of new) → teller_of new ≡ teller_of mid → ChargesNow queue n old new told
   charges_told queue n old mid new woken told same c steps stands teller = subst (ChargesNow queue n old new) (sym same)

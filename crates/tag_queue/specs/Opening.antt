@@ -1,57 +1,53 @@
--- A new queue, and its agents.
-use Rattle.std.specs.Prelude.{◌^◌, ◌≡◌, ◌≤◌}
-use Rattle.tag_queue.specs.Uses.{All, AreOpenGroups, Bool, HasShift, Hint, IsOpenBook, Layout, List, map, max, MAX_CALLERS, MOST_WON, unwrap_or, wake_batch, ℕ}
-use Rattle.tag_core.specs.Opening.{IsNew, AreNew}
-use Rattle.tag_queue.specs.declared.agent.Agent.{Agent}
-use Rattle.tag_queue.specs.declared.queue.Options.{Options}
+-- A new queue, and its hands.
+use Rattle.std.specs.Prelude.{◌≡◌, ◌≤◌}
+use Rattle.tag_queue.specs.Uses.{[], All, get_elem?, Hand, length, List, Ordinary, Pool, some, ℕ}
+use Rattle.tag_layout.specs.Layout.{wake_batch}
+use Rattle.tag_core.specs.Callers.{record_of}
+use Rattle.tag_pool.specs.Hands as pool
+use Rattle.tag_pool.specs.Opening as pool_opening
+use Rattle.tag_pool.specs.declared.options.Options.{Options}
+use Rattle.wake_book.specs.Book.{IsOpenBook}
+use Rattle.wake_book.specs.Groups.{AreOpenGroups}
+use Rattle.tag_queue.specs.declared.hand.QueueHand.{QueueHand}
 use Rattle.tag_queue.specs.declared.queue.Queue.{Queue}
-use Rattle.tag_queue.specs.Agents.{caller_of, teller_of, waiter_of, hint_of, layout_of, least_of, min_shallow_of, waits_of, IsAgentOf}
-use Rattle.tag_queue.specs.Parts.{HasHint}
-use Rattle.tag_queue.specs.Placing.{hint_in_part}
+use Rattle.tag_queue.specs.Hands.{all_in_pool, IsHandOf, in_pool, min_shallow_of, number_of, pool_of, tellers_of, waiters_of}
 
--- the layout has this depth, and the shift of the options or, without one, the default for the depth
-abbrev pub IsLaidOut : ℕ → Options → Layout → Type 0
-IsLaidOut depth options layout = (layout.depth ≡ depth) × HasShift depth options.shift layout.shift
+-- the book and the groups are new, as the options and the cap say, and the hands are theirs
+pub record HasCounts {R : Type 0} (options : Options) (cap : ℕ) (queue : Queue R) (hands : List (QueueHand R)) : Type 0
+  where
+    pub book : IsOpenBook (wake_batch (pool.layout_of (pool_of queue) Ordinary) options.min_shallow) options.hands cap
+        queue.book (tellers_of hands)
+    pub groups : AreOpenGroups options.hands queue.groups (waiters_of hands)
+    pub min_shallow : min_shallow_of queue ≡ options.min_shallow
+    pub own : All (IsHandOf queue) hands
 
--- the number of agents is one that a queue can have, 1 to 64
-abbrev pub CountsAgents : Options → Type 0
-CountsAgents options = (1 ≤ options.callers) × (options.callers ≤ MAX_CALLERS)
+-- the pool is as the options say, and so are the book and the groups; the hands are in the order of their numbers, hold
+-- no tag, have made no step, and start as given
+pub record IsOpenWith {R : Type 0} (HasStart : Options → Pool R → Hand R → Type 0) (options : Options) (cap : ℕ)
+    (queue : Queue R) (hands : List (QueueHand R)) : Type 0 where
+  pub pool : pool_opening.IsOpenWith HasStart options (pool_of queue) (all_in_pool hands)
+  pub counts : HasCounts options cap queue hands
+  pub none_held : All (λ hand. pool_opening.HoldsNone (in_pool hand)) hands
+  pub count : length hands ≡ options.hands
+  pub ordered : (n : ℕ) (hand : QueueHand R) → get_elem? hands n ≡ some hand → number_of hand ≡ n
 
--- the number of agents, the life and the cap are within their limits
-abbrev pub HasLimits : Options → Type 0
-HasLimits options = CountsAgents options × (options.life ≤ MOST_WON) × (options.cap ≤ 2 ^ 56)
+-- the queue and its hands are new, and every hint is at the first tag of its set
+abbrev pub IsOpen : {R : Type 0} → Options → ℕ → Queue R → List (QueueHand R) → Type 0
+IsOpen options cap queue hands = IsOpenWith pool_opening.HasFirstHints options cap queue hands
 
--- a hint at tag 0
-abbrev pub first_hint : Bool → Hint
-first_hint round_robin = record { at = 0; round_robin = round_robin }
+-- the queue and its hands are new, and every hint is at the first tag of its hand's own part of the set
+abbrev pub IsOpenPlaced : {R : Type 0} → Options → ℕ → Queue R → List (QueueHand R) → Type 0
+IsOpenPlaced options cap queue hands = IsOpenWith pool_opening.HasPlacedHints options cap queue hands
 
--- the agent's hint is at 0, with round robin as the options say
-abbrev pub HasFirstHint : {R : Type 0} → Options → Queue R → Agent R → Type 0
-HasFirstHint options queue = HasHint (first_hint options.round_robin)
+-- the hand has made no step in the ordinary set
+abbrev pub IsFresh : {R : Type 0} → Hand R → Type 0
+IsFresh hand = (record_of (pool.caller_of hand Ordinary)).steps ≡ []
 
--- the agent's hint is at the first tag of its own part, with round robin as the options say
-abbrev pub HasPlacedHint : {R : Type 0} → Options → Queue R → Agent R → Type 0
-HasPlacedHint options queue agent = HasHint (hint_in_part queue agent) agent
-    × ((hint_of agent).round_robin ≡ options.round_robin)
-
--- the queue is as the options say; its agents are in the order of their numbers, have made no step, and start as given
-pub record IsOpenWith {R : Type 0} (HasStart : Options → Queue R → Agent R → Type 0)
-    (options : Options) (queue : Queue R) (agents : List (Agent R)) : Type 0 where
-  pub tags : IsNew (layout_of queue) options.callers options.life queue.map
-  pub callers : AreNew queue.map (map caller_of agents)
-  pub book : IsOpenBook (wake_batch (layout_of queue) options.min_shallow) options.callers options.cap
-      queue.book (map teller_of agents)
-  pub groups : AreOpenGroups options.callers queue.groups (map waiter_of agents)
-  pub own : All (IsAgentOf queue) agents
-  pub hints : All (HasStart options queue) agents
-  pub least : least_of queue ≡ max (unwrap_or options.min_shallow 1) 1
-  pub min_shallow : min_shallow_of queue ≡ options.min_shallow
-  pub waits : waits_of queue ≡ options.waits
-
--- the queue and its agents are new, and every hint is at 0
-abbrev pub IsOpen : {R : Type 0} → Options → Queue R → List (Agent R) → Type 0
-IsOpen options queue agents = IsOpenWith HasFirstHint options queue agents
-
--- the queue and its agents are new, and every hint is at the first tag of its agent's own part
-abbrev pub IsOpenPlaced : {R : Type 0} → Options → Queue R → List (Agent R) → Type 0
-IsOpenPlaced options queue agents = IsOpenWith HasPlacedHint options queue agents
+-- what the hands of a new pool have in common, wherever they start
+pub record AreFresh {R : Type 0} (options : Options) (new : Pool R) (hands : List (Hand R)) : Type 0 where
+  pub few : (1 ≤ options.hands) × (options.hands ≤ 64)
+  pub hands_are : pool.hands_of new ≡ options.hands
+  pub count : length hands ≡ options.hands
+  pub own : All (pool.IsHandOf new) hands
+  pub fresh : All IsFresh hands
+  pub ordered : (n : ℕ) (hand : Hand R) → get_elem? hands n ≡ some hand → pool.number_of hand ≡ n

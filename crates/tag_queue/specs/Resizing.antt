@@ -1,96 +1,94 @@
--- Resizes of a queue: when they are refused, and what continues.
-use Rattle.std.specs.Prelude.{◌<◌, ◌≡◌, ◌≤◌}
-use Rattle.tag_queue.specs.Uses.{All, AreSettled, Caller, count_by, GoesOn, is_some, IsCallerOf, IsErrAnd, Layout, List, map, MAX_DEPTH, Rebatches, Record, record_of, Result, Shape, Totals, wake_batch, ℕ}
+-- Resizes of the ordinary set: when they are refused, and what they change.
+use Rattle.std.specs.Prelude.{◌≡◌, ◌≤◌}
+use Rattle.std.specs.Result.{IsErrAnd}
+use Rattle.tag_queue.specs.Uses.{All, count_by, Hand, is_some, layout_of, List, Ordinary, Pool, Result, ℕ}
 use Rattle.step_ledger.specs.Gather.{HasAll, IsLeastMissing}
-use Rattle.tag_core.specs.declared.map.Map.{Map}
-use Rattle.tag_core.specs.Reopening.{IsNext, AreReopened, LeadsOn, AllFree}
-use Rattle.tag_queue.specs.declared.agent.Agent.{Agent}
+use Rattle.tag_layout.specs.Layout.{wake_batch}
+use Rattle.tag_pool.specs.Hands.{reserved_of}
+use Rattle.tag_pool.specs.Resizing as pool
+use Rattle.tag_pool.specs.declared.resizes.ResizeCause.{ResizeCause}
+use Rattle.tag_pool.specs.declared.resizes.ResizeCause.TheVariants.{Missing, DepthTooLarge, InUse, Waiting, Memory}
+use Rattle.wake_book.specs.Book.{Rebatches}
+use Rattle.tag_queue.specs.declared.hand.QueueHand.{QueueHand}
 use Rattle.tag_queue.specs.declared.queue.Queue.{Queue}
-use Rattle.tag_queue.specs.declared.resizes.ResizeCause.{ResizeCause}
-use Rattle.tag_queue.specs.declared.resizes.ResizeFault.{ResizeFault}
-use Rattle.tag_queue.specs.declared.resizes.ResizeCause.TheVariants.{Missing, DepthTooLarge, InUse, Waiting, Memory}
-use Rattle.tag_queue.specs.Agents.{caller_of, teller_of, waiter_of, hint_of, layout_of, least_of, min_shallow_of, fill_of, waits_of, standing_of, agents_of, numbers_of, records_of, IsAgentOf}
-use Rattle.tag_queue.specs.Using.{held_in, posted_in, NoneInUse}
+use Rattle.tag_queue.specs.declared.resizes.QueueResizeFault.{QueueResizeFault}
+use Rattle.tag_queue.specs.Hands.{all_in_pool, hands_of, IsHandOf, min_shallow_of, numbers_of, pool_of, standing_of, tellers_of, waiters_of}
 
--- how many of these agents are in a wait group
-abbrev pub standing_count : {R : Type 0} → List (Agent R) → ℕ
-standing_count agents = count_by (λ agent. is_some (standing_of agent)) agents
+-- how many of these hands are in a wait group
+abbrev pub standing_count : {R : Type 0} → List (QueueHand R) → ℕ
+standing_count hands = count_by (λ hand. is_some (standing_of hand)) hands
 
--- no tag is held and none is posted, if these are all agents of a queue
-abbrev pub AreUnused : {R : Type 0} → List (Agent R) → Type 0
-AreUnused agents = NoneInUse (records_of agents)
-
--- all agents are present, and there is a layout of the depth
-abbrev pub HasMap : {R : Type 0} → Queue R → List (Agent R) → ℕ → Type 0
-HasMap queue agents depth = HasAll (numbers_of agents) (agents_of queue) × (depth ≤ MAX_DEPTH)
-
--- a resize can fail only for lack of memory
-abbrev pub MayResize : {R : Type 0} → Queue R → List (Agent R) → ℕ → Type 0
-MayResize queue agents depth = HasMap queue agents depth × AreUnused agents × (standing_count agents ≡ 0)
+-- no tag is held and none is posted, if these are all hands
+abbrev pub AreUnused : {R : Type 0} → List (QueueHand R) → Type 0
+AreUnused hands = pool.AreUnused (all_in_pool hands)
 
 -- this many tags are held and this many are posted, and at least one tag is either
-abbrev pub AreUsed : {R : Type 0} → List (Agent R) → ℕ → ℕ → Type 0
-AreUsed agents held posted = (held ≡ held_in (records_of agents)) × (posted ≡ posted_in (records_of agents))
-    × ¬ (AreUnused agents)
+abbrev pub AreUsed : {R : Type 0} → List (QueueHand R) → ℕ → ℕ → Type 0
+AreUsed hands held posted = pool.AreUsed (all_in_pool hands) held posted
 
--- no tag is in use, and this many agents are in a wait group, at least one
-abbrev pub AreWaiting : {R : Type 0} → List (Agent R) → ℕ → Type 0
-AreWaiting agents count = AreUnused agents × (count ≡ standing_count agents) × (1 ≤ count)
+-- no tag is in use, and this many hands are in a wait group, at least one
+abbrev pub AreWaiting : {R : Type 0} → List (QueueHand R) → ℕ → Type 0
+AreWaiting hands count = AreUnused hands × (count ≡ standing_count hands) × (1 ≤ count)
 
--- tags are in use or agents are in a wait group, as the cause says
-abbrev pub IsBusyFor : {R : Type 0} → List (Agent R) → ResizeCause → Type 0
-IsBusyFor agents (InUse held posted) = AreUsed agents held posted
-IsBusyFor agents (Waiting count) = AreWaiting agents count
-IsBusyFor agents _ = ⊥
+-- in each set, each tag that these hands won was given back, is held or is posted
+abbrev pub BalanceInBoth : {R : Type 0} → List (QueueHand R) → Type 0
+BalanceInBoth hands = pool.BalanceInBoth (all_in_pool hands)
+
+-- the total is one to which the reserved tags leave the rest
+abbrev pub HasRange : {R : Type 0} → Queue R → ℕ → Type 0
+HasRange queue total = pool.HasRange total (reserved_of (pool_of queue))
+
+-- the total is too large, or smaller than the reserved set
+abbrev pub IsOutOfRange : {R : Type 0} → Queue R → ℕ → Type 0
+IsOutOfRange queue total = pool.IsOutOfRange total (reserved_of (pool_of queue))
+
+-- all hands are present, and the queue can have this total
+abbrev pub HasMap : {R : Type 0} → Queue R → List (QueueHand R) → ℕ → Type 0
+HasMap queue hands total = HasAll (numbers_of hands) (hands_of queue) × HasRange queue total
+
+-- a resize can fail only for lack of memory
+abbrev pub MayResize : {R : Type 0} → Queue R → List (QueueHand R) → ℕ → Type 0
+MayResize queue hands total = HasMap queue hands total × AreUnused hands × (standing_count hands ≡ 0)
 
 -- what holds if a resize is refused for this cause
-abbrev pub IsRefusedFor : {R : Type 0} → Queue R → List (Agent R) → ℕ → ResizeCause → Type 0
-IsRefusedFor queue agents depth (Missing number) = IsLeastMissing (numbers_of agents) (agents_of queue) number
-IsRefusedFor queue agents depth DepthTooLarge = HasAll (numbers_of agents) (agents_of queue) × (MAX_DEPTH < depth)
-IsRefusedFor queue agents depth (InUse held posted) = HasMap queue agents depth × AreUsed agents held posted
-IsRefusedFor queue agents depth (Waiting count) = HasMap queue agents depth × AreWaiting agents count
-IsRefusedFor queue agents depth Memory = MayResize queue agents depth
+abbrev pub IsRefusedFor : {R : Type 0} → Queue R → List (QueueHand R) → ℕ → ResizeCause → Type 0
+IsRefusedFor queue hands total (Missing number) = IsLeastMissing (numbers_of hands) (hands_of queue) number
+IsRefusedFor queue hands total DepthTooLarge = HasAll (numbers_of hands) (hands_of queue) × IsOutOfRange queue total
+IsRefusedFor queue hands total (InUse held posted) = HasMap queue hands total × AreUsed hands held posted
+IsRefusedFor queue hands total (Waiting count) = HasMap queue hands total × AreWaiting hands count
+IsRefusedFor queue hands total Memory = MayResize queue hands total
+
+-- why the resize of a pool whose hands are all present can fail while so many of its hands stand in wait groups, and
+-- none waits by the bell
+abbrev pub StillRefuses : {R : Type 0} → Pool R → List (Hand R) → ℕ → ℕ → ResizeCause → Type 0
+StillRefuses of hands total standing (Waiting count) =
+    pool.HasMap of hands total × pool.AreUnused hands × (count ≡ standing) × (1 ≤ count)
+StillRefuses of hands total standing Memory = pool.MayResize of hands total × (standing ≡ 0)
+StillRefuses of hands total standing cause = pool.IsRefusedFor of hands total cause
 
 -- the result is a refusal for this cause
-abbrev pub IsRefusedAs : {R A : Type 0} → Result A (ResizeFault R) → ResizeCause → Type 0
+abbrev pub IsRefusedAs : {R A : Type 0} → Result A (QueueResizeFault R) → ResizeCause → Type 0
 IsRefusedAs result cause = IsErrAnd result (λ fault. fault.cause ≡ cause)
 
--- the next map continues any history that accounts for these records when their callers settle
-abbrev pub GoesOnAfter : {R : Type 0} → Shape → List (Record R) → Shape → Type 0
-GoesOnAfter k rs next = (totals : Totals) (known : AreSettled k rs totals)
-    → GoesOn (record { shape = k; history = known.history }) next
-
--- the callers continue, in the same order, on a next map of this layout, all of whose tags are free
-pub record MoveOn {R : Type 0} (layout : Layout) (old : Map R) (before : List (Caller R)) (new : Map R)
-    (after : List (Caller R)) : Type 0 where
-  pub next : IsNext layout old.shape new.shape
-  pub goes_on : GoesOnAfter old.shape (map record_of before) new.shape
-  pub callers : AreReopened new before after
-  pub own : All (IsCallerOf new) after
-  pub leads : LeadsOn old before new
-  pub free : AllFree new.shape (map record_of after)
-
--- the layout of this depth, with the shift as before
-abbrev pub layout_at : {R : Type 0} → Queue R → ℕ → Layout
-layout_at queue depth = record { depth = depth; shift = (layout_of queue).shift }
-
--- except for its map and its batch the queue is as before, and the batch is that of the new depth
-pub record KeepsRest {R : Type 0} (old new : Queue R) : Type 0 where
-  pub book : Rebatches old.book new.book (wake_batch (layout_of new) (min_shallow_of old))
+-- the same queue: its pool, its book and its groups are unchanged
+pub record IsSame {R : Type 0} (old new : Queue R) : Type 0 where
+  pub pool : pool_of new ≡ pool_of old
+  pub book : new.book ≡ old.book
   pub groups : new.groups ≡ old.groups
-  pub least : least_of new ≡ least_of old
   pub min_shallow : min_shallow_of new ≡ min_shallow_of old
-  pub waits : waits_of new ≡ waits_of old
-  pub fill : fill_of new ≡ fill_of old
 
--- the agents continue, in the same order, on a next map of free tags; they hold nothing, and their numbers, counts,
--- wait groups and hints are as before
-pub record IsResized {R : Type 0} (old : Queue R) (agents : List (Agent R)) (depth : ℕ) (new : Queue R)
-    (resized : List (Agent R)) : Type 0 where
-  pub callers : MoveOn (layout_at old depth) old.map (map caller_of agents) new.map (map caller_of resized)
-  pub tellers : map teller_of resized ≡ map teller_of agents
-  pub waiters : map waiter_of resized ≡ map waiter_of agents
-  pub hints : map hint_of resized ≡ map hint_of agents
-  pub numbers : numbers_of resized ≡ numbers_of agents
-  pub own : All (IsAgentOf new) resized
+-- except for its pool and its batch the queue is as before, and the batch is that of the new ordinary set
+pub record KeepsRest {R : Type 0} (old new : Queue R) : Type 0 where
+  pub book : Rebatches old.book new.book (wake_batch (layout_of (pool_of new) Ordinary) (min_shallow_of old))
+  pub groups : new.groups ≡ old.groups
+  pub min_shallow : min_shallow_of new ≡ min_shallow_of old
+
+-- the hands continue, in the same order, on a resized pool of this total, with their counts and wait groups
+pub record IsResized {R : Type 0} (old : Queue R) (hands : List (QueueHand R)) (total : ℕ) (new : Queue R)
+    (resized : List (QueueHand R)) : Type 0 where
+  pub pool : pool.IsResized (pool_of old) (all_in_pool hands) total (pool_of new) (all_in_pool resized)
+  pub tellers : tellers_of resized ≡ tellers_of hands
+  pub waiters : waiters_of resized ≡ waiters_of hands
+  pub numbers : numbers_of resized ≡ numbers_of hands
+  pub own : All (IsHandOf new) resized
   pub rest : KeepsRest old new

@@ -1,5 +1,6 @@
-//! Why a call is refused.
+//! Why a queue can't be opened, and why a call of its own is refused.
 
+use tag_pool::OpenFault;
 use thiserror::Error;
 
 /// Why a queue can't be opened. The causes are checked in this order, except that memory comes last.
@@ -11,6 +12,9 @@ pub enum QueueOpenFault {
     /// There would be more than 10,240 tags.
     #[error("more than 10240 tags")]
     TotalTooLarge,
+    /// There would be more reserved tags than tags.
+    #[error("more reserved tags than tags")]
+    ReservedTooLarge,
     /// The shift is above 6.
     #[error("a shift above 6")]
     ShiftTooLarge,
@@ -25,34 +29,37 @@ pub enum QueueOpenFault {
     CapTooLarge,
 }
 
-/// Why a call on a tag or a wait was refused.
+impl From<OpenFault> for QueueOpenFault {
+    ghost use Rattle.std.specs.Prelude.{◌≡◌};
+    ghost use Rattle.tag_queue.specs.Faults.{of_pool};
+
+    ghost from_gives = { λ fault told. told ≡ of_pool fault };
+
+    fn from(fault: OpenFault) -> QueueOpenFault {
+        match fault {
+            OpenFault::Memory => QueueOpenFault::Memory,
+            OpenFault::TotalTooLarge => QueueOpenFault::TotalTooLarge,
+            OpenFault::ReservedTooLarge => QueueOpenFault::ReservedTooLarge,
+            OpenFault::ShiftTooLarge => QueueOpenFault::ShiftTooLarge,
+            OpenFault::CallerCount => QueueOpenFault::CallerCount,
+            OpenFault::LifeTooLong => QueueOpenFault::LifeTooLong,
+        }
+    }
+}
+
+/// Why a call that waits in a group is refused.
 #[derive(Clone, Copy, Debug, PartialEq, Eq, Error)]
-pub enum QueueFault {
-    /// The queue was opened for the other kind of wait.
-    #[error("the queue was opened for the other kind of wait")]
-    OtherWait,
-    /// No tag has this number.
-    #[error("no tag has this number")]
+pub enum WaitFault {
+    /// There is no ordinary tag to wait for.
+    #[error("no ordinary tag exists")]
     NoSuchTag,
-    /// The caller does not hold the tag, or named it twice in one batch.
-    #[error("the caller does not hold the tag, or named it twice")]
-    NotHeld,
-    /// The tag was not posted at the moment of the exchange.
-    #[error("the tag is not posted")]
-    NotPosted,
-    /// The number of tags is out of range: 1 to the bits of a word for a batch get, 1 to 64 for a batch clear.
-    #[error("the number of tags is out of range")]
-    BadCount,
-    /// The shallow depth is 0 or below the minimum shallow depth.
-    #[error("the depth is 0, or below the minimum shallow depth")]
-    TooShallow,
-    /// The tags requested could exceed the caller's life, the number of tags that it may win in all.
-    #[error("the caller could win more tags than its life allows")]
-    Spent,
     /// The caller is already in a wait group.
     #[error("the caller waits already")]
     Waiting,
     /// The caller is not in a wait group.
     #[error("the caller does not wait")]
     NotWaiting,
+    /// The caller could win more tags than its life allows.
+    #[error("the caller could win more tags than its life allows")]
+    Spent,
 }

@@ -1,35 +1,26 @@
-//! Tags shared by threads, with completions counted in batches that wake waiters: one map, one charge book and one set
-//! of wait groups, behind one handle for each thread. It is modelled on Linux's `sbitmap_queue`.
+//! Tags with completions counted in batches that wake waiters: a pool, a charge book and wait groups, behind one handle for
+//! each thread. It is modelled on Linux's `sbitmap_queue`.
 #![tactic(auto)]
 
-mod agent;
-mod bell;
 mod clears;
 mod fault;
 mod gather;
 mod gets;
+mod hand;
 mod looks;
-mod meets;
 mod opens;
 mod queue;
 mod resizes;
-mod sleeps;
+mod room;
 mod slots;
-mod usage;
 mod waits;
 
-pub use agent::Agent;
-pub use clears::batches::MAX_BATCH;
-pub use clears::lists::{are_below, are_distinct};
-pub use fault::{QueueFault, QueueOpenFault};
+pub use fault::{QueueOpenFault, WaitFault};
 pub use gather::{QueueGatherFault, QueueTotals};
-pub use queue::{Options, Queue, Waits};
-pub use resizes::{ResizeCause, ResizeFault};
+pub use hand::QueueHand;
+pub use queue::Queue;
+pub use resizes::QueueResizeFault;
 pub use step_ledger::{GatherCause, Numbered};
-pub use tag_bell::{LISTENERS, SLEEPERS, Told, Turn, Woken};
-pub use tag_layout::{MAX_DEPTH, MAX_SHIFT};
-pub use tag_model::{MAX_CALLERS, MOST_WON};
-pub use tag_search::{Found, Unfinished};
-pub use usage::Usage;
+pub use tag_pool::{Found, Kind, Options, ResizeCause, Shown, TagFault, Totals};
 pub use waits::Wakes;
-pub use wake_book::MAX_CAP;
+pub use wake_book::{Count, Grants, Left, MAX_CAP, Report, Ring, Waking};

@@ -1,101 +1,167 @@
-//! Opens a queue with its agents.
-ghost use Rattle.std.specs.Prelude.{◌≡◌, ◌<◌, IfOk};
-ghost use Rattle.tag_model.specs.declared.world.TheConstants.{MAX_CALLERS, MOST_WON};
-ghost use Rattle.tag_queue.specs.Agents.{layout_of, fill_of};
-ghost use Rattle.tag_queue.specs.Opening.{IsLaidOut, HasLimits, IsOpen};
+//! Opens a queue with its hands.
+ghost use Rattle.std.specs.Prelude.{◌<◌, ◌≡◌, ◌≤◌, ◌^◌, ◌↔◌, ◌⊎◌, length, Err, IfErr, IfOk};
 ghost use Rattle.refusals.specs.Refusals.{RefusesOrRunsOut};
+ghost use Rattle.tag_pool.specs.Hands.{fill_of, layout_of};
+ghost use Rattle.tag_pool.specs.declared.kind.Kind.TheVariants.{Ordinary};
+ghost use Rattle.tag_queue.specs.Faults.{IsRefusal};
+ghost use Rattle.tag_queue.specs.Hands.{all_in_pool, in_pool, pool_of, teller_of, waiter_of};
+ghost use Rattle.tag_queue.specs.Opening.{AreFresh, HasCounts, IsOpen, IsOpenPlaced};
+ghost use Rattle.tag_queue.specs.Parts.{AreParts, FitTogether, Fits, HasNoSteps};
 ghost use Rattle.tag_queue.specs.Refusals.{open_checks};
 
-use crate::agent::Agent;
 use crate::fault::QueueOpenFault;
-use crate::opens::parts::join;
-use crate::queue::{Options, Queue};
+use crate::hand::QueueHand;
+use crate::queue::Queue;
+use crate::room::Room;
 use std::alloc::{AllocError, Global};
-use tag_core::Map;
-use tag_layout::{Layout, LayoutFault};
-use tag_model::{MAX_CALLERS, MOST_WON};
-use tag_search::Hint;
-use wake_book::{Book, Groups, MAX_CAP};
-
-mod parts;
-mod placing;
+use tag_pool::{Hand, Kind, OpenFault, Options, Pool};
+use wake_book::{Announcement, Book, Groups, MAX_CAP, Sighting, Teller, Waiter};
 
 impl<R: Copy> Queue<R> {
-    /// Opens a queue of `depth` free tags, at most 10,240, each with a slot that contains `fill`, and returns it with
-    /// its agents in the order of their numbers. The causes are tested in this order: `TotalTooLarge`, more than 10,240
-    /// tags; `ShiftTooLarge`, a shift above 6; `CallerCount`, not 1 to 64 callers; `LifeTooLong`, a life above 2^48;
-    /// `CapTooLarge`, a cap above 2^56; `Memory`.
+    /// Opens a queue over a new pool with these options, in which each hand may count up to `cap` completions, at most
+    /// 2^56: past it the hand's clears give tags back as before, but count nothing and wake nobody. Each tag has a slot
+    /// that contains `fill`. The hands are in the order of their numbers. The causes are tested in this order: those of
+    /// `Pool::open`, namely `TotalTooLarge`, `ReservedTooLarge`, `ShiftTooLarge`, `CallerCount` and `LifeTooLong`; then
+    /// `CapTooLarge`; then `Memory`.
     pub fn open(
         alloc: Global,
-        depth: u32,
         options: Options,
+        cap: u64,
         fill: R,
-    ) -> Result<(Queue<R>, Vec<Agent<R>>), QueueOpenFault>
-        ensures ok { IfOk result (λ opened. IsOpen options opened.0 opened.1.items) }
-        ensures layout { IfOk result (λ opened. IsLaidOut depth options (layout_of opened.0)) }
-        ensures fill { IfOk result (λ opened. fill_of opened.0 ≡ fill) }
-
-        ensures refusals { RefusesOrRunsOut (open_checks depth options) QueueOpenFault.Memory result }
+    ) -> Result<(Queue<R>, Vec<QueueHand<R>>), QueueOpenFault>
+        ensures ok { IfOk result (λ opened. IsOpen options cap opened.0 opened.1.items) }
+        ensures fill { IfOk result (λ opened. fill_of (pool_of opened.0) ≡ fill) }
+        ensures refusals { RefusesOrRunsOut (open_checks options cap) QueueOpenFault.Memory result }
     {
-        let layout = match Layout::new(depth, options.shift) {
-            Ok(layout) => layout,
-            Err(LayoutFault::DepthTooLarge) => return Err(QueueOpenFault::TotalTooLarge),
-            Err(LayoutFault::ShiftTooLarge) => return Err(QueueOpenFault::ShiftTooLarge),
-        };
-        if options.callers == 0 || options.callers > MAX_CALLERS {
-            return Err(QueueOpenFault::CallerCount);
+        match Pool::open(alloc, options, fill) {
+            Ok((pool, hands)) => Queue::over(alloc, pool, hands, options, cap),
+            Err(fault) => Err(refusal(fault, cap)),
         }
-        if options.life > MOST_WON {
-            return Err(QueueOpenFault::LifeTooLong);
+    }
+
+    /// Opens a queue as `open` does, refuses what `open` refuses, and places the hints of each hand (see
+    /// `Pool::place`).
+    pub fn open_placed(
+        alloc: Global,
+        options: Options,
+        cap: u64,
+        fill: R,
+    ) -> Result<(Queue<R>, Vec<QueueHand<R>>), QueueOpenFault>
+        ensures ok { IfOk result (λ opened. IsOpenPlaced options cap opened.0 opened.1.items) }
+        ensures fill { IfOk result (λ opened. fill_of (pool_of opened.0) ≡ fill) }
+        ensures refusals { RefusesOrRunsOut (open_checks options cap) QueueOpenFault.Memory result }
+    {
+        match Pool::open_placed(alloc, options, fill) {
+            Ok((pool, hands)) => Queue::over(alloc, pool, hands, options, cap),
+            Err(fault) => Err(refusal(fault, cap)),
         }
-        if options.cap > MAX_CAP {
+    }
+
+    /// Opens a queue over this new pool.
+    fn over(
+        alloc: Global,
+        pool: Pool<R>,
+        hands: Vec<Hand<R>>,
+        options: Options,
+        cap: u64,
+    ) -> Result<(Queue<R>, Vec<QueueHand<R>>), QueueOpenFault>
+        requires fresh { AreFresh options pool hands.items }
+        ensures cap { (result ≡ Err QueueOpenFault.CapTooLarge) ↔ (2 ^ 56 < cap) }
+        ensures refusals { IfErr result (λ fault. (fault ≡ QueueOpenFault.CapTooLarge) ⊎ (fault ≡ QueueOpenFault.Memory)) }
+        ensures pool { IfOk result (λ opened. (pool_of opened.0 ≡ pool) × (all_in_pool opened.1.items ≡ hands.items)) }
+        ensures counts { IfOk result (λ opened. HasCounts options cap opened.0 opened.1.items) }
+    {
+        if cap > MAX_CAP {
             return Err(QueueOpenFault::CapTooLarge);
         }
-        let Ok(opened) = lay_out(alloc, layout, options, fill) else {
-            return Err(QueueOpenFault::Memory);
-        };
-        Ok(opened)
+        match lay_out(alloc, pool, hands, options, cap) {
+            Ok(opened) => Ok(opened),
+            Err(_) => Err(QueueOpenFault::Memory),
+        }
     }
 }
 
-/// Allocates a queue and its agents for arguments that are valid, so it fails only if memory runs out.
+/// Returns why a queue with this cap can't be opened if its pool can't: too large a cap is told before memory.
+fn refusal(fault: OpenFault, cap: u64) -> QueueOpenFault
+    ensures { IsRefusal cap fault result }
+{
+    match fault {
+        OpenFault::Memory if cap > MAX_CAP => QueueOpenFault::CapTooLarge,
+        _ => QueueOpenFault::from(fault),
+    }
+}
+
+/// Allocates a book, groups and hands for arguments that are valid, so it fails only if memory runs out.
 fn lay_out<R: Copy>(
     alloc: Global,
-    layout: Layout,
+    pool: Pool<R>,
+    hands: Vec<Hand<R>>,
     options: Options,
-    fill: R,
-) -> Result<(Queue<R>, Vec<Agent<R>>), AllocError>
-    requires limits { HasLimits options }
-    ensures layout { IfOk result (λ opened. layout_of opened.0 ≡ layout) }
-    ensures fill { IfOk result (λ opened. fill_of opened.0 ≡ fill) }
-    ensures open { IfOk result (λ opened. IsOpen options opened.0 opened.1.items) }
+    cap: u64,
+) -> Result<(Queue<R>, Vec<QueueHand<R>>), AllocError>
+    requires fresh { AreFresh options pool hands.items }
+    requires cap { cap ≤ 2 ^ 56 }
+    ensures pool { IfOk result (λ opened. (pool_of opened.0 ≡ pool) × (all_in_pool opened.1.items ≡ hands.items)) }
+    ensures counts { IfOk result (λ opened. HasCounts options cap opened.0 opened.1.items) }
 {
-    let slots = vec![in alloc; fill; layout.depth() as usize]?;
-    let Ok((map, callers)) = Map::open(alloc, layout, options.callers, options.life, slots) else {
+    let batch = pool.layout(Kind::Ordinary).wake_batch(options.min_shallow);
+    let Ok((book, tellers)) = Book::open(alloc, batch, options.hands, cap) else {
         return Err(AllocError);
     };
-    let batch = layout.wake_batch(options.min_shallow);
-    let Ok((book, tellers)) = Book::open(alloc, batch, options.callers, options.cap) else {
+    let Ok((groups, waiters)) = Groups::open(alloc, options.hands) else {
         return Err(AllocError);
     };
-    let Ok((groups, waiters)) = Groups::open(alloc, options.callers) else {
-        return Err(AllocError);
-    };
-    let hint = Hint {
-        at: 0,
-        round_robin: options.round_robin,
-    };
-    let agents = join(alloc, options.callers, callers, tellers, waiters, hint)?;
+    let hands = join(alloc, hands, tellers, waiters)?;
     let queue = Queue {
-        map,
+        pool,
         book,
         groups,
         batch,
-        shallowest: options.min_shallow.unwrap_or(1).max(1),
         min_shallow: options.min_shallow,
-        callers: options.callers,
-        waits: options.waits,
-        fill,
+        room: Room::open(alloc, options.hands)?,
     };
-    Ok((queue, agents))
+    Ok((queue, hands))
+}
+
+/// Puts the hands together from these parts, in the same order.
+fn join<R>(
+    alloc: Global,
+    inners: Vec<Hand<R>>,
+    tellers: Vec<Teller>,
+    waiters: Vec<Waiter>,
+) -> Result<Vec<QueueHand<R>>, AllocError>
+    requires counts { (length inners.items ≡ length tellers.items) × (length inners.items ≡ length waiters.items) }
+    requires fit { FitTogether inners.items tellers.items waiters.items }
+    ensures parts { IfOk result (λ hands. AreParts hands.items inners.items tellers.items waiters.items) }
+{
+    let mut hands = Vec::new(alloc);
+    let mut inners = inners.into_iter();
+    let mut tellers = tellers.into_iter();
+    let mut waiters = waiters.into_iter();
+    while let Some(inner) = inners.next() {
+        let Some(teller) = tellers.next() else {
+            unreachable!()
+        };
+        let Some(waiter) = waiters.next() else {
+            unreachable!()
+        };
+        hands.push(new_hand(inner, teller, waiter))?;
+    }
+    Ok(hands)
+}
+
+fn new_hand<R>(inner: Hand<R>, teller: Teller, waiter: Waiter) -> QueueHand<R>
+    requires fit { Fits inner teller waiter }
+    requires new { HasNoSteps waiter }
+    ensures parts { (in_pool result ≡ inner) × (teller_of result ≡ teller) × (waiter_of result ≡ waiter) }
+{
+    let sighting = Sighting::none(&waiter, &inner);
+    let announcement = Announcement::none(&waiter, &inner);
+    QueueHand {
+        teller,
+        waiter,
+        sighting,
+        announcement,
+        inner,
+    }
 }

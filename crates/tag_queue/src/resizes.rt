@@ -1,145 +1,177 @@
-//! Resizes a queue to another depth.
-ghost use Rattle.std.specs.Prelude.{◌≡◌, ◌<◌, ◌↔◌, ℕ, All, IfOk, IfErr, IsOk, MatchOption, MatchResult};
+//! Resizes the ordinary set of a queue to another number of tags.
+ghost use Rattle.std.specs.Prelude.{◌≡◌, ◌↔◌, ◌≤◌, ℕ, All, IfErr, IfOk, IsOk, length};
 ghost use Rattle.step_ledger.specs.Gather.{HasAll, IsLeastMissing};
-ghost use Rattle.tag_layout.specs.declared.layout.TheConstants.{MAX_DEPTH};
-ghost use Rattle.tag_queue.specs.Agents.{IsAgentOf, AreUnchanged, agents_of, numbers_of, records_of, layout_of};
-ghost use Rattle.tag_queue.specs.Resizing.{IsRefusedAs, IsRefusedFor, IsResized, MayResize, HasMap, layout_at};
-ghost use Rattle.tag_queue.specs.Resizing.{AreUnused, AreUsed, AreWaiting, IsBusyFor, standing_count};
-ghost use Rattle.tag_queue.specs.Using.{Balance};
+ghost use Rattle.tag_pool.specs.Gathering.{numbers_of as pool_numbers};
+ghost use Rattle.tag_pool.specs.Hands.{IsHandOf as IsPoolHandOf, hands_of as pool_hands};
+ghost use Rattle.tag_pool.specs.Resizing as resizing;
+ghost use Rattle.tag_pool.specs.Using as using;
+ghost use Rattle.tag_queue.specs.Hands.{AreUnchanged, IsHandOf, hands_of, numbers_of};
+ghost use Rattle.tag_queue.specs.Resizing.{AreUsed, AreWaiting, BalanceInBoth, HasMap, IsOutOfRange, IsRefusedAs};
+ghost use Rattle.tag_queue.specs.Resizing.{IsRefusedFor, IsResized, IsSame, MayResize, StillRefuses, standing_count};
+ghost use Rattle.tag_queue.specs.Bell.{WaitsNowhere};
 
-use crate::agent::Agent;
+use crate::hand::QueueHand;
 use crate::queue::Queue;
+use crate::room::Room;
 use std::alloc::Global;
-use step_ledger::{GatherCause, all_there};
-use tag_layout::{Layout, LayoutFault};
-use thiserror::Error;
+use step_ledger::least_missing;
+use tag_pool::{Hand, Kind, Pool, PoolResizeFault, ResizeCause};
 use wake_book::Groups;
 
-mod next_map;
-mod reopens;
-mod shells;
-
-/// Why a queue can't be resized. The causes are checked in this order.
-#[derive(Clone, Copy, Debug, PartialEq, Eq, Error)]
-pub enum ResizeCause {
-    /// An agent was not passed in: the least such number.
-    #[error("caller {0} is missing")]
-    Missing(u32),
-    /// There would be more than 10,240 tags.
-    #[error("the number of tags is out of range")]
-    DepthTooLarge,
-    /// Tags are in use: how many are held, and how many posted.
-    #[error("{0} tags are held and {1} are posted")]
-    InUse(u64, u64),
-    /// Agents are in a wait group: how many.
-    #[error("{0} callers wait")]
-    Waiting(u32),
-    /// Out of memory.
-    #[error("out of memory")]
-    Memory,
-}
-
-/// The reason why `resize` failed, with the queue and the agents that were passed in.
+/// The reason why `resize` failed, with the queue and the hands that were passed in.
 #[derive(Drop)]
-pub struct ResizeFault<R> {
+pub struct QueueResizeFault<R> {
+    /// `Waiting` counts the hands that are in a wait group.
     pub cause: ResizeCause,
     pub queue: Queue<R>,
     /// In the order in which they were passed in.
-    pub agents: Vec<Agent<R>>,
+    pub hands: Vec<QueueHand<R>>,
 }
 
 impl<R: Copy> Queue<R> {
-    /// Replaces the map by one of `depth` free tags and moves all agents to it. All agents must be passed in, in any
-    /// order; no tag may be held or posted, and no agent may be in a wait group. A refusal hands everything back. Slots
-    /// start again with the queue's initial value.
+    /// Resizes the ordinary set so that there are `depth` tags in both sets, and moves all hands to it, as
+    /// `Pool::resize` does; the batch is that of the new ordinary set. All hands must be passed in, in any order; no tag
+    /// of either set may be held or posted, and no hand may be in a wait group. A refusal hands everything back.
     pub fn resize(
         alloc: Global,
         queue: Queue<R>,
-        mut agents: Vec<Agent<R>>,
+        hands: Vec<QueueHand<R>>,
         depth: u32,
-    ) -> Result<(Queue<R>, Vec<Agent<R>>), ResizeFault<R>>
-        requires { All (IsAgentOf queue) agents.items }
-        ensures ok { IfOk result (λ p. IsResized queue agents.items depth p.0 p.1.items) }
-        ensures may { IsOk result → MayResize queue agents.items depth }
+    ) -> Result<(Queue<R>, Vec<QueueHand<R>>), QueueResizeFault<R>>
+        requires { All (IsHandOf queue) hands.items }
+        ensures ok { IfOk result (λ p. IsResized queue hands.items depth p.0 p.1.items) }
+        ensures may { IsOk result → MayResize queue hands.items depth }
 
         // The causes are checked in this order, and memory comes last.
         ensures missing { (n : ℕ) → IsRefusedAs result (ResizeCause.Missing n)
-            ↔ IsLeastMissing (numbers_of agents.items) (agents_of queue) n }
+            ↔ IsLeastMissing (numbers_of hands.items) (hands_of queue) n }
         ensures too_deep { IsRefusedAs result ResizeCause.DepthTooLarge
-            ↔ (HasAll (numbers_of agents.items) (agents_of queue) × (MAX_DEPTH < depth)) }
+            ↔ (HasAll (numbers_of hands.items) (hands_of queue) × IsOutOfRange queue depth) }
         ensures in_use { (held posted : ℕ) → IsRefusedAs result (ResizeCause.InUse held posted)
-            ↔ (HasMap queue agents.items depth × AreUsed agents.items held posted) }
+            ↔ (HasMap queue hands.items depth × AreUsed hands.items held posted) }
         ensures waiting { (n : ℕ) → IsRefusedAs result (ResizeCause.Waiting n)
-            ↔ (HasMap queue agents.items depth × AreWaiting agents.items n) }
-        ensures memory { IsRefusedAs result ResizeCause.Memory → MayResize queue agents.items depth }
+            ↔ (HasMap queue hands.items depth × AreWaiting hands.items n) }
+        ensures memory { IsRefusedAs result ResizeCause.Memory → MayResize queue hands.items depth }
 
-        ensures balance { HasMap queue agents.items depth → Balance (records_of agents.items) }
-        ensures err { IfErr result (λ fault. (fault.queue ≡ queue) × AreUnchanged agents.items fault.agents.items) }
-        ensures own { IfErr result (λ fault. All (IsAgentOf fault.queue) fault.agents.items) }
+        ensures balance { HasMap queue hands.items depth → BalanceInBoth hands.items }
+        ensures err { IfErr result (λ fault. IsSame queue fault.queue × AreUnchanged hands.items fault.hands.items) }
+        ensures own { IfErr result (λ fault. All (IsHandOf fault.queue) fault.hands.items) }
     {
-        match queue.next_layout(&mut agents, depth) {
-            Ok(layout) => queue.reopen(alloc, layout, agents),
-            Err(cause) => Err(ResizeFault {
-                cause,
+        let hands = queue.assert_hand_count(hands);
+        if let Some(number) = least_missing(hands.as_slice(), queue.hand_count()) {
+            return Err(QueueResizeFault {
+                cause: ResizeCause::Missing(number),
                 queue,
-                agents,
-            }),
+                hands,
+            });
+        }
+        queue.go_on(alloc, hands, depth)
+    }
+
+    /// Resizes the queue while all its hands are present.
+    fn go_on(
+        self,
+        alloc: Global,
+        mut hands: Vec<QueueHand<R>>,
+        depth: u32,
+    ) -> Result<(Queue<R>, Vec<QueueHand<R>>), QueueResizeFault<R>>
+        requires own { All (IsHandOf self) hands.items }
+        requires every { HasAll (numbers_of hands.items) (hands_of self) }
+        requires few { length hands.items ≤ hands_of self }
+        ensures ok { IfOk result (λ p. IsResized self hands.items depth p.0 p.1.items) }
+        ensures may { IsOk result → MayResize self hands.items depth }
+        ensures cause { IfErr result (λ fault. IsRefusedFor self hands.items depth fault.cause) }
+        ensures balance { HasMap self hands.items depth → BalanceInBoth hands.items }
+        ensures err { IfErr result (λ fault. IsSame self fault.queue × AreUnchanged hands.items fault.hands.items) }
+        ensures own { IfErr result (λ fault. All (IsHandOf fault.queue) fault.hands.items) }
+    {
+        let standing = count_standing(hands.as_slice()) as u32;
+        let Queue {
+            pool,
+            mut book,
+            groups,
+            batch,
+            min_shallow,
+            room,
+        } = self;
+        let count = room.count;
+        let (inners, shells) = room.part(&mut hands);
+        match resize_pool(alloc, pool, inners, depth, standing) {
+            Ok((pool, inners)) => {
+                let batch = pool.layout(Kind::Ordinary).wake_batch(min_shallow);
+                book.rebatch(batch);
+                let queue = Queue {
+                    pool,
+                    book,
+                    groups,
+                    batch,
+                    min_shallow,
+                    room: Room::unite(inners, shells, &mut hands, count),
+                };
+                Ok((queue, hands))
+            }
+            Err(fault) => {
+                let PoolResizeFault {
+                    cause,
+                    pool,
+                    hands: inners,
+                } = fault;
+                let queue = Queue {
+                    pool,
+                    book,
+                    groups,
+                    batch,
+                    min_shallow,
+                    room: Room::unite(inners, shells, &mut hands, count),
+                };
+                Err(QueueResizeFault {
+                    cause,
+                    queue,
+                    hands,
+                })
+            }
         }
     }
 }
 
-fn count_standing<R>(agents: &[Agent<R>]) -> usize
-    ensures { result ≡ standing_count agents.now }
+/// Resizes the pool, unless hands stand in wait groups: that many of them refuse it, after tags in use.
+fn resize_pool<R: Copy>(
+    alloc: Global,
+    pool: Pool<R>,
+    mut hands: Vec<Hand<R>>,
+    depth: u32,
+    standing: u32,
+) -> Result<(Pool<R>, Vec<Hand<R>>), PoolResizeFault<R>>
+    requires own { All (IsPoolHandOf pool) hands.items }
+    requires every { HasAll (pool_numbers hands.items) (pool_hands pool) }
+    requires up { All WaitsNowhere hands.items }
+    ensures ok { IfOk result (λ p. resizing.IsResized pool hands.items depth p.0 p.1.items) }
+    ensures may { IsOk result → resizing.MayResize pool hands.items depth × (standing ≡ 0) }
+    ensures cause { IfErr result (λ fault. StillRefuses pool hands.items depth standing fault.cause) }
+    ensures balance { resizing.HasMap pool hands.items depth → resizing.BalanceInBoth hands.items }
+    ensures err { IfErr result (λ fault. (fault.pool ≡ pool) × using.AreUnchanged hands.items fault.hands.items) }
+    ensures own { IfErr result (λ fault. All (IsPoolHandOf fault.pool) fault.hands.items) }
 {
-    agents
-        .iter()
-        .filter(|agent| Groups::standing(&agent.waiter).is_some())
-        .count()
+    if standing == 0 {
+        return Pool::resize(alloc, pool, hands, depth);
+    }
+    let cause = match pool.check_resize(&mut hands, depth) {
+        Err(ResizeCause::Missing(number)) => ResizeCause::Missing(number),
+        Err(ResizeCause::DepthTooLarge) => ResizeCause::DepthTooLarge,
+        Err(ResizeCause::InUse(held, posted)) => ResizeCause::InUse(held, posted),
+        Err(ResizeCause::Waiting(_)) => ResizeCause::Waiting(standing),
+        Err(ResizeCause::Memory) => ResizeCause::Waiting(standing),
+        Ok(()) => ResizeCause::Waiting(standing),
+    };
+    Err(PoolResizeFault { cause, pool, hands })
 }
 
-impl<R> Queue<R> {
-    /// Returns the layout for this depth, if nothing but memory can prevent the resize.
-    fn next_layout(&self, agents: &mut Vec<Agent<R>>, depth: u32) -> Result<Layout, ResizeCause>
-        requires own { All (IsAgentOf self.now) agents.old.items }
-        ensures own { All (IsAgentOf self.now) agents.new.items }
-        ensures unchanged { AreUnchanged agents.old.items agents.new.items }
-        ensures may { IsOk result → MayResize self.now agents.old.items depth }
-        ensures layout { IfOk result (λ layout. layout ≡ layout_at self.now depth) }
-        ensures cause { IfErr result (IsRefusedFor self.now agents.old.items depth) }
-        ensures balance { HasMap self.now agents.old.items depth → Balance (records_of agents.old.items) }
-    {
-        if let Err(GatherCause::Missing(number)) = all_there(agents, self.map.callers()) {
-            return Err(ResizeCause::Missing(number));
-        }
-        let layout = match Layout::new(depth, Some(self.map.layout().shift())) {
-            Ok(layout) => layout,
-            Err(LayoutFault::ShiftTooLarge) => unreachable!(),
-            Err(LayoutFault::DepthTooLarge) => return Err(ResizeCause::DepthTooLarge),
-        };
-        match self.busy(agents) {
-            Some(cause) => Err(cause),
-            None => Ok(layout),
-        }
-    }
-
-    /// Returns what prevents the resize while all agents are present: tags in use, or agents that wait.
-    fn busy(&self, agents: &mut Vec<Agent<R>>) -> Option<ResizeCause>
-        requires own { All (IsAgentOf self.now) agents.old.items }
-        requires every { HasAll (numbers_of agents.old.items) (agents_of self.now) }
-        ensures own { All (IsAgentOf self.now) agents.new.items }
-        ensures unchanged { AreUnchanged agents.old.items agents.new.items }
-        ensures cause { MatchOption result (AreUnused agents.old.items × (standing_count agents.old.items ≡ 0))
-            (IsBusyFor agents.old.items) }
-        ensures balance { Balance (records_of agents.old.items) }
-    {
-        let totals = self.settle(agents);
-        if totals.held != 0 || totals.posted != 0 {
-            return Some(ResizeCause::InUse(totals.held, totals.posted));
-        }
-        let waiting = count_standing(agents.as_slice());
-        if waiting != 0 {
-            return Some(ResizeCause::Waiting(waiting as u32));
-        }
-        None
-    }
+/// Returns how many of these hands are in a wait group.
+fn count_standing<R>(hands: &[QueueHand<R>]) -> usize
+    ensures { result ≡ standing_count hands.now }
+{
+    hands
+        .iter()
+        .filter(|hand| Groups::standing(&hand.waiter).is_some())
+        .count()
 }

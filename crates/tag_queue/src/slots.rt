@@ -1,99 +1,87 @@
-//! The slots of held tags, and how tags pass from agent to agent.
-ghost use Rattle.std.specs.Prelude.{◌≡◌, ◌<◌, ◌≤◌, ◌↔◌, IfOk, IfErr, OnOk};
+//! The slots of held tags, and how tags pass from hand to hand: calls of the pool, by which nothing is counted.
+ghost use Rattle.std.specs.Prelude.{◌≡◌, IfErr, OnErr};
+ghost use Rattle.tag_pool.specs.Slots.{DoesPost, DoesRead, DoesTake, DoesWrite, Reads, Writes};
+ghost use Rattle.tag_pool.specs.Hands.{Holds, slot_of};
+ghost use Rattle.tag_pool.specs.declared.fault.TagFault.TheVariants.{NoSuchTag};
 ghost use mathlib.Core.Option.{some};
-ghost use Rattle.tag_queue.specs.Agents.{layout_of, IsAgentOf, Holds, slot_of};
-ghost use Rattle.tag_queue.specs.Slots.{Writes, Posts, Takes, RefusesTake};
-ghost use Rattle.refusals.specs.Refusals.{RefusesBy};
-ghost use Rattle.tag_queue.specs.Refusals.{tag_checks};
+ghost use Rattle.tag_queue.specs.Hands.{IsHandOf, IsStillOf, SameCounts, in_pool, pool_of};
 
-use crate::agent::Agent;
-use crate::fault::QueueFault;
+use crate::hand::QueueHand;
 use crate::queue::Queue;
+use tag_pool::TagFault;
 
 impl<R: Copy> Queue<R> {
-    /// Returns the value in the slot of a held tag. `NoSuchTag` means that the number is not below the depth, `NotHeld`
-    /// that the agent does not hold the tag; nothing changes then.
+    /// Returns the value in the slot of a held tag, and is refused, as `Pool::read`.
     #[inline]
-    pub fn read(&self, agent: &mut Agent<R>, tag: u32) -> Result<R, QueueFault>
-        requires agent { IsAgentOf self.now agent.old }
-        ensures agent { IsAgentOf self.now agent.new }
-        ensures refusals { RefusesBy (tag_checks self.now agent.old tag) (agent.new ≡ agent.old) result }
-        ensures value { IfOk result (λ value. slot_of agent.old tag ≡ some value) }
-        ensures same { IfOk result (λ value. Writes tag value agent.old agent.new) }
+    pub fn read(&self, hand: &mut QueueHand<R>, tag: u32) -> Result<R, TagFault>
+        requires hand { IsHandOf self.now hand.old }
+        ensures hand { IsStillOf self.now hand.old hand.new }
+        ensures does { DoesRead tag (pool_of self.now) result (in_pool hand.old) (in_pool hand.new) }
+        ensures counts { SameCounts hand.old hand.new }
+        ensures err { OnErr result (hand.new ≡ hand.old) }
     {
-        self.find_held(agent, tag)?;
-        Ok(self.map.read(&mut agent.caller, tag))
+        self.pool.read(&mut hand.inner, tag)
     }
 
-    /// Writes the slot of a held tag, and returns its former value. `NoSuchTag` means that the number is not below the
-    /// depth, `NotHeld` that the agent does not hold the tag; nothing changes then.
+    /// Returns the value in the slot of a tag that the hand holds, without the checks.
     #[inline]
-    pub fn write(&self, agent: &mut Agent<R>, tag: u32, value: R) -> Result<R, QueueFault>
-        requires agent { IsAgentOf self.now agent.old }
-        ensures agent { IsAgentOf self.now agent.new }
-        ensures refusals { RefusesBy (tag_checks self.now agent.old tag) (agent.new ≡ agent.old) result }
-        ensures former { IfOk result (λ former. slot_of agent.old tag ≡ some former) }
-        ensures writes { OnOk result (Writes tag value agent.old agent.new) }
+    pub fn read_held(&self, hand: &mut QueueHand<R>, tag: u32) -> R
+        requires hand { IsHandOf self.now hand.old }
+        requires held { Holds (in_pool hand.old) tag }
+        ensures hand { IsStillOf self.now hand.old hand.new }
+        ensures value { slot_of (in_pool hand.old) tag ≡ some result }
+        ensures reads { Reads tag result (in_pool hand.old) (in_pool hand.new) }
+        ensures counts { SameCounts hand.old hand.new }
     {
-        self.find_held(agent, tag)?;
-        Ok(self.map.slot(&mut agent.caller, tag, value))
+        self.pool.read_held(&mut hand.inner, tag)
     }
 
-    /// Gives up a held tag with its slot, so that another agent can `take` it. Whichever agent takes it first gets it.
-    /// `NoSuchTag` means that the number is not below the depth, `NotHeld` that the agent does not hold the tag;
-    /// nothing changes then.
+    /// Writes the slot of a held tag, and returns its former value, and is refused, as `Pool::write`.
     #[inline]
-    pub fn post(&self, agent: &mut Agent<R>, tag: u32) -> Result<(), QueueFault>
-        requires agent { IsAgentOf self.now agent.old }
-        ensures agent { IsAgentOf self.now agent.new }
-        ensures refusals { RefusesBy (tag_checks self.now agent.old tag) (agent.new ≡ agent.old) result }
-        ensures posts { OnOk result (Posts tag agent.old agent.new) }
+    pub fn write(&self, hand: &mut QueueHand<R>, tag: u32, value: R) -> Result<R, TagFault>
+        requires hand { IsHandOf self.now hand.old }
+        ensures hand { IsStillOf self.now hand.old hand.new }
+        ensures does { DoesWrite tag value (pool_of self.now) result (in_pool hand.old) (in_pool hand.new) }
+        ensures counts { SameCounts hand.old hand.new }
+        ensures err { OnErr result (hand.new ≡ hand.old) }
     {
-        self.find_held(agent, tag)?;
-        self.map.post(&mut agent.caller, tag);
-        Ok(())
+        self.pool.write(&mut hand.inner, tag, value)
     }
 
-    /// Takes a posted tag with its slot. `NotPosted` leaves the agent unchanged except for one step in its list.
-    /// `NoSuchTag` means that the number is not below the depth.
+    /// Writes the slot of a tag that the hand holds, without the checks, and returns its former value.
     #[inline]
-    pub fn take(&self, agent: &mut Agent<R>, tag: u32) -> Result<(), QueueFault>
-        requires agent { IsAgentOf self.now agent.old }
-        ensures agent { IsAgentOf self.now agent.new }
-        ensures no_such_tag { (result ≡ Err QueueFault.NoSuchTag) ↔ ((layout_of self.now).depth ≤ tag) }
-        ensures takes { OnOk result (Takes tag agent.old agent.new) }
-        ensures refuses { IfErr result (λ fault. RefusesTake tag fault agent.old agent.new) }
+    pub fn write_held(&self, hand: &mut QueueHand<R>, tag: u32, value: R) -> R
+        requires hand { IsHandOf self.now hand.old }
+        requires held { Holds (in_pool hand.old) tag }
+        ensures hand { IsStillOf self.now hand.old hand.new }
+        ensures former { slot_of (in_pool hand.old) tag ≡ some result }
+        ensures writes { Writes tag value (in_pool hand.old) (in_pool hand.new) }
+        ensures counts { SameCounts hand.old hand.new }
     {
-        if tag >= self.map.layout().depth() {
-            return Err(QueueFault::NoSuchTag);
-        }
-        if !self.map.take(&mut agent.caller, tag) {
-            return Err(QueueFault::NotPosted);
-        }
-        Ok(())
+        self.pool.write_held(&mut hand.inner, tag, value)
     }
 
-    /// Returns the value in the slot of a tag that the agent holds.
+    /// Gives up a held tag with its slot, so that another hand can take it, and is refused, as `Pool::post`.
     #[inline]
-    pub fn read_held(&self, agent: &mut Agent<R>, tag: u32) -> R
-        requires agent { IsAgentOf self.now agent.old }
-        requires held { Holds agent.old tag }
-        ensures agent { IsAgentOf self.now agent.new }
-        ensures value { slot_of agent.old tag ≡ some result }
-        ensures same { Writes tag result agent.old agent.new }
+    pub fn post(&self, hand: &mut QueueHand<R>, tag: u32) -> Result<(), TagFault>
+        requires hand { IsHandOf self.now hand.old }
+        ensures hand { IsStillOf self.now hand.old hand.new }
+        ensures does { DoesPost tag (pool_of self.now) result (in_pool hand.old) (in_pool hand.new) }
+        ensures counts { SameCounts hand.old hand.new }
+        ensures err { OnErr result (hand.new ≡ hand.old) }
     {
-        self.map.read(&mut agent.caller, tag)
+        self.pool.post(&mut hand.inner, tag)
     }
 
-    /// Writes the slot of a tag that the agent holds, and returns its former value.
+    /// Takes a posted tag with its slot, and is refused, as `Pool::take`.
     #[inline]
-    pub fn write_held(&self, agent: &mut Agent<R>, tag: u32, value: R) -> R
-        requires agent { IsAgentOf self.now agent.old }
-        requires held { Holds agent.old tag }
-        ensures agent { IsAgentOf self.now agent.new }
-        ensures former { slot_of agent.old tag ≡ some result }
-        ensures writes { Writes tag value agent.old agent.new }
+    pub fn take(&self, hand: &mut QueueHand<R>, tag: u32) -> Result<(), TagFault>
+        requires hand { IsHandOf self.now hand.old }
+        ensures hand { IsStillOf self.now hand.old hand.new }
+        ensures does { DoesTake tag (pool_of self.now) result (in_pool hand.old) (in_pool hand.new) }
+        ensures counts { SameCounts hand.old hand.new }
+        ensures unchanged { IfErr result (λ fault. (fault ≡ NoSuchTag) → (hand.new ≡ hand.old)) }
     {
-        self.map.slot(&mut agent.caller, tag, value)
+        self.pool.take(&mut hand.inner, tag)
     }
 }

@@ -24,7 +24,7 @@ use Rattle.tag_script.specs.declared.ending.Ending.{Ending}
 use Rattle.tag_script.specs.declared.ending.Ending.TheVariants.{Done}
 use Rattle.tag_script.specs.Refusals.{IsRefusedAt}
 use Rattle.tag_runs.specs.declared.options.PlayOptions.{PlayOptions}
-use Rattle.tag_sets.specs.Texts.{field}
+use Rattle.tag_pool.specs.Texts.{field}
 
 -- the index of a kind in a report
 abbrev pub number_of_kind : IoKind → ℕ

@@ -2,7 +2,7 @@
 ghost use Rattle.std.specs.Prelude.{◌≡◌, ◌≢◌, ◌++◌, OnOk};
 ghost use Rattle.tag_runs.specs.Reports.{count_of, is_kind, kinds_lines, line_of, log_fault_text};
 ghost use Rattle.tag_runs.specs.Reports.{number_of_kind, play_fault_text, report_text, totals_lines};
-ghost use Rattle.tag_sets.specs.Texts.{field};
+ghost use Rattle.tag_pool.specs.Texts.{field};
 
 use itoa::Buffer;
 use loop_device::{Done, IoKind, Log, LogFault, PlayFault, Report};

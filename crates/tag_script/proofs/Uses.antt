@@ -24,5 +24,5 @@ pub use Rattle.tag_script.specs.SharedCommands.{AreSharedTotals, is_marked, Obey
 pub use Rattle.tag_script.specs.Texts.{faulty_text, setup_text, total_line}
 pub use Rattle.tag_search.specs.Plain.{is_busy_tag, IsTaken, Plain, plain_words}
 pub use Rattle.tag_search.specs.Pool.{free_at, is_busy, Pool, pool_of}
-pub use Rattle.tag_sets.proofs.Tallies.{all_words, count_word, narrow_word}
-pub use Rattle.tag_sets.specs.Texts.{field}
+pub use Rattle.tag_pool.proofs.Tallies.{all_words, count_word, narrow_word}
+pub use Rattle.tag_pool.specs.Texts.{field}

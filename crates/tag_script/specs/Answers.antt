@@ -1,10 +1,10 @@
 -- The line of each answer.
 use Rattle.tag_script.specs.Uses.{[], codes, dump_text, field, flat_map, List, None, Option, ResizeCause, shown_text, Some, Wakes, ℕ}
 use Rattle.std.specs.Prelude.{◌==◌, if◌then◌else◌, ◌++◌}
-use Rattle.tag_queue.specs.declared.resizes.ResizeCause.TheVariants.{Missing, DepthTooLarge, InUse, Waiting, Memory}
+use Rattle.tag_pool.specs.declared.resizes.ResizeCause.TheVariants.{Missing, DepthTooLarge, InUse, Waiting, Memory}
 use Rattle.tag_script.specs.declared.answer.Answer.{Answer}
 use Rattle.tag_script.specs.declared.answer.Answer.TheVariants as answers
-use Rattle.tag_script.specs.Faults.{number_of_tag_fault, number_of_resize_cause}
+use Rattle.tag_script.specs.Faults.{number_of_tag_fault, number_of_wait_fault, number_of_resize_cause}
 use Rattle.wake_book.specs.declared.waiting.Left.{Left}
 use Rattle.wake_book.specs.declared.waiting.Left.TheVariants.{Woken, Unwoken}
 
@@ -61,6 +61,7 @@ line_of (answers.Busy tags) = busy_line tags
 line_of (answers.Shown shown) = shown_text shown
 line_of (answers.Dump bytes) = dump_text bytes
 line_of (answers.Refused fault) = field (codes "refused ") (number_of_tag_fault fault) ++ codes "\n"
+line_of (answers.NotWaited fault) = field (codes "refused ") (number_of_wait_fault fault) ++ codes "\n"
 line_of (answers.NotResized cause) = not_resized_line cause
 
 -- the lines of the answers in order

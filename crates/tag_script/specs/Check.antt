@@ -1,12 +1,12 @@
 -- The verdict of `check` on a list of events.
-use Rattle.tag_script.specs.Uses.{AreReadings, codes, Event, EventFault, field, IsFirstFaulty, IsSomeAnd, Layout, length, List, MAX_DEPTH, MAX_SHIFT, SetFault, Whole, Word, ℕ}
+use Rattle.tag_script.specs.Uses.{AreReadings, codes, Event, EventFault, field, IsFirstFaulty, IsSomeAnd, Layout, length, List, MAX_DEPTH, MAX_SHIFT, QueueOpenFault, Whole, Word, ℕ}
 use Rattle.std.specs.Prelude.{◌≡◌, ◌⊎◌, ◌+◌, ◌<◌, ◌≤◌, ◌++◌}
 use Rattle.tag_model.specs.declared.world.TheConstants.{MAX_CALLERS}
 use Rattle.tag_model.specs.World.{World, opened}
 use Rattle.tag_model.specs.Runs.{after_all, MayRun, StopsAt}
 use Rattle.tag_model.specs.Totals.{AreTotals}
 use Rattle.tag_script.specs.declared.options.CheckOptions.{CheckOptions}
-use Rattle.tag_sets.specs.declared.fault.SetFault.TheVariants as faults
+use Rattle.tag_queue.specs.declared.fault.QueueOpenFault.TheVariants as faults
 use Rattle.tag_script.specs.declared.ending.Ending.{Ending}
 use Rattle.tag_script.specs.declared.ending.Ending.TheVariants.{Done}
 use Rattle.tag_script.specs.declared.check.Verdict.{Verdict}
@@ -23,7 +23,7 @@ abbrev pub HasCallers : CheckOptions → Type 0
 HasCallers o = (1 ≤ o.callers) × (o.callers ≤ MAX_CALLERS)
 
 -- the first cause that refuses the setup
-abbrev pub IsSetupFault : CheckOptions → SetFault → Type 0
+abbrev pub IsSetupFault : CheckOptions → QueueOpenFault → Type 0
 IsSetupFault o faults.Memory = ⊥
 IsSetupFault o faults.TotalTooLarge = MAX_DEPTH < o.tags
 IsSetupFault o faults.ReservedTooLarge = ⊥

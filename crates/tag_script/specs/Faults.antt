@@ -1,12 +1,13 @@
 -- The numbers of refused setups, events, commands and resizes in the output.
-use Rattle.tag_script.specs.Uses.{EventFault, ResizeCause, SetFault, TagFault, ℕ}
+use Rattle.tag_script.specs.Uses.{EventFault, QueueOpenFault, ResizeCause, TagFault, WaitFault, ℕ}
 use Rattle.tag_model.specs.declared.event.EventFault.TheVariants as events
-use Rattle.tag_sets.specs.declared.fault.SetFault.TheVariants as setups
-use Rattle.tag_sets.specs.declared.fault.TagFault.TheVariants as tags
-use Rattle.tag_queue.specs.declared.resizes.ResizeCause.TheVariants as resizes
+use Rattle.tag_queue.specs.declared.fault.QueueOpenFault.TheVariants as setups
+use Rattle.tag_pool.specs.declared.fault.TagFault.TheVariants as tags
+use Rattle.tag_queue.specs.declared.fault.WaitFault.TheVariants as waits
+use Rattle.tag_pool.specs.declared.resizes.ResizeCause.TheVariants as resizes
 
 -- of a setup
-abbrev pub number_of_setup_fault : SetFault → ℕ
+abbrev pub number_of_setup_fault : QueueOpenFault → ℕ
 number_of_setup_fault setups.Memory = 1
 number_of_setup_fault setups.TotalTooLarge = 2
 number_of_setup_fault setups.ReservedTooLarge = 3
@@ -34,9 +35,13 @@ number_of_tag_fault tags.NotPosted = 4
 number_of_tag_fault tags.BadCount = 5
 number_of_tag_fault tags.TooShallow = 6
 number_of_tag_fault tags.Spent = 7
-number_of_tag_fault tags.Waiting = 8
-number_of_tag_fault tags.NotWaiting = 9
-number_of_tag_fault tags.OtherWait = 10
+
+-- of a wait, or of its end
+abbrev pub number_of_wait_fault : WaitFault → ℕ
+number_of_wait_fault waits.NoSuchTag = 1
+number_of_wait_fault waits.Spent = 7
+number_of_wait_fault waits.Waiting = 8
+number_of_wait_fault waits.NotWaiting = 9
 
 -- of a resize
 abbrev pub number_of_resize_cause : ResizeCause → ℕ

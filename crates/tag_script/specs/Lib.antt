@@ -31,7 +31,7 @@ pub use Rattle.tag_search.specs.Choice
 pub use Rattle.tag_search.specs.Visits
 pub use Rattle.tag_search.specs.Hints
 pub use Rattle.tag_search.specs.Follows
-pub use Rattle.tag_sets.specs.Texts as SetTexts
+pub use Rattle.tag_pool.specs.Texts as SetTexts
 pub use Rattle.tag_board.specs.Boards
 pub use Rattle.tag_board.specs.Closing
 pub use Rattle.tag_board.specs.Looks

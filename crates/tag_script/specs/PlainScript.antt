@@ -1,7 +1,7 @@
 -- The output of a script with one caller alone with plain words.
-use Rattle.tag_script.specs.Uses.{IsSomeAnd, Layout, List, max, MAX_DEPTH, MAX_SHIFT, Option, Order, SetFault, unwrap_or, ℕ}
+use Rattle.tag_script.specs.Uses.{IsSomeAnd, Layout, List, max, MAX_DEPTH, MAX_SHIFT, Option, Order, QueueOpenFault, unwrap_or, ℕ}
 use Rattle.std.specs.Prelude.{◌≡◌, ◌≢◌, ◌<◌, ◌≤◌}
-use Rattle.tag_sets.specs.declared.fault.SetFault.TheVariants as faults
+use Rattle.tag_queue.specs.declared.fault.QueueOpenFault.TheVariants as faults
 use Rattle.tag_script.specs.declared.options.ScriptOptions.{ScriptOptions}
 use Rattle.tag_script.specs.Commands.{ObeysOrder, AreTotals}
 use Rattle.tag_script.specs.Outputs.{IsRun}
@@ -14,7 +14,7 @@ pub record IsMapOf (o : ScriptOptions) (l : Layout) : Type 0 where
   pub layout : IsLayoutOf o.tags o.shift l
 
 -- the first cause that refuses the setup
-abbrev pub IsRefusedAlone : ScriptOptions → SetFault → Type 0
+abbrev pub IsRefusedAlone : ScriptOptions → QueueOpenFault → Type 0
 IsRefusedAlone o faults.Memory = ⊥
 IsRefusedAlone o faults.TotalTooLarge = MAX_DEPTH < o.tags
 IsRefusedAlone o faults.ReservedTooLarge = (o.tags ≤ MAX_DEPTH) × (0 < o.reserved)

@@ -7,8 +7,8 @@ use Rattle.tag_search.specs.declared.hint.Hint.{Hint}
 use Rattle.tag_search.specs.Batch.{batch_words}
 use Rattle.tag_search.specs.Follows.{HintFollows, BatchFollows}
 use Rattle.tag_search.specs.Choice.{IsChoice, IsBatchChoice}
-use Rattle.tag_queue.specs.Batches.{NamesTwice}
-use Rattle.tag_sets.specs.declared.fault.TagFault.TheVariants.{NoSuchTag, NotHeld, BadCount, TooShallow}
+use Rattle.tag_pool.specs.Runs.{NamesTwice}
+use Rattle.tag_pool.specs.declared.fault.TagFault.TheVariants.{NoSuchTag, NotHeld, BadCount, TooShallow}
 
 -- the layout, the least depth of a shallow get, which places are free or set aside, the caller's hint, and how many
 -- tags it won and gave back

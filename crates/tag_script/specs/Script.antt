@@ -1,5 +1,5 @@
 -- The output of a script: the line of its first malformed line, that of a refused setup, or the answers of its orders.
-use Rattle.tag_script.specs.Uses.{AreReadings, Bool, false, FaultyLine, IsFirstFaulty, List, Order, SetFault, true, Whole, ℕ}
+use Rattle.tag_script.specs.Uses.{AreReadings, Bool, false, FaultyLine, IsFirstFaulty, List, Order, QueueOpenFault, true, Whole, ℕ}
 use Rattle.tag_lines.specs.declared.dialect.Dialect.{Dialect}
 use Rattle.tag_lines.specs.declared.dialect.Dialect.TheVariants.{Plain, Shared}
 use Rattle.tag_lines.specs.Faults.{place_of}
@@ -18,7 +18,7 @@ dialect_of true = Plain
 dialect_of false = Shared
 
 -- the first cause that refuses the setup
-abbrev pub IsRefusedSetup : Bool → ScriptOptions → SetFault → Type 0
+abbrev pub IsRefusedSetup : Bool → ScriptOptions → QueueOpenFault → Type 0
 IsRefusedSetup true = IsRefusedAlone
 IsRefusedSetup false = IsRefusedShared
 
@@ -33,7 +33,7 @@ pub data Owed (o : ScriptOptions) (script : List ℕ) : List ℕ → Ending → 
   faulty : (fault : FaultyLine) (ending : Ending)
       → IsFirstFaulty (order_of (dialect_of o.plain) o.callers) script fault
       → IsRefusedAt (place_of fault) ending → Owed o script (faulty_text fault) ending
-  refused : (orders : List Order) (fault : SetFault) (ending : Ending)
+  refused : (orders : List Order) (fault : QueueOpenFault) (ending : Ending)
       → AreReadings (order_of (dialect_of o.plain) o.callers) script orders
       → IsRefusedSetup o.plain o fault → IsRefusedAt Whole ending → Owed o script (setup_text fault) ending
   answered : (orders : List Order) (text : List ℕ) → AreReadings (order_of (dialect_of o.plain) o.callers) script orders

@@ -1,5 +1,5 @@
 -- Which setups are legal.
-use Rattle.tag_script.specs.Uses.{HasShift, IfSome, Layout, MAX_DEPTH, MAX_SHIFT, Option, SetFault, ℕ}
+use Rattle.tag_script.specs.Uses.{HasShift, IfSome, Layout, MAX_DEPTH, MAX_SHIFT, Option, QueueOpenFault, ℕ}
 use Rattle.std.specs.Prelude.{◌≡◌, ◌≤◌}
 use Rattle.tag_script.specs.declared.fault.OpenFault.{OpenFault}
 use Rattle.tag_script.specs.declared.fault.OpenFault.TheVariants.{Memory, Setup}
@@ -12,6 +12,6 @@ pub record IsLayoutOf (tags : ℕ) (shift : Option ℕ) (l : Layout) : Type 0 wh
   pub narrow : IfSome shift (λ s. s ≤ MAX_SHIFT)
 
 -- out of memory, or one of these causes
-abbrev pub IsOpenFault : (SetFault → Type 0) → OpenFault → Type 0
+abbrev pub IsOpenFault : (QueueOpenFault → Type 0) → OpenFault → Type 0
 IsOpenFault refuses Memory = Unit {0}
 IsOpenFault refuses (Setup fault) = refuses fault

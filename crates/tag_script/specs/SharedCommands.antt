@@ -1,6 +1,6 @@
 -- The answer of each command of a script over shared tags, and the state after it. With one caller the answers are
 -- those over plain words.
-use Rattle.tag_script.specs.Uses.{Bool, Command, Err, filter, length, List, nat_eq, Ok, Order, ResizeCause, Result, Shown, State, Totals, Wakes, ℕ}
+use Rattle.tag_script.specs.Uses.{Bool, Command, Err, filter, length, List, nat_eq, Ok, Order, ResizeCause, Result, Shown, State, Totals, WaitFault, Wakes, ℕ}
 use Rattle.std.specs.Prelude.{◌≡◌, ◌≢◌, ◌+◌, ◌*◌}
 use Rattle.tag_board.specs.Closing.{totals_in}
 use Rattle.tag_board.specs.Looks.{ListsBusy, Shows, Dumps}
@@ -11,9 +11,18 @@ use Rattle.tag_script.specs.declared.answer.Answer.{Answer}
 use Rattle.tag_script.specs.declared.answer.Answer.TheVariants as answers
 use Rattle.tag_script.specs.Commands.{TellsOutcome}
 use Rattle.tag_script.specs.Dump.{range}
-use Rattle.tag_sets.specs.declared.kind.Kind.{Kind}
-use Rattle.tag_sets.specs.declared.kind.Kind.TheVariants.{Ordinary, Reserved}
-use Rattle.tag_sets.specs.Bits.{bit_in}
+use Rattle.tag_pool.specs.declared.kind.Kind.{Kind}
+use Rattle.tag_pool.specs.declared.kind.Kind.TheVariants.{Ordinary, Reserved}
+use Rattle.tag_pool.specs.Bits.{bit_in}
+
+-- the answer for the result of a wait, or of its end: that of its value, or a refusal
+abbrev pub waited : {A : Type 0} → (A → Answer) → Result A WaitFault → Answer
+waited tell (Ok outcome) = tell outcome
+waited tell (Err fault) = answers.NotWaited fault
+
+-- the answer is that of a result which the wait or its end may have
+abbrev pub TellsWait : {A : Type 0} → (A → Answer) → (Result A WaitFault → Type 0) → Answer → Type 0
+TellsWait {A} tell may answer = (outcome : Result A WaitFault) × may outcome × (answer ≡ waited tell outcome)
 
 -- the answer for the result of a resize
 abbrev pub resize_answer : Result (Unit {0}) ResizeCause → Answer
@@ -64,9 +73,9 @@ ObeysBy caller (commands.Post tag) old answer new =
 ObeysBy caller (commands.Take tag) old answer new =
     TellsOutcome (λ done. answers.Done 0) (λ outcome. Takes tag caller old outcome new) answer
 ObeysBy caller commands.Wait old answer new =
-    TellsOutcome answers.Group (λ outcome. Waits caller old outcome new) answer
+    TellsWait answers.Group (λ outcome. Waits caller old outcome new) answer
 ObeysBy caller commands.Leave old answer new =
-    TellsOutcome answers.Left (λ outcome. Leaves caller old outcome new) answer
+    TellsWait answers.Left (λ outcome. Leaves caller old outcome new) answer
 ObeysBy caller commands.Wakes old answer new =
     (wakes : Wakes) × FindsWakes caller old wakes new × (answer ≡ answers.Wakes wakes)
 ObeysBy caller commands.Show old answer new = TellsShown Ordinary caller old answer new

@@ -1,5 +1,5 @@
 -- Texts that every run may write.
-use Rattle.tag_script.specs.Uses.{codes, FaultyLine, field, List, SetFault, Totals, ℕ}
+use Rattle.tag_script.specs.Uses.{codes, FaultyLine, field, List, QueueOpenFault, Totals, ℕ}
 use Rattle.std.specs.Prelude.{◌++◌}
 use Rattle.tag_lines.specs.Faults.{number_of_line_fault}
 use Rattle.tag_script.specs.Faults.{number_of_setup_fault}
@@ -20,5 +20,5 @@ faulty_text fault =
     field (codes "line ") fault.number ++ field (codes " refused ") (number_of_line_fault fault.cause) ++ codes "\n"
 
 -- the line that reports a refused setup
-abbrev pub setup_text : SetFault → List ℕ
+abbrev pub setup_text : QueueOpenFault → List ℕ
 setup_text fault = field (codes "setup refused ") (number_of_setup_fault fault) ++ codes "\n"

@@ -12,13 +12,14 @@ pub use Rattle.tag_lines.specs.declared.refusal.Place.TheVariants.{Whole, Word}
 pub use Rattle.tag_model.specs.declared.event.Event.{Event}
 pub use Rattle.tag_model.specs.declared.event.EventFault.{EventFault}
 pub use Rattle.tag_model.specs.declared.totals.Totals.{Totals}
-pub use Rattle.tag_queue.specs.declared.resizes.ResizeCause.{ResizeCause}
+pub use Rattle.tag_pool.specs.Texts.{dump_text, field, shown_text}
+pub use Rattle.tag_pool.specs.declared.fault.TagFault.{TagFault}
+pub use Rattle.tag_pool.specs.declared.resizes.ResizeCause.{ResizeCause}
+pub use Rattle.tag_pool.specs.declared.shown.Shown.{Shown}
+pub use Rattle.tag_queue.specs.declared.fault.QueueOpenFault.{QueueOpenFault}
+pub use Rattle.tag_queue.specs.declared.fault.WaitFault.{WaitFault}
 pub use Rattle.tag_queue.specs.declared.waits.Wakes.{Wakes}
 pub use Rattle.tag_search.specs.Hints.{reduced}
 pub use Rattle.tag_search.specs.Pool.{is_busy, Pool, set_aside}
 pub use Rattle.tag_search.specs.Search.{Visit}
 pub use Rattle.tag_search.specs.Visits.{plain_visits, shallow_visits}
-pub use Rattle.tag_sets.specs.Texts.{dump_text, field, shown_text}
-pub use Rattle.tag_sets.specs.declared.fault.SetFault.{SetFault}
-pub use Rattle.tag_sets.specs.declared.fault.TagFault.{TagFault}
-pub use Rattle.tag_sets.specs.declared.shown.Shown.{Shown}

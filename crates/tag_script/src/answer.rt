@@ -2,8 +2,7 @@
 
 use std::alloc::{AllocError, Global};
 use std::marker::Model;
-use tag_queue::ResizeCause;
-use tag_sets::{Left, Shown, TagFault, Wakes};
+use tag_queue::{Left, ResizeCause, Shown, TagFault, WaitFault, Wakes};
 
 /// The answer of a command.
 #[derive(Debug, Drop)]
@@ -28,6 +27,8 @@ pub enum Answer {
     Dump(DumpBytes),
     /// The command was refused.
     Refused(TagFault),
+    /// A wait was refused, or the end of one.
+    NotWaited(WaitFault),
     /// A resize was refused.
     NotResized(ResizeCause),
 }

@@ -11,7 +11,7 @@ use std::sync::Wait;
 use tag_board::Board;
 use tag_lines::{Command, Order};
 use tag_model::Totals;
-use tag_sets::Kind;
+use tag_queue::Kind;
 
 /// Callers that share tags. A contract sees the `state_of` their board.
 pub(crate) struct Callers<'a, W> {

@@ -16,7 +16,7 @@ use std::alloc::{AllocError, Global};
 use tag_layout::{Layout, LayoutFault};
 use tag_lines::{FaultyLine, ListFault, Place, Refusal, events};
 use tag_model::{Event, EventFault, ModelFault, Totals, World};
-use tag_sets::SetFault;
+use tag_queue::QueueOpenFault;
 
 /// What is said of a word by which no event goes.
 const UNKNOWN_EVENT: &str = "no such event with this many words";
@@ -27,7 +27,7 @@ pub enum Verdict {
     /// The first malformed line.
     Faulty(FaultyLine),
     /// The options describe no world. Every line is an event.
-    Setup(SetFault),
+    Setup(QueueOpenFault),
     /// The line of the first event that cannot happen, and the word of it that is wrong, both counted from 1, and the
     /// reason.
     Stopped(u64, u64, EventFault),
@@ -62,13 +62,17 @@ fn open(alloc: Global, options: &CheckOptions) -> Result<(Layout, World), OpenFa
 {
     let layout = match Layout::new(options.tags, options.shift) {
         Ok(layout) => layout,
-        Err(LayoutFault::DepthTooLarge) => return Err(OpenFault::Setup(SetFault::TotalTooLarge)),
-        Err(LayoutFault::ShiftTooLarge) => return Err(OpenFault::Setup(SetFault::ShiftTooLarge)),
+        Err(LayoutFault::DepthTooLarge) => return Err(OpenFault::Setup(
+            QueueOpenFault::TotalTooLarge,
+        )),
+        Err(LayoutFault::ShiftTooLarge) => return Err(OpenFault::Setup(
+            QueueOpenFault::ShiftTooLarge,
+        )),
     };
     match World::open(alloc, layout, options.callers) {
         Ok(world) => Ok((layout, world)),
         Err(ModelFault::Memory) => Err(OpenFault::Memory),
-        Err(ModelFault::CallerCount) => Err(OpenFault::Setup(SetFault::CallerCount)),
+        Err(ModelFault::CallerCount) => Err(OpenFault::Setup(QueueOpenFault::CallerCount)),
     }
 }
 

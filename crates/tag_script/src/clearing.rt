@@ -3,10 +3,10 @@ ghost use Rattle.std.specs.Prelude.{◌≡◌, ◌≢◌, ◌<◌, ◌≤◌, �
 ghost use Rattle.std.specs.List.{All, AllPairs, Any};
 ghost use Rattle.tag_search.specs.Plain.{plain_words, is_busy_tag};
 ghost use Rattle.tag_search.specs.Pool.{pool_of};
-ghost use Rattle.tag_queue.specs.Batches.{NamesTwice};
+ghost use Rattle.tag_pool.specs.Runs.{NamesTwice};
 ghost use Rattle.tag_script.specs.PlainWorld.{freed};
 
-use tag_queue::are_distinct;
+use tag_pool::are_distinct;
 use tag_search::{PlainPort, Port};
 
 /// Returns whether each tag of the list is held, and the tags are distinct.

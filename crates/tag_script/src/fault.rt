@@ -1,5 +1,5 @@
 //! Why a world was not opened.
-use tag_sets::SetFault;
+use tag_queue::QueueOpenFault;
 
 /// Why a world was not opened.
 #[derive(Clone, Copy, Debug, PartialEq, Eq)]
@@ -7,5 +7,5 @@ pub(crate) enum OpenFault {
     /// Out of memory.
     Memory,
     /// The options are not legal.
-    Setup(SetFault),
+    Setup(QueueOpenFault),
 }

@@ -1,15 +1,15 @@
 //! The lines of answers.
 ghost use Rattle.std.specs.Prelude.{◌≡◌, ◌++◌, OnOk, codes};
-ghost use Rattle.tag_sets.specs.Texts.{shown_text, dump_text, field};
+ghost use Rattle.tag_pool.specs.Texts.{shown_text, dump_text, field};
 ghost use Rattle.tag_script.specs.Answers.{line_of, tag_line, batch_line, done_line, left_line, wakes_line, busy_line};
 ghost use Rattle.tag_script.specs.Answers.{hindrance_text, not_resized_line};
-ghost use Rattle.tag_script.specs.Faults.{number_of_tag_fault, number_of_resize_cause};
+ghost use Rattle.tag_script.specs.Faults.{number_of_tag_fault, number_of_wait_fault, number_of_resize_cause};
 
 use crate::answer::Answer;
 use crate::text::{end_line, push_field};
 use std::alloc::AllocError;
-use tag_queue::ResizeCause;
-use tag_sets::{Left, Shown, TagFault, Wakes, write_dump, write_show};
+use tag_pool::{write_dump, write_show};
+use tag_queue::{Left, ResizeCause, Shown, TagFault, WaitFault, Wakes};
 
 impl Answer {
     /// Appends the line of this answer. A show has five lines, and a dump one for every sixteen bytes, rounded up.
@@ -27,6 +27,7 @@ impl Answer {
             Answer::Shown(shown) => push_shown(text, shown),
             Answer::Dump(bytes) => push_dump(text, bytes.as_slice()),
             Answer::Refused(fault) => push_line(text, b"refused ", number_of(*fault)),
+            Answer::NotWaited(fault) => push_line(text, b"refused ", number_of_wait(*fault)),
             Answer::NotResized(cause) => push_not_resized(text, *cause),
         }
     }
@@ -175,8 +176,17 @@ fn number_of(fault: TagFault) -> u64
         TagFault::BadCount => 5,
         TagFault::TooShallow => 6,
         TagFault::Spent => 7,
-        TagFault::Waiting => 8,
-        TagFault::NotWaiting => 9,
-        TagFault::OtherWait => 10,
+    }
+}
+
+/// The number of a refused wait in the output, or of the refused end of one.
+fn number_of_wait(fault: WaitFault) -> u64
+    ensures { result ≡ number_of_wait_fault fault }
+{
+    match fault {
+        WaitFault::NoSuchTag => 1,
+        WaitFault::Spent => 7,
+        WaitFault::Waiting => 8,
+        WaitFault::NotWaiting => 9,
     }
 }

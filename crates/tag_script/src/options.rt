@@ -4,10 +4,7 @@ ghost use Rattle.tag_script.specs.Script.{dialect_of};
 ghost use Rattle.tag_script.specs.SharedScript.{tag_options};
 
 use tag_lines::Dialect;
-use tag_sets::{Options, Waits};
-
-/// Most completions that a caller may count: 2^56.
-const CAP: u64 = 72_057_594_037_927_936;
+use tag_queue::Options;
 
 /// The world of a script.
 #[derive(Clone, Copy, Debug, PartialEq, Eq)]
@@ -47,13 +44,14 @@ impl ScriptOptions {
         ensures { result ≡ tag_options self.now }
     {
         Options {
+            depth: self.tags,
+            reserved: self.reserved,
+            hands: self.callers,
             shift: self.shift,
+            by_hands: false,
             round_robin: self.round_robin,
             min_shallow: self.min_shallow,
-            callers: self.callers,
             life: self.life,
-            cap: CAP,
-            waits: Waits::InGroups,
         }
     }
 }

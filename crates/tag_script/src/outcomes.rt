@@ -1,12 +1,11 @@
 //! The outcomes of calls, as answers.
 ghost use Rattle.std.specs.Prelude.{◌≡◌};
 ghost use Rattle.tag_script.specs.Commands.{told};
-ghost use Rattle.tag_script.specs.SharedCommands.{resize_answer};
+ghost use Rattle.tag_script.specs.SharedCommands.{resize_answer, waited};
 ghost use Rattle.tag_script.specs.declared.answer.Answer.TheVariants as answers;
 
 use crate::answer::Answer;
-use tag_queue::ResizeCause;
-use tag_sets::{Left, TagFault};
+use tag_queue::{Left, ResizeCause, TagFault, WaitFault};
 
 impl Answer {
     /// The answer of a get.
@@ -38,17 +37,17 @@ impl Answer {
     }
 
     /// The answer of a wait.
-    pub(crate) fn to_wait(outcome: Result<u32, TagFault>) -> Answer
-        ensures { result ≡ told answers.Group outcome }
+    pub(crate) fn to_wait(outcome: Result<u32, WaitFault>) -> Answer
+        ensures { result ≡ waited answers.Group outcome }
     {
-        outcome.map_or_else(Answer::Refused, Answer::Group)
+        outcome.map_or_else(Answer::NotWaited, Answer::Group)
     }
 
     /// The answer of the end of a wait.
-    pub(crate) fn to_leave(outcome: Result<Left, TagFault>) -> Answer
-        ensures { result ≡ told answers.Left outcome }
+    pub(crate) fn to_leave(outcome: Result<Left, WaitFault>) -> Answer
+        ensures { result ≡ waited answers.Left outcome }
     {
-        outcome.map_or_else(Answer::Refused, Answer::Left)
+        outcome.map_or_else(Answer::NotWaited, Answer::Left)
     }
 
     /// The answer of a resize.

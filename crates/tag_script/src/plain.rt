@@ -13,7 +13,7 @@ use crate::running::run_orders;
 use std::alloc::Global;
 use tag_layout::{Layout, MAX_DEPTH};
 use tag_lines::{MAX_INPUT, Order};
-use tag_sets::SetFault;
+use tag_queue::QueueOpenFault;
 
 /// Carries out the orders of one caller and returns the output, or the reason why the setup was refused.
 pub(crate) fn run_alone(
@@ -41,16 +41,16 @@ fn open(alloc: Global, options: &ScriptOptions) -> Result<PlainCaller, OpenFault
     ensures fault { IfErr result (IsOpenFault (IsRefusedAlone options.now)) }
 {
     if options.tags > MAX_DEPTH {
-        return Err(OpenFault::Setup(SetFault::TotalTooLarge));
+        return Err(OpenFault::Setup(QueueOpenFault::TotalTooLarge));
     }
     if options.reserved > 0 {
-        return Err(OpenFault::Setup(SetFault::ReservedTooLarge));
+        return Err(OpenFault::Setup(QueueOpenFault::ReservedTooLarge));
     }
     let Ok(layout) = Layout::new(options.tags, options.shift) else {
-        return Err(OpenFault::Setup(SetFault::ShiftTooLarge));
+        return Err(OpenFault::Setup(QueueOpenFault::ShiftTooLarge));
     };
     if options.callers != 1 {
-        return Err(OpenFault::Setup(SetFault::CallerCount));
+        return Err(OpenFault::Setup(QueueOpenFault::CallerCount));
     }
     let least = options.min_shallow.unwrap_or(1).max(1);
     match PlainCaller::open(alloc, layout, options.round_robin, least) {

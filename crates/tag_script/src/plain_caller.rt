@@ -9,9 +9,8 @@ ghost use Rattle.tag_script.specs.PlainCallers.{plain_world_of, IsReadyFor, Coun
 use crate::clearing::{are_held_once, give_all};
 use std::alloc::{AllocError, Global};
 use tag_layout::Layout;
-use tag_queue::are_below;
+use tag_pool::{MAX_BATCH, Shown, TagFault, are_below};
 use tag_search::{Hint, PlainPort, Port, after_clear};
-use tag_sets::{MAX_BATCH, Shown, TagFault};
 
 /// A map, its only caller, and the caller's counts. A contract sees its `plain_world_of`.
 #[derive(Drop)]

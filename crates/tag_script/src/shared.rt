@@ -1,5 +1,5 @@
 //! Scripts of callers that share tags.
-ghost use Rattle.std.specs.Prelude.{◌≡◌, ◌<◌, IfOk, IfErr, All};
+ghost use Rattle.std.specs.Prelude.{◌≡◌, ◌<◌, ◌^◌, IfOk, IfErr, All};
 ghost use Rattle.tag_script.specs.Setups.{IsOpenFault};
 ghost use Rattle.tag_board.specs.Boards.{state_of};
 ghost use Rattle.tag_board.specs.Opening.{IsOpen};
@@ -13,7 +13,7 @@ use std::alloc::Global;
 use std::sync::Wait;
 use tag_board::Board;
 use tag_lines::Order;
-use tag_sets::SetFault;
+use tag_queue::{MAX_CAP, QueueOpenFault};
 
 /// Runs the orders of callers that share tags, and returns the output.
 pub(crate) fn run_shared<W: Wait>(
@@ -36,13 +36,12 @@ pub(crate) fn run_shared<W: Wait>(
 /// Opens the board that the options describe.
 fn open(alloc: Global, options: &ScriptOptions) -> Result<Board, OpenFault>
     ensures allowed { IfOk result (λ board. IsAllowed options.now) }
-    ensures new { IfOk result (λ board.
-        IsOpen options.now.tags options.now.reserved (tag_options options.now) (state_of board)) }
+    ensures new { IfOk result (λ board. IsOpen (tag_options options.now) (2 ^ 56) (state_of board)) }
     ensures fault { IfErr result (IsOpenFault (IsRefusedShared options.now)) }
 {
-    match Board::open(alloc, options.tags, options.reserved, options.tag_options()) {
+    match Board::open(alloc, options.tag_options(), MAX_CAP) {
         Ok(board) => Ok(board),
-        Err(SetFault::Memory) => Err(OpenFault::Memory),
+        Err(QueueOpenFault::Memory) => Err(OpenFault::Memory),
         Err(fault) => Err(OpenFault::Setup(fault)),
     }
 }

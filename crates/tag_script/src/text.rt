@@ -2,13 +2,13 @@
 ghost use Rattle.std.specs.Prelude.{◌≡◌, ◌++◌, IfOk, OnOk, codes};
 ghost use Rattle.tag_script.specs.Faults.{number_of_setup_fault};
 ghost use Rattle.tag_script.specs.Texts.{totals_text, faulty_text, setup_text};
-ghost use Rattle.tag_sets.specs.Texts.{field};
+ghost use Rattle.tag_pool.specs.Texts.{field};
 
 use itoa::Buffer;
 use std::alloc::{AllocError, Global};
 use tag_lines::{FaultyLine, LINE_FEED};
 use tag_model::Totals;
-use tag_sets::SetFault;
+use tag_queue::QueueOpenFault;
 
 /// Appends words and a number.
 pub(crate) fn push_field(text: &mut Vec<u8>, words: &[u8], number: u64) -> Result<(), AllocError>
@@ -50,7 +50,7 @@ pub(crate) fn push_faulty(text: &mut Vec<u8>, fault: FaultyLine) -> Result<(), A
 }
 
 /// Returns the line that reports a refused setup.
-pub fn setup_text(alloc: Global, fault: SetFault) -> Result<Vec<u8>, AllocError>
+pub fn setup_text(alloc: Global, fault: QueueOpenFault) -> Result<Vec<u8>, AllocError>
     ensures { IfOk result (λ text. text.items ≡ setup_text fault) }
 {
     let mut text = Vec::new(alloc);
@@ -59,7 +59,7 @@ pub fn setup_text(alloc: Global, fault: SetFault) -> Result<Vec<u8>, AllocError>
 }
 
 /// Appends the line that reports a refused setup.
-pub(crate) fn push_setup(text: &mut Vec<u8>, fault: SetFault) -> Result<(), AllocError>
+pub(crate) fn push_setup(text: &mut Vec<u8>, fault: QueueOpenFault) -> Result<(), AllocError>
     ensures ok { OnOk result (text.new.items ≡ text.old.items ++ setup_text fault) }
 {
     push_field(text, b"setup refused ", number_of_setup(fault))?;
@@ -67,17 +67,17 @@ pub(crate) fn push_setup(text: &mut Vec<u8>, fault: SetFault) -> Result<(), Allo
 }
 
 /// The number of a refused setup in the output.
-fn number_of_setup(fault: SetFault) -> u64
+fn number_of_setup(fault: QueueOpenFault) -> u64
     ensures { result ≡ number_of_setup_fault fault }
 {
     match fault {
-        SetFault::Memory => 1,
-        SetFault::TotalTooLarge => 2,
-        SetFault::ReservedTooLarge => 3,
-        SetFault::ShiftTooLarge => 4,
-        SetFault::CallerCount => 5,
-        SetFault::LifeTooLong => 6,
-        SetFault::CapTooLarge => 7,
+        QueueOpenFault::Memory => 1,
+        QueueOpenFault::TotalTooLarge => 2,
+        QueueOpenFault::ReservedTooLarge => 3,
+        QueueOpenFault::ShiftTooLarge => 4,
+        QueueOpenFault::CallerCount => 5,
+        QueueOpenFault::LifeTooLong => 6,
+        QueueOpenFault::CapTooLarge => 7,
     }
 }
 

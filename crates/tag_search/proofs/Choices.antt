@@ -70,7 +70,7 @@ choice_here l p left visit more place (wins_aside set first e) =
     (chosen_aside [] more visit (All-nil (IsFull p)) set first)
 
 -- a quiet search is a choice
-search_alone : {l : Layout} → word_bits l ≤ 64 → {vs : List Visit} {steps : List WordStep} {answer : Option ℕ}
+pub search_alone : {l : Layout} → word_bits l ≤ 64 → {vs : List Visit} {steps : List WordStep} {answer : Option ℕ}
     → IsSearch l vs steps answer → (w : Words) → Distinct vs → All (IsInside l) vs
     → Quiet steps w → IsChoice l (pool_of w) vs answer (pool_of (words_after_all steps w))
 search_alone {l = l} narrow over w distinct inside quiet =

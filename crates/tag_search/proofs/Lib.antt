@@ -34,6 +34,7 @@ pub mod AloneCallers
 pub mod Freshness
 pub mod HeldFacts
 pub mod MapGets
+pub mod ExactGets
 pub mod Seen
 pub mod Closing
 pub mod VainGets

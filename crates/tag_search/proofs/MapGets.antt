@@ -1,6 +1,6 @@
 -- How a get through the port of a map's caller changes the caller.
 use Rattle.std.specs.Prelude.{◌++◌, ◌<◌, ◌≡◌, ◌≤◌}
-use Rattle.tag_search.proofs.Uses.{adds_on, AddsAll, AddsThrough, ap, arith, batch_words, Bool, Caller, Chooses, ChoosesRun, Gains, GainsRun, Hint, HoldsMore, IfOk, inl, IsAlone, IsAnswer, IsBatchChoice, IsBatchGet, IsBegun, IsCallerOf, IsChoice, IsGet, IsInRun, IsRestOfGet, IsWonAtOnce, Layout}
+use Rattle.tag_search.proofs.Uses.{adds_on, AddsAll, All, AddsThrough, ap, arith, batch_words, Bool, Caller, Chooses, ChoosesRun, Gains, GainsRun, Hint, HoldsMore, IfOk, inl, IsAlone, IsAnswer, IsBatchChoice, IsBatchGet, IsBegun, IsCallerOf, IsChoice, IsGet, IsInRun, IsRestOfGet, IsWonAtOnce, Layout}
 use Rattle.tag_search.proofs.Uses.{layout_of, List, Makes, Map, None, Ok, Option, plain_reach, plain_visits, Ports, Reach, Record, record_of, reduced, refl, Result, SameMap, shallow_reach, shallow_visits, Shape, Shared, Some, subst, sym, Unfinished, Visit, visits, visits_from, word_bits-le}
 use Rattle.tag_search.proofs.Uses.{word_depth, word_of, words, WordStep, ℕ, ◌∙◌}
 use Rattle.tag_core.specs.declared.claims.Spent.{Spent}
@@ -9,7 +9,7 @@ use Rattle.tag_search.proofs.GetFacts.{plain_within, shallow_within}
 use Rattle.tag_search.proofs.HeldFacts.{acquires_answer, acquires_run}
 use Rattle.tag_search.proofs.AloneCallers.{alone_still, own_changes, own_posted}
 use Rattle.tag_search.proofs.RunFacts.{WonRun, batch_wins}
-use Rattle.tag_search.proofs.Inside.{visits_inside}
+use Rattle.tag_search.proofs.Inside.{IsInside, visits_inside}
 use Rattle.tag_search.proofs.SharedFacts.{Won, search_wins}
 
 -- the effect of a get with these visits on its caller, in the form of the clauses of `on_map`
@@ -56,13 +56,11 @@ module _ {R : Type 0} (map : Map R) (caller now : Caller R) (own : IsCallerOf ma
     same_map = same_map;
   }
 
-  -- a get, from its steps
-  got : (first : ℕ) (reach : Reach) (answer : Option ℕ)
-      → ((i : ℕ) → i < words sizes → reach.limit i ≤ word_depth sizes i)
-      → Makes caller now (IsGet sizes (visits sizes first reach) answer)
-      → Got sizes (visits sizes first reach) answer caller now
-  got first reach answer within made =
-      let all = made.added in let inside = visits_inside sizes first reach within in
+  -- a get with these visits, from its steps
+  got_by : (vs : List Visit) (answer : Option ℕ) → All (IsInside sizes) vs → Makes caller now (IsGet sizes vs answer)
+      → Got sizes vs answer caller now
+  got_by vs answer inside made =
+      let all = made.added in
       let won : Won sizes answer (record_of caller) (record_of now) =
       subst (λ (t : Record R). Won sizes answer (record_of caller) t) (sym all.known)
       (search_wins sizes (word_bits-le sizes narrow) (record_of caller) made.holds.search all.finds inside) in record {
@@ -72,13 +70,28 @@ module _ {R : Type 0} (map : Map R) (caller now : Caller R) (own : IsCallerOf ma
             (λ tag was is. (all.kept tag was).1)) won all.same_map;
         steps = made;
         alone = λ one. record {
-          choice = own_changes (λ p q. IsChoice sizes p (visits sizes first reach) answer q) caller now made.steps
+          choice = own_changes (λ p q. IsChoice sizes p vs answer q) caller now made.steps
               (alone_still caller now made.steps all one) all made.holds.alone;
           posted = own_posted caller now made.steps all;
         };
       }
 
-  -- the same in the terms of the map
+  -- a search of all words, from its steps
+  got : (first : ℕ) (reach : Reach) (answer : Option ℕ)
+      → ((i : ℕ) → i < words sizes → reach.limit i ≤ word_depth sizes i)
+      → Makes caller now (IsGet sizes (visits sizes first reach) answer)
+      → Got sizes (visits sizes first reach) answer caller now
+  got first reach answer within = got_by (visits sizes first reach) answer (visits_inside sizes first reach within)
+
+  -- a get with visits that depend on the layout, in the terms of the map
+  pub got_over : (vs : Layout → List Visit) (answer : Option ℕ) → All (IsInside (layout_of map)) (vs (layout_of map))
+      → Makes caller now (IsGet (layout_of map) (vs (layout_of map)) answer)
+      → Got (layout_of map) (vs (layout_of map)) answer caller now
+  got_over vs answer inside made = subst (λ (k : Shape). Got k.layout (vs k.layout) answer caller now) own.1
+      (got_by (vs sizes) answer (subst (λ (k : Shape). All (IsInside k.layout) (vs k.layout)) (sym own.1) inside)
+      (subst (λ (k : Shape). Makes caller now (IsGet k.layout (vs k.layout) answer)) (sym own.1) made))
+
+  -- a plain get, in the terms of the map
   pub got_of : (round_robin : Bool) (from : ℕ) (answer : Option ℕ)
       → Makes caller now (IsGet (layout_of map) (plain_visits (layout_of map) round_robin from) answer)
       → Got (layout_of map) (plain_visits (layout_of map) round_robin from) answer caller now

@@ -5,6 +5,7 @@ pub mod Visits
 pub mod Pool
 pub mod Choice
 pub mod Gets
+pub mod Exact
 pub mod Batch
 pub mod Added
 pub mod Hints

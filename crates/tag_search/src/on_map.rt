@@ -1,5 +1,5 @@
 //! Gets and clears by one of the callers of a shared map.
-ghost use Rattle.std.specs.Prelude.{◌≡◌, ◌≢◌, ℕ, ◌^◌, ◌↔◌, ◌⊎◌, ◌≤◌, false, List, IsTrue, IsOk, IfOk, IfErr, IfNone, OnErr, Some, Err};
+ghost use Rattle.std.specs.Prelude.{◌≡◌, ◌≢◌, ℕ, ◌^◌, ◌↔◌, ◌⊎◌, ◌<◌, ◌≤◌, false, List, IsTrue, IsOk, IfOk, IfErr, IfNone, OnErr, Some, Err};
 ghost use Rattle.tag_layout.specs.Layout.{word_bits, word_of, place_of};
 ghost use Rattle.tag_core.specs.Callers.{layout_of, IsCallerOf, Holds, Adds};
 ghost use Rattle.tag_core.specs.Holding.{HoldsLess};
@@ -9,6 +9,7 @@ ghost use Rattle.tag_core.specs.declared.word_step.WordStep.{WordStep};
 ghost use Rattle.tag_search.specs.Batch.{IsBatchGet};
 ghost use Rattle.tag_search.specs.Begun.{CanTry, CanFinish, IsBegun, IsRestOfGet, IsWonAtOnce};
 ghost use Rattle.tag_search.specs.declared.search.Unfinished.TheVariants.{NotBegun};
+ghost use Rattle.tag_search.specs.Exact.{IsExactGet, visits_at};
 ghost use Rattle.tag_search.specs.Follows.{HintFollows, BatchFollows, ClearFollows};
 ghost use Rattle.tag_search.specs.Freed.{left_free};
 ghost use Rattle.tag_search.specs.Gains.{Gains, GainsRun};
@@ -22,7 +23,9 @@ ghost use Rattle.tag_search.specs.Visits.{plain_visits, shallow_visits};
 
 use crate::found::Found;
 use crate::hint::{Hint, after_clear};
+use crate::pass::{TURNS, visit};
 use crate::place::bit_of;
+use crate::rank::Rank;
 use crate::search::{self, Unfinished};
 use crate::shared::Shared;
 use tag_core::{Caller, Map, Spent};
@@ -173,6 +176,45 @@ pub fn get_batch<R>(
     let mut port = Shared::new(map, caller);
     let answer = search::get_batch(&mut port, hint, n)?;
     let left = port.left();
+    Ok(Found { answer, left })
+}
+
+/// Takes this tag for the caller if it is free, and no other. `None` means that its bit was found set at some moment of the
+/// call: some caller held the tag, it was posted, or another caller's sweep was about to free it. A tag that is set aside
+/// counts as free: its word is swept, which frees the other tags set aside there too. `Spent` as in `get`.
+#[inline]
+pub fn get_exactly<R>(map: &Map<R>, caller: &mut Caller<R>, tag: u32) -> Result<Found<u32>, Spent>
+    requires caller { IsCallerOf map.now caller.old }
+    requires tag { tag < (layout_of map.now).depth }
+    ensures caller { IsCallerOf map.now caller.new }
+    ensures room { IsOk result ↔ HasRoom caller.old 1 }
+    ensures gains { IfOk result (λ found. Gains (layout_of map.now) found.answer caller.old caller.new) }
+    ensures steps { IfOk result (λ found.
+        Makes caller.old caller.new (IsExactGet (layout_of map.now) tag found.answer)) }
+
+    // If the map has no other caller, the tag is won if it is free or set aside.
+    ensures alone { IsAlone caller.old → IfOk result (λ found. let l = layout_of map.now in
+        Chooses l (visits_at l tag) found.answer caller.old caller.new) }
+    ensures left { IfOk result (λ found. found.left ≡ left_free caller.old caller.new) }
+    ensures err { OnErr result (caller.new ≡ caller.old) }
+{
+    if !caller.room(1) {
+        return Err(Spent);
+    }
+    let layout = map.layout();
+    let place = layout.place_of(tag);
+    let only = Rank {
+        from: place,
+        limit: place + 1,
+        then: 0,
+    };
+    let mut port = Shared::new(map, caller);
+    let won = visit(&mut port, layout.word_of(tag), only, TURNS);
+    let left = port.left();
+    let answer = match won {
+        Some(_) => Some(tag),
+        None => None,
+    };
     Ok(Found { answer, left })
 }
 

@@ -1,12 +1,10 @@
-//! Threads as coroutines of one thread: each runs on a stack of its own until it switches back.
+//! Coroutines of one thread: each runs on a stack of its own until it switches back to the explorer.
 
-use std::cell::{Cell, RefCell};
-use std::panic::{catch_unwind, AssertUnwindSafe};
+use crate::memory::{self, MOST};
+use std::cell::Cell;
 
-/// What a thread does.
+/// What a coroutine does.
 pub type Body<'a> = Box<dyn FnOnce() + 'a>;
-
-const STACK: usize = 1 << 18;
 
 /// Words that a switch leaves on the stack: six registers, where to go on, and one that aligns it.
 const SAVED: usize = 8;
@@ -37,62 +35,63 @@ unsafe fn tags_explore_switch(_: *mut usize, _: usize) {
 thread_local! {
     /// Where the explorer itself goes on.
     static EXPLORER: Cell<usize> = const { Cell::new(0) };
-    /// Where the fiber that runs left off last.
-    static RUNNING: Cell<usize> = const { Cell::new(0) };
-    static STARTING: RefCell<Option<Body<'static>>> = const { RefCell::new(None) };
-    static HAS_PANICKED: Cell<bool> = const { Cell::new(false) };
+    /// Where each coroutine goes on.
+    static STACKS: Cell<[usize; MOST]> = const { Cell::new([0; MOST]) };
+    static STARTING: Cell<Option<Body<'static>>> = const { Cell::new(None) };
 }
 
-/// A thread's stack, and where it goes on.
-pub struct Fiber {
-    stack: Vec<u128>,
-    at: usize,
+/// Where each coroutine goes on: the lowest address of its stack that it uses.
+pub fn stacks() -> [usize; MOST] {
+    STACKS.get()
 }
 
-impl Fiber {
-    pub fn new() -> Fiber {
-        let stack = vec![0; STACK / size_of::<u128>()];
-        Fiber { stack, at: 0 }
-    }
+/// Has the coroutines go on there.
+pub fn set_stacks(stacks: [usize; MOST]) {
+    STACKS.set(stacks);
+}
 
-    /// Begins with a body, up to its first switch back.
-    pub fn start(&mut self, body: Body<'_>) {
-        // SAFETY: only the lifetime changes. The body ends before `search::run` returns, or the program exits at a fault.
-        let body = unsafe { std::mem::transmute::<Body<'_>, Body<'static>>(body) };
-        STARTING.set(Some(body));
-        let top = self.stack.as_mut_ptr_range().end.cast::<usize>();
-        // SAFETY: these words are the last of the stack.
-        unsafe {
-            top.sub(SAVED).write_bytes(0, SAVED);
-            top.sub(2).write(enter as *const () as usize);
-        }
-        self.at = top.wrapping_sub(SAVED) as usize;
-        self.resume();
-    }
+fn set_stack(coroutine: usize, at: usize) {
+    let mut stacks = STACKS.get();
+    stacks[coroutine] = at;
+    STACKS.set(stacks);
+}
 
-    /// Goes on, up to the next switch back. Returns whether the body has panicked.
-    pub fn resume(&mut self) -> bool {
-        let from = EXPLORER.with(Cell::as_ptr);
-        // SAFETY: the fiber left off there, and its stack is still here.
-        unsafe { tags_explore_switch(from, self.at) };
-        self.at = RUNNING.get();
-        HAS_PANICKED.get()
+/// Begins with a body, up to its first switch back. What the body borrows has to live until it ends, or its memory is used
+/// for something else.
+pub fn start(coroutine: usize, body: Body<'_>) {
+    // SAFETY: only the lifetime changes.
+    STARTING.set(Some(unsafe { std::mem::transmute::<Body<'_>, Body<'static>>(body) }));
+    let top = memory::top(coroutine).cast::<usize>();
+    // SAFETY: these words are the last of the stack.
+    unsafe {
+        top.sub(SAVED).write_bytes(0, SAVED);
+        top.sub(2).write(enter as *const () as usize);
     }
+    set_stack(coroutine, top.wrapping_sub(SAVED) as usize);
+    resume(coroutine);
+}
+
+/// Goes on with a coroutine, up to its next switch back.
+pub fn resume(coroutine: usize) {
+    memory::run_as(coroutine);
+    // SAFETY: the coroutine left off there.
+    unsafe { tags_explore_switch(EXPLORER.with(Cell::as_ptr), STACKS.get()[coroutine]) };
+    memory::run_as(MOST);
+    memory::clear_below(coroutine, STACKS.get()[coroutine]);
 }
 
 extern "C" fn enter() -> ! {
-    let body = STARTING.take().unwrap_or_else(|| Box::new(|| ()));
-    if catch_unwind(AssertUnwindSafe(body)).is_err() {
-        HAS_PANICKED.set(true);
+    if let Some(body) = STARTING.take() {
+        body();
     }
     loop {
-        crate::search::end();
+        crate::steps::end();
     }
 }
 
-/// Back to the explorer, until the fiber is resumed.
+/// Back to the explorer, until the coroutine is resumed.
 pub fn switch_back() {
-    let from = RUNNING.with(Cell::as_ptr);
-    // SAFETY: the explorer left off there when it resumed this fiber.
-    unsafe { tags_explore_switch(from, EXPLORER.get()) };
+    let stacks = STACKS.with(Cell::as_ptr).cast::<usize>();
+    // SAFETY: the explorer left off there when it resumed this coroutine, whose place among the stacks this is.
+    unsafe { tags_explore_switch(stacks.add(memory::running()), EXPLORER.get()) };
 }

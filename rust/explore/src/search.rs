@@ -1,289 +1,170 @@
-//! Goes through the schedules of a few threads, depth first, each from its start. Sleep sets leave out those that differ from
-//! another only in the order of steps that do not depend on each other.
+//! Goes through all states that the threads of a scenario can come to, depth first. Each state is one moment at which all
+//! threads have stopped before their next steps, and from each the search goes on with every thread that can.
 
-use crate::fiber::{switch_back, Body, Fiber};
-use std::cell::RefCell;
+use crate::fiber;
+use crate::image::{Image, Mark, Sum};
+use crate::stage::Stage;
+use crate::steps::{self, fault};
+use std::collections::HashMap;
+use std::hash::{BuildHasherDefault, Hash, Hasher};
 
 /// More steps than any schedule here takes: a thread that goes on and on is found.
-const MOST_STEPS: usize = 1_000;
+const MOST_STEPS: usize = 10_000;
 
-/// How a step uses a place in memory.
-#[derive(Clone, Copy, Default, PartialEq)]
-pub enum Access {
-    #[default]
-    Read,
-    Write,
-    /// A slot is used, which nobody else may do at the same time.
-    Slot,
-}
-
-/// What a thread does next.
+/// How the search came to a state.
 #[derive(Clone, Copy, Default)]
-struct Step {
-    place: usize,
-    access: Access,
+struct Way {
+    /// The thread that made the last step, or 0.
+    last: usize,
+    /// How often a thread was left so far that could go on, where that is limited.
+    switches: u32,
+    /// Whether the last step ended a sleep for no reason.
+    is_rest: bool,
 }
 
-impl Step {
-    fn depends_on(self, other: Step) -> bool {
-        self.place == other.place && (self.access != Access::Read || other.access != Access::Read)
-    }
-}
-
-#[derive(Clone, Copy, PartialEq)]
-enum State {
-    Ready,
-    Asleep(usize),
-    /// It sleeps, and may go on at any time.
-    Dozing(usize),
-    Done,
-}
-
-struct Thread {
-    state: State,
-    next: Step,
-}
-
-/// A choice on the path that is explored: the threads that could go on, and those of them that need not be tried.
+/// A state on the path, from which the search goes on.
 struct Choice {
-    enabled: u32,
-    asleep: u32,
-    chosen: usize,
-    steps: Vec<Step>,
+    /// The state before it.
+    before: Mark,
+    stage: Stage,
+    way: Way,
+    /// By what it is known.
+    sum: u64,
+    /// The threads that are still to be tried.
+    left: u32,
 }
 
+/// A state that was found.
+struct Seen {
+    /// The least number of switches to it.
+    switches: u32,
+    /// Its place on the path, while it is there.
+    at: Option<usize>,
+}
+
+/// What was found of a scenario.
 #[derive(Default)]
+pub struct Explored {
+    pub states: usize,
+    /// Ways in which it ended.
+    pub ends: usize,
+    /// Steps that were made, from all states.
+    pub steps: usize,
+    /// Steps of the longest schedule.
+    pub longest: usize,
+}
+
 struct Search {
-    threads: Vec<Thread>,
-    current: Option<usize>,
-    /// The threads whose time is up, a bit for each.
-    late: u32,
+    /// The most switches of a schedule.
+    most: Option<u32>,
+    seen: HashMap<u64, Seen, BuildHasherDefault<Sum>>,
     path: Vec<Choice>,
-    fault: Option<&'static str>,
-}
-
-thread_local! {
-    static SEARCH: RefCell<Search> = RefCell::default();
-}
-
-fn with<T>(run: impl FnOnce(&mut Search) -> T) -> T {
-    SEARCH.with_borrow_mut(run)
-}
-
-/// Has the thread that runs wait for its turn. Nothing is explored where none runs, as before and after the threads.
-fn wait_in(state: State, next: Step) {
-    let is_thread = with(|search| {
-        let me = search.current?;
-        search.threads[me] = Thread { state, next };
-        Some(())
-    });
-    if is_thread.is_some() {
-        switch_back();
-    }
-}
-
-/// A thread is about to step on a place.
-pub fn step(place: usize, access: Access) {
-    wait_in(State::Ready, Step { place, access });
-}
-
-/// Sleeps until a wake, if the word is as expected when the step is made. Returns whether it slept.
-pub fn park(place: usize, is_as_expected: impl FnOnce() -> bool) -> bool {
-    step(place, Access::Write);
-    let sleeps = is_as_expected();
-    if sleeps {
-        wait_in(State::Asleep(place), Step::default());
-    }
-    sleeps
-}
-
-/// The same, or until the time is up, which it may be at any moment. The thread is late from then on.
-pub fn park_for_a_time(place: usize, is_as_expected: impl FnOnce() -> bool) {
-    let access = Access::Write;
-    step(place, access);
-    if is_as_expected() {
-        // A wake and the end of the time come in one order or the other.
-        wait_in(State::Dozing(place), Step { place, access });
-        with(|search| {
-            if let Some(me) = search.current {
-                search.late |= u32::from(search.threads[me].state == State::Dozing(place)) << me;
-            }
-        });
-    }
-}
-
-/// Whether the time of the thread that runs is up.
-pub fn is_late() -> bool {
-    with(|search| search.current.is_some_and(|me| search.late >> me & 1 == 1))
-}
-
-/// Wakes up to `count` of those who sleep on the place.
-pub fn wake(place: usize, count: usize) {
-    wake_after(place, count, || ());
-}
-
-/// The same, after a change that is part of the step.
-pub fn wake_after(place: usize, count: usize, change: impl FnOnce()) {
-    step(place, Access::Write);
-    change();
-    let sleeps = |it: &State| matches!(it, State::Asleep(at) | State::Dozing(at) if *at == place);
-    with(|search| {
-        let asleep = search.threads.iter_mut().filter(|it| sleeps(&it.state));
-        asleep.take(count).for_each(|it| it.state = State::Ready);
-    });
-}
-
-/// The threads that sleep, a bit for each.
-pub fn sleepers() -> u32 {
-    with(|search| search.mask(|it| matches!(search.threads[it].state, State::Asleep(_))))
-}
-
-/// The thread that runs has ended.
-pub fn end() {
-    wait_in(State::Done, Step::default());
-}
-
-/// Notes that a thread found something wrong.
-pub fn fail(what: &'static str) {
-    with(|search| search.fault = Some(what));
-}
-
-/// How one schedule ended.
-pub enum Ended {
-    /// All threads ended.
-    Well,
-    /// The rest is as in a schedule that was run before.
-    Seen,
-    Fault(&'static str),
-}
-
-/// What the search does next.
-enum Turn {
-    Resume(usize),
-    End(Ended),
+    image: Image,
+    found: Explored,
 }
 
 impl Search {
-    fn mask(&self, is_in: impl Fn(usize) -> bool) -> u32 {
-        (0..self.threads.len())
-            .filter(|it| is_in(*it))
-            .fold(0, |mask, it| mask | 1 << it)
-    }
-
-    /// Whether two threads are about to use one slot.
-    fn has_race(&self) -> bool {
-        let ready = || {
-            self.threads
-                .iter()
-                .filter(|it| it.state == State::Ready && it.next.access == Access::Slot)
-        };
-        ready()
-            .enumerate()
-            .any(|(at, it)| ready().skip(at + 1).any(|other| other.next.place == it.next.place))
-    }
-
-    /// Which thread goes on at this depth of the path, or how the schedule ended. `is_seen` says that the rest needs no
-    /// exploring.
-    fn turn(&mut self, depth: usize, is_seen: &mut bool) -> Turn {
-        if let Some(what) = self.fault {
-            return Turn::End(Ended::Fault(what));
+    /// Looks at a state, and goes on from it later if it is new.
+    fn look(&mut self, mut way: Way) {
+        let stage = steps::stage();
+        if let Some(what) = stage.fault() {
+            fault(what);
         }
-        if self.has_race() {
-            return Turn::End(Ended::Fault("a slot has two users"));
+        // To leave a thread that waits for others is no switch.
+        if stage.ready() >> way.last & 1 == 0 {
+            way.last = 0;
         }
-        let enabled = self.mask(|it| matches!(self.threads[it].state, State::Ready | State::Dozing(_)));
-        if enabled == 0 {
-            let is_over = self.threads.iter().all(|it| it.state == State::Done);
-            return Turn::End(match (is_over, *is_seen) {
-                (false, _) => Ended::Fault("all that are left sleep"),
-                (true, true) => Ended::Seen,
-                (true, false) => Ended::Well,
-            });
+        let (memory, extent) = self.image.look();
+        let mut sum = Sum::default();
+        (memory, extent, stage, self.most.map(|_| way.last)).hash(&mut sum);
+        let sum = sum.finish();
+        if self.is_seen(sum, way) {
+            return self.image.take_up();
         }
-        if depth > MOST_STEPS {
-            return Turn::End(Ended::Fault("too many steps"));
-        }
-        if let Some(choice) = self.path.get(depth) {
-            return Turn::Resume(choice.chosen);
-        }
-        if *is_seen {
-            return Turn::Resume(enabled.trailing_zeros() as usize);
-        }
-        Turn::Resume(self.choose(enabled, is_seen))
-    }
-
-    /// Makes the next choice of the path, unless all that could be chosen was.
-    fn choose(&mut self, enabled: u32, is_seen: &mut bool) -> usize {
-        let asleep = self.path.last().map_or(0, |last| {
-            let stays = |it: usize| last.asleep >> it & 1 == 1 && !last.steps[it].depends_on(last.steps[last.chosen]);
-            self.mask(stays)
+        let before = self.image.keep(memory, extent);
+        let stays = way.last != 0 && self.most == Some(way.switches);
+        let left = if stays { 1 << way.last } else { stage.enabled() };
+        self.push(Choice {
+            before,
+            stage,
+            way,
+            sum,
+            left,
         });
-        *is_seen = enabled & !asleep == 0;
-        let chosen = (if *is_seen { enabled } else { enabled & !asleep }).trailing_zeros() as usize;
-        if !*is_seen {
-            let steps = self.threads.iter().map(|it| it.next).collect();
-            self.path.push(Choice {
-                enabled,
-                asleep,
-                chosen,
-                steps,
-            });
-        }
-        chosen
     }
-}
 
-/// Runs the threads by the next schedule.
-pub fn run(fibers: &mut Vec<Fiber>, bodies: Vec<Body<'_>>) -> Ended {
-    fibers.resize_with(bodies.len(), Fiber::new);
-    let unborn = |_: &Body<'_>| Thread {
-        state: State::Ready,
-        next: Step::default(),
-    };
-    with(|search| {
-        search.threads = bodies.iter().map(unborn).collect();
-        search.late = 0;
-    });
-    for (me, body) in bodies.into_iter().enumerate() {
-        with(|search| search.current = Some(me));
-        fibers[me].start(body);
+    /// Whether a state was found before, by no more switches.
+    fn is_seen(&self, sum: u64, way: Way) -> bool {
+        let seen = self.seen.get(&sum).filter(|it| it.switches <= way.switches);
+        if let Some(begin) = seen.and_then(|it| it.at) {
+            self.check_circle(begin, way);
+        }
+        seen.is_some()
     }
-    let (mut depth, mut is_seen) = (0, false);
-    loop {
-        let turn = with(|search| search.turn(depth, &mut is_seen));
-        let me = match turn {
-            Turn::End(ended) => {
-                with(|search| search.current = None);
-                return ended;
-            }
-            Turn::Resume(me) => me,
+
+    /// Nobody goes round in circles, unless a sleep is ended for no reason again and again.
+    fn check_circle(&self, begin: usize, way: Way) {
+        let is_rest = way.is_rest || self.path[begin + 1..].iter().any(|it| it.way.is_rest);
+        if !is_rest {
+            fault("the threads go round in circles");
+        }
+    }
+
+    /// Puts a state on the path. If no thread is left, all have ended, and the play goes on to its end.
+    fn push(&mut self, choice: Choice) {
+        let (switches, at) = (choice.way.switches, Some(self.path.len()));
+        self.seen.insert(choice.sum, Seen { switches, at });
+        let is_end = choice.left == 0;
+        self.path.push(choice);
+        self.found.longest = self.found.longest.max(self.path.len());
+        if self.path.len() > MOST_STEPS {
+            fault("too many steps");
+        }
+        if is_end {
+            self.found.ends += 1;
+            fiber::resume(0);
+            self.image.look();
+            self.image.take_up();
+        }
+    }
+
+    /// Goes on with a thread from the last state that has one left.
+    fn go_on(&mut self) -> Option<Way> {
+        while self.path.last()?.left == 0 {
+            let last = self.path.pop()?;
+            self.seen.get_mut(&last.sum)?.at = None;
+            self.image.go_back(last.before);
+        }
+        let choice = self.path.last_mut()?;
+        let next = choice.left.trailing_zeros() as usize;
+        choice.left &= !(1 << next);
+        let is_switch = self.most.is_some() && choice.way.last != 0 && choice.way.last != next;
+        let way = Way {
+            last: next,
+            switches: choice.way.switches + u32::from(is_switch),
+            is_rest: choice.stage.sleepers() >> next & 1 == 1,
         };
-        depth += 1;
-        with(|search| search.current = Some(me));
-        if fibers[me].resume() {
-            return Ended::Fault("a thread panicked");
-        }
+        self.found.steps += 1;
+        steps::go_on(choice.stage, next, self.path.len() - 1);
+        Some(way)
     }
 }
 
-/// Goes to the next schedule, if there is one, and returns the steps of the path that it leaves.
-pub fn next() -> Option<usize> {
-    with(|search| {
-        let length = search.path.len();
-        while let Some(choice) = search.path.last_mut() {
-            choice.asleep |= 1 << choice.chosen;
-            let rest = choice.enabled & !choice.asleep;
-            if rest != 0 {
-                choice.chosen = rest.trailing_zeros() as usize;
-                return Some(length);
-            }
-            search.path.pop();
-        }
-        None
-    })
-}
-
-/// Leaves the path, for the next scenario to begin anew.
-pub fn forget() {
-    with(|search| search.path.clear());
+/// Goes through the states of a scenario, of all schedules, or of those with at most so many switches away from a thread
+/// that can go on.
+pub fn explore(name: &str, most: Option<u32>, play: impl Fn()) -> Explored {
+    let mut search = Search {
+        most,
+        seen: HashMap::default(),
+        path: Vec::new(),
+        image: Image::new(),
+        found: Explored::default(),
+    };
+    steps::begin(name, play);
+    search.look(Way::default());
+    while let Some(way) = search.go_on() {
+        search.look(way);
+    }
+    search.found.states = search.seen.len();
+    search.found
 }

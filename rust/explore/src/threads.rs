@@ -1,52 +1,22 @@
-//! What the threads do that are explored, and what is checked of it. This alone names the proved calls.
+//! The plays by the proved calls, which this alone names: what the threads do, and what is checked of it.
 
 use crate::base::vec::Global;
-use crate::fiber::{Body, Fiber};
 use crate::proved::tag_cache::Cache;
 use crate::proved::tag_pool::{Hand, Options, Pool};
-use crate::search::{fail, run, sleepers, step, Access, Ended};
+use crate::scenarios::Scenario;
+use crate::stage::Access;
+use crate::steps::{fault, run, sleepers, step};
 use std::cell::Cell;
 
-/// What each thread does in a round.
-#[derive(Clone, Copy, Debug, PartialEq)]
-pub enum Play {
-    /// Gets a tag, if there is one, writes its slot, and clears it.
-    Get,
-    /// The same, sleeping until there is a tag.
-    Sleep,
-    /// The same, over a cache of one tag.
-    Cache,
-    /// Gets a tag, if there is one, writes its slot, and posts it; then it takes any tag that is posted, and clears it.
-    Post,
-    /// The last thread clears all tags, which it holds at the start, and each other thread gets one and keeps it.
-    HandOver,
-    /// By the interface: each thread sleeps until it has a tag, and gives it back.
-    Wait,
-    /// The last thread gives back all tags, which it has at the start. The first one waits for a time only, which may be
-    /// up at any moment, and the others without a limit.
-    Limit,
-    /// The last thread has all tags, and stops all waits of the others.
-    Stop,
-}
-
-/// How many threads do what on how many tags, how often.
-#[derive(Clone, Copy)]
-pub struct Scenario {
-    pub play: Play,
-    pub threads: usize,
-    pub tags: usize,
-    pub rounds: usize,
-}
-
-/// Who has a tag, as its holders say.
+/// Who has a tag, as its holders say: 0 is nobody.
 #[derive(Default)]
-pub struct Owner(Cell<usize>);
+struct Owner(Cell<usize>);
 
 impl Owner {
-    pub fn change(&self, old: usize, new: usize) {
-        step(self as *const Owner as usize, Access::Write);
+    fn change(&self, old: usize, new: usize) {
+        step(self as *const Owner as usize, Access::Word);
         if self.0.replace(new) != old {
-            fail("a tag has two owners");
+            fault("a tag has two owners");
         }
     }
 }
@@ -55,35 +25,53 @@ impl Owner {
 struct Common {
     tags: Pool<u64>,
     owners: Vec<Owner>,
-    threads: usize,
-    rounds: usize,
+    scenario: Scenario,
 }
 
 /// What a call answers that cannot be refused here.
-fn given<T, E>(answer: Result<T, E>) -> Option<T> {
-    if answer.is_err() {
-        fail("a call was refused");
-    }
-    answer.ok()
+fn given<T, E>(answer: Result<T, E>) -> T {
+    answer.unwrap_or_else(|_| fault("a call was refused"))
 }
 
 impl Common {
+    fn open(scenario: Scenario) -> (Common, Vec<Hand<u64>>) {
+        let options = Options::new(scenario.tags as u32, scenario.threads as u32);
+        let (tags, hands) = given(Pool::open(Global, options, 0u64));
+        let owners = (0..scenario.tags).map(|_| Owner::default()).collect();
+        let common = Common { tags, owners, scenario };
+        (common, hands.into())
+    }
+
+    /// Closes the pool. All tags are back but for so many.
+    fn close(self, hands: Vec<Hand<u64>>, kept: usize) {
+        let totals = given(Pool::gather(self.tags, hands.into()));
+        if totals.held != kept as u64 || totals.got != totals.back + totals.held {
+            fault("the totals do not balance");
+        }
+    }
+
+    /// Runs what each thread does with its hand, and closes the pool.
+    fn play(self, mut hands: Vec<Hand<u64>>, kept: usize, does: fn(&Common, usize, &mut Hand<u64>)) {
+        run(&mut hands, |me, hand| does(&self, me, hand));
+        self.close(hands, kept);
+    }
+
     /// Uses a tag that a thread has got.
     fn hold(&self, me: usize, hand: &mut Hand<u64>, tag: u32) {
         self.owners[tag as usize].change(0, me);
         self.tags.write_held(hand, tag, me as u64);
         if self.tags.read_held(hand, tag) != me as u64 {
-            fail("a slot has another value");
+            fault("a slot has another value");
         }
         self.owners[tag as usize].change(me, 0);
     }
 
     fn get_quietly(&self, hand: &mut Hand<u64>) -> Option<u32> {
-        given(self.tags.get_quietly(hand)).and_then(|found| found.answer)
+        given(self.tags.get_quietly(hand)).answer
     }
 
     fn get(&self, me: usize, hand: &mut Hand<u64>) {
-        for _ in 0..self.rounds {
+        for _ in 0..self.scenario.rounds {
             if let Some(tag) = self.get_quietly(hand) {
                 self.hold(me, hand, tag);
                 given(self.tags.clear_quietly(hand, tag));
@@ -92,27 +80,23 @@ impl Common {
     }
 
     fn sleep(&self, me: usize, hand: &mut Hand<u64>) {
-        for _ in 0..self.rounds {
-            let Some(got) = given(self.tags.get_blocking(&(), hand)) else {
-                return;
-            };
+        for _ in 0..self.scenario.rounds {
+            let got = given(self.tags.get_blocking(&(), hand));
             self.hold(me, hand, got.answer);
             given(self.tags.clear(hand, got.answer));
         }
     }
 
     fn sleep_cached(&self, me: usize, cache: &mut Cache<u64>) {
-        for _ in 0..self.rounds {
-            let Some(got) = given(cache.get_blocking(&(), &self.tags)) else {
-                return;
-            };
+        for _ in 0..self.scenario.rounds {
+            let got = given(cache.get_blocking(&(), &self.tags));
             self.owners[got.answer as usize].change(0, me);
             self.owners[got.answer as usize].change(me, 0);
             let asleep = sleepers();
             given(cache.clear(&self.tags, got.answer));
             // Of more threads a third may have told the sleeper and be about to wake it.
-            if self.owners.len() == 1 && self.threads == 2 && asleep != 0 && cache.count() > 0 {
-                fail("a cache keeps a tag though somebody slept");
+            if self.scenario.is_least() && asleep != 0 && cache.count() > 0 {
+                fault("a cache keeps a tag though somebody slept");
             }
         }
         cache.flush(&self.tags);
@@ -120,7 +104,7 @@ impl Common {
     }
 
     fn post(&self, me: usize, hand: &mut Hand<u64>) {
-        for _ in 0..self.rounds {
+        for _ in 0..self.scenario.rounds {
             if let Some(tag) = self.get_quietly(hand) {
                 self.owners[tag as usize].change(0, me);
                 self.tags.write_held(hand, tag, u64::from(tag));
@@ -131,7 +115,7 @@ impl Common {
                 if self.tags.take(hand, tag as u32).is_ok() {
                     owner.change(0, me);
                     if self.tags.read_held(hand, tag as u32) != tag as u64 {
-                        fail("a slot has another value");
+                        fault("a slot has another value");
                     }
                     owner.change(me, 0);
                     given(self.tags.clear_quietly(hand, tag as u32));
@@ -140,13 +124,11 @@ impl Common {
         }
     }
 
-    fn keep(&self, me: usize, hand: &mut Hand<u64>) {
-        if let Some(got) = given(self.tags.get_blocking(&(), hand)) {
-            self.owners[got.answer as usize].change(0, me);
+    fn hand_over(&self, me: usize, hand: &mut Hand<u64>) {
+        if me < self.scenario.threads {
+            let got = given(self.tags.get_blocking(&(), hand));
+            return self.owners[got.answer as usize].change(0, me);
         }
-    }
-
-    fn clear_all(&self, me: usize, hand: &mut Hand<u64>) {
         for (tag, owner) in self.owners.iter().enumerate() {
             owner.change(me, 0);
             given(self.tags.clear(hand, tag as u32));
@@ -154,83 +136,41 @@ impl Common {
     }
 }
 
-impl Scenario {
-    /// Runs it by the next schedule, and checks the totals of one that ended well.
-    pub fn run(self, fibers: &mut Vec<Fiber>) -> Ended {
-        if matches!(self.play, Play::Wait | Play::Limit | Play::Stop) {
-            return self.run_interface(fibers);
-        }
-        let options = Options::new(self.tags as u32, self.threads as u32);
-        let Ok((tags, hands)) = Pool::open(Global, options, 0u64) else {
-            return Ended::Fault("the tags were not opened");
-        };
-        let owners = (0..self.tags).map(|_| Owner::default()).collect();
-        let common = Common {
-            tags,
-            owners,
-            threads: self.threads,
-            rounds: self.rounds,
-        };
-        let (ended, hands) = match self.play {
-            Play::Cache => cached(&common, hands.into_iter().collect(), fibers),
-            _ => self.plain(&common, hands.into_iter().collect(), fibers),
-        };
-        let Some(hands) = hands else { return ended };
-        if !matches!(ended, Ended::Fault(_)) && !self.balances(common.tags, hands) {
-            return Ended::Fault("the totals do not balance");
-        }
-        ended
-    }
-
-    fn plain(
-        self,
-        common: &Common,
-        mut hands: Vec<Hand<u64>>,
-        fibers: &mut Vec<Fiber>,
-    ) -> (Ended, Option<Vec<Hand<u64>>>) {
-        let last = self.threads - 1;
-        if self.play == Play::HandOver {
-            for owner in &common.owners {
-                given(common.tags.get_quietly(&mut hands[last]));
-                owner.0.set(self.threads);
-            }
-        }
-        let body = |(at, hand): (usize, _)| -> Body<'_> {
-            let me = at + 1;
-            match self.play {
-                Play::Get => Box::new(move || common.get(me, hand)),
-                Play::Post => Box::new(move || common.post(me, hand)),
-                Play::HandOver if at == last => Box::new(move || common.clear_all(me, hand)),
-                Play::HandOver => Box::new(move || common.keep(me, hand)),
-                _ => Box::new(move || common.sleep(me, hand)),
-            }
-        };
-        let ended = run(fibers, hands.iter_mut().enumerate().map(body).collect());
-        (ended, Some(hands))
-    }
-
-    /// Whether each tag got was given back, but for those that hand-over leaves held.
-    fn balances(self, tags: Pool<u64>, hands: Vec<Hand<u64>>) -> bool {
-        let kept = if self.play == Play::HandOver {
-            self.tags as u64
-        } else {
-            0
-        };
-        match Pool::gather(tags, hands.into()) {
-            Ok(totals) => totals.held == kept && totals.got == totals.back + kept,
-            Err(_) => false,
-        }
-    }
+/// Each thread gets a tag, if there is one, writes and reads its slot, and clears it, and tells nobody.
+pub fn get(scenario: Scenario) {
+    let (common, hands) = Common::open(scenario);
+    common.play(hands, 0, Common::get);
 }
 
-fn cached(common: &Common, hands: Vec<Hand<u64>>, fibers: &mut Vec<Fiber>) -> (Ended, Option<Vec<Hand<u64>>>) {
-    let mut caches: Vec<_> = hands.into_iter().map(|hand| Cache::new(hand, 1)).collect();
-    let body = |(at, cache): (usize, _)| -> Body<'_> { Box::new(move || common.sleep_cached(at + 1, cache)) };
-    match run(fibers, caches.iter_mut().enumerate().map(body).collect()) {
-        Ended::Fault(what) => (Ended::Fault(what), None),
-        ended => {
-            let hands = caches.into_iter().map(|cache| cache.into_hand_quietly(&common.tags).0);
-            (ended, Some(hands.collect()))
-        }
+/// The same, sleeping until there is a tag, and telling others.
+pub fn sleep(scenario: Scenario) {
+    let (common, hands) = Common::open(scenario);
+    common.play(hands, 0, Common::sleep);
+}
+
+/// Each thread gets a tag, if there is one, writes its slot, and posts it; then it takes any tag that is posted, reads its
+/// slot and clears it.
+pub fn post(scenario: Scenario) {
+    let (common, hands) = Common::open(scenario);
+    common.play(hands, 0, Common::post);
+}
+
+/// The last thread clears all tags, which it holds at the start, and each other thread gets one and keeps it.
+pub fn hand_over(scenario: Scenario) {
+    let (common, mut hands) = Common::open(scenario);
+    for owner in &common.owners {
+        common.get_quietly(&mut hands[scenario.threads - 1]);
+        owner.0.set(scenario.threads);
     }
+    common.play(hands, scenario.tags, Common::hand_over);
+}
+
+/// As `sleep`, over a cache of one tag, which is given back at the end.
+pub fn cache(scenario: Scenario) {
+    let (common, hands) = Common::open(scenario);
+    let mut caches: Vec<_> = hands.into_iter().map(|hand| Cache::new(hand, 1)).collect();
+    run(&mut caches, |me, cache| common.sleep_cached(me, cache));
+    let hands = caches.into_iter().map(|it| it.into_hand_quietly(&common.tags).0);
+    let hands = hands.collect();
+    common.close(hands, 0);
 }

@@ -5,6 +5,7 @@ use crate::hand::Hand;
 use crate::tag::Tag;
 use alloc::vec::Vec;
 use core::fmt;
+use core::iter::successors;
 
 /// The numbers of several tags: what [`Batch::post`] returns and [`Hand::take_batch`] takes. It holds no tag, so it can
 /// be copied, sent, and made of two numbers.
@@ -35,9 +36,10 @@ impl Numbers {
 
     /// Returns the numbers, in ascending order. What would be above `u32::MAX` is left out.
     pub fn iter(&self) -> impl Iterator<Item = u32> {
-        let (first, mask) = (self.first, self.mask);
-        let bits = (0..u64::BITS).filter(move |bit| mask >> bit & 1 == 1);
-        bits.filter_map(move |bit| first.checked_add(bit))
+        let first = self.first;
+        let without_lowest = |mask: &u64| Some(mask & mask.wrapping_sub(1));
+        let masks = successors(Some(self.mask), without_lowest).take_while(|mask| *mask != 0);
+        masks.filter_map(move |mask| first.checked_add(mask.trailing_zeros()))
     }
 
     /// Returns whether this is one of them.

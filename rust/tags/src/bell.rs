@@ -9,9 +9,9 @@
 //! reports, too; for threads that wait until all tags are back, which are in no list; and for the tags that hands keep. A hand
 //! that was told and found no tag is for a moment in no list either; whoever clears a tag while it is counted keeps none.
 //!
-//! Nor does a call tell anybody while as many threads are waking as there are tags, if hands keep none and only threads
-//! sleep: each of these tries every tag after it has left its sleep, and if it then has one or gives up, it sees to all
-//! tags. So where many wait for few tags, a clear seldom wakes a thread that would find nothing.
+//! Nor does a call tell anybody while as many threads are waking as there are tags, if only threads wait: each of these
+//! makes a round after it has left its sleep, and what the call's hand kept has gone back before. So where many wait for
+//! few tags, a clear seldom wakes a thread that would find nothing.
 
 use crate::allocator::Due;
 use crate::base::word::{AtomicI32, AtomicU32};

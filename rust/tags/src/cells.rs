@@ -1,6 +1,7 @@
 //! What a guard uses: its hand, and the value beside its tag. All unsafe code outside of `base` is here.
 
 use crate::allocator::{Held, HeldMask};
+use crate::base::word::touch;
 use crate::error::{Error, Result};
 use alloc::vec::Vec;
 use core::cell::{Cell, UnsafeCell};
@@ -71,7 +72,9 @@ impl<T> Values<T> {
     }
 
     fn cell(&self, number: u32) -> *mut T {
-        self.cells[number as usize].get()
+        let cell = self.cells[number as usize].get();
+        touch(cell);
+        cell
     }
 
     // A guard keeps its `Held` beside the hand that the tag is held by, and asks the values of that hand's pool. So no

@@ -87,12 +87,11 @@ impl<T> Hand<T> {
     #[cold]
     pub(crate) fn tell(&self, freed: u32) -> Due {
         let bell = &self.home.bell;
-        let due = if self.member.may_keep() {
-            let due = self.member.see_to(freed);
-            due.and(self.member.see_to(self.member.flush()))
-        } else if freed == 0 {
+        let freed = freed + self.member.flush();
+        if freed == 0 {
             return Due::NOBODY;
-        } else if bell.are_enough_waking(self.member.set().depth()) {
+        }
+        let due = if bell.are_enough_waking(self.member.set().depth()) {
             Due::NOBODY
         } else {
             self.member.see_to(freed)
@@ -166,6 +165,27 @@ impl<T> Hand<T> {
     #[inline]
     pub fn get_shallow(&self, depth: u32) -> Result<Option<Tag<'_, T>>> {
         let found = self.settle(self.after_get(self.member.get_shallow(depth)));
+        Ok(found?.map(|held| Tag::new(self, held)))
+    }
+
+    /// Takes the tag with this number, ordinary or reserved, if it is free, and no other, by a bounded number of steps.
+    /// A tag that this hand keeps is free for it, one that another hand keeps is not. `None` means that the tag was found
+    /// taken at some moment of the call.
+    ///
+    /// ```
+    /// # use tags::{Error, Options, Pool};
+    /// # fn main() -> tags::Result<()> {
+    /// let pool = Pool::open(&Options::new(16, 2))?;
+    /// let (hand, other) = (pool.join()?, pool.join()?);
+    /// let tag = hand.get_exactly(9)?.unwrap();
+    /// assert_eq!(tag.number(), 9);
+    /// assert!(other.get_exactly(9)?.is_none());
+    /// assert_eq!(other.get_exactly(16).unwrap_err(), Error::NoSuchTag);
+    /// # Ok(())
+    /// # }
+    /// ```
+    pub fn get_exactly(&self, number: u32) -> Result<Option<Tag<'_, T>>> {
+        let found = self.settle(self.after_get(self.member.get_exactly(number)));
         Ok(found?.map(|held| Tag::new(self, held)))
     }
 

@@ -70,7 +70,7 @@ pub use batch::{Batch, Numbers};
 pub use error::{CloseError, Error, Result};
 pub use future::{GetAsync, GetAsyncOwned};
 pub use hand::Hand;
-pub use options::{Kind, Options, Sizes, Totals};
+pub use options::{Kind, Options, Shift, Sizes, Totals};
 pub use owned::OwnedTag;
 pub use pool::Pool;
 pub use shared::SharedHand;

@@ -1,5 +1,34 @@
 //! The options of a pool, and what its calls report.
 
+/// How many tags there are in each word of a set.
+///
+/// ```
+/// # use tags::{Options, Pool, Shift};
+/// # fn main() -> tags::Result<()> {
+/// let many = Options::new(1024, 64);
+/// assert_eq!(Pool::open(&many)?.batch_limit(), 16);
+/// let large = Options { shift: Shift::AsKernel, ..many };
+/// assert_eq!(Pool::open(&large)?.batch_limit(), 64);
+/// let small = Options { shift: Shift::Of(3), ..many };
+/// assert_eq!(Pool::open(&small)?.batch_limit(), 8);
+/// # Ok(())
+/// # }
+/// ```
+#[derive(Clone, Copy, Debug, Default, PartialEq, Eq)]
+pub enum Shift {
+    /// As many as possible, up to 64, with which the set still has as many whole words as the pool has hands, and at
+    /// least 4, so that threads seldom share a word: 1 if there are fewer tags than hands, and 64 for fewer than 4
+    /// tags. With 64 tags for each hand these are the words of `AsKernel`.
+    #[default]
+    ByHands,
+    /// The same for 4 hands, whatever their number, as in the kernel's sbitmap. With less than 64 tags for each of
+    /// more than 4 hands words are larger than by `ByHands`, and so are batches; and a thread that always holds dozens
+    /// of tags finds the next one sooner.
+    AsKernel,
+    /// The binary logarithm of the number, at most 6.
+    Of(u32),
+}
+
 /// The options of a new pool. Set at least `total` and `hands`: by default there are no tags and no hands.
 ///
 /// ```
@@ -14,9 +43,8 @@ pub struct Options {
     pub total: u32,
     /// How many of them are reserved: tags 0 to `reserved - 1`.
     pub reserved: u32,
-    /// Binary logarithm of the tags per word, at most 6. `None` chooses the largest with which the set still has 4
-    /// whole words, and 6 for fewer than 4 tags.
-    pub shift: Option<u32>,
+    /// How many tags there are in each word. By default as many as leave a word for each hand.
+    pub shift: Shift,
     /// The least depth that [`get_shallow`](crate::Hand::get_shallow) accepts. `None` accepts any from 1.
     pub min_shallow: Option<u32>,
     /// Number of hands, 1 to 64.
@@ -57,7 +85,7 @@ impl Options {
         Options {
             total,
             reserved: 0,
-            shift: None,
+            shift: Shift::ByHands,
             min_shallow: None,
             hands,
             round_robin: false,

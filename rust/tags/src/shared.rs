@@ -126,6 +126,12 @@ impl<T> SharedHand<T> {
         Ok(found.map(|held| OwnedTag::new(self.clone(), held)))
     }
 
+    /// Takes the tag with this number, if it is free, as [`Hand::get_exactly`] does.
+    pub fn get_exactly(&self, number: u32) -> Result<Option<OwnedTag<T>>> {
+        let found = self.lend(|hand| hand.after_get(hand.member.get_exactly(number)))?;
+        Ok(found.map(|held| OwnedTag::new(self.clone(), held)))
+    }
+
     /// Returns a guard for a tag that this hand holds without one, as [`Hand::claim`] does.
     ///
     /// ```

@@ -1,13 +1,13 @@
 //! Tags that are posted and taken together: all of them or none, with their slots and their values.
 use std::thread;
 use std::time::Duration;
-use tags::{Batch, Error, Hand, Numbers, Options, Pool};
+use tags::{Batch, Error, Hand, Numbers, Options, Pool, Shift};
 
 /// Two reserved tags, then ten ordinary ones in words of four.
 fn open() -> Pool<u64> {
     let options = Options {
         reserved: 2,
-        shift: Some(2),
+        shift: Shift::Of(2),
         ..Options::new(12, 2)
     };
     Pool::open_with(&options, u64::from).unwrap()
@@ -124,7 +124,7 @@ fn an_empty_batch_posts_nothing() {
 #[test]
 fn whoever_waits_is_told_of_a_kept_tag() {
     let options = Options {
-        shift: Some(2),
+        shift: Shift::Of(2),
         cache: 2,
         ..Options::new(4, 2)
     };

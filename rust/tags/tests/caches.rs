@@ -40,6 +40,49 @@ fn a_kept_tag_is_busy_until_a_flush() {
 }
 
 #[test]
+fn a_kept_tag_is_free_for_its_hand_alone() {
+    let pool = open(4, 2, 2);
+    let (hand, other) = (pool.join_in_place().unwrap(), pool.join_in_place().unwrap());
+    drop(hand.get_exactly(3).unwrap());
+    assert!(other.get_exactly(3).unwrap().is_none());
+    let tag = hand.get_exactly(3).unwrap().unwrap();
+    assert_eq!((tag.number(), tag.write(7)), (3, 0));
+    assert!(hand.get_exactly(3).unwrap().is_none());
+    drop(tag);
+    hand.flush();
+    assert_eq!(other.get_exactly(3).unwrap().map(|tag| tag.number()), Some(3));
+}
+
+/// Threads ask for two given tags, which a hand may keep.
+#[test]
+fn a_given_tag_has_one_holder() {
+    for cache in [0, 2] {
+        let pool = open(4, 8, cache);
+        let held = [AtomicUsize::new(0), AtomicUsize::new(0)];
+        let won = AtomicUsize::new(0);
+        thread::scope(|scope| {
+            for _ in 0..8 {
+                scope.spawn(|| {
+                    let hand = pool.join().unwrap();
+                    for round in 0..5_000 {
+                        let at = round % 2;
+                        let Some(tag) = hand.get_exactly(1 + at as u32).unwrap() else {
+                            hand.flush();
+                            continue;
+                        };
+                        assert_eq!((tag.number(), held[at].fetch_add(1, SeqCst)), (1 + at as u32, 0));
+                        held[at].fetch_sub(1, SeqCst);
+                        won.fetch_add(1, SeqCst);
+                    }
+                });
+            }
+        });
+        let totals = pool.close().unwrap();
+        assert!(won.into_inner() > 0 && totals.got == totals.back);
+    }
+}
+
+#[test]
 fn a_cache_has_a_limit() {
     let large = Options {
         cache: 65,

@@ -2,7 +2,7 @@
 use std::sync::atomic::{AtomicU64, Ordering::Relaxed};
 use std::thread;
 use std::time::Duration;
-use tags::{Error, Kind, Options, Pool};
+use tags::{Error, Kind, Options, Pool, Shift};
 
 fn open(total: u32, reserved: u32, hands: u32) -> Pool {
     let options = Options {
@@ -36,13 +36,20 @@ fn refusals_have_names() {
     let wrong = |options| Pool::open(&options).unwrap_err();
     let good = Options::new(4, 1);
     assert_eq!(wrong(Options { reserved: 5, ..good }), Error::ReservedTooLarge);
-    assert_eq!(wrong(Options { shift: Some(7), ..good }), Error::ShiftTooLarge);
+    assert_eq!(
+        wrong(Options {
+            shift: Shift::Of(7),
+            ..good
+        }),
+        Error::ShiftTooLarge
+    );
     assert_eq!(wrong(Options { hands: 65, ..good }), Error::BadHandCount);
     let pool = Pool::open(&good).unwrap();
     let hand = pool.join().unwrap();
     assert_eq!(hand.get_reserved().unwrap_err(), Error::NoReserved);
     assert_eq!(hand.get_shallow(0).unwrap_err(), Error::TooShallow);
     assert_eq!(hand.get_batch(0).unwrap_err(), Error::BadCount);
+    assert_eq!(hand.get_exactly(4).unwrap_err(), Error::NoSuchTag);
     assert_eq!(hand.take(4).unwrap_err(), Error::NoSuchTag);
     assert_eq!(hand.busy(&mut []).unwrap_err(), Error::TooSmall);
     assert_eq!(Error::NoHand.to_string(), "all hands of the pool are out");
@@ -238,4 +245,37 @@ fn late_requests_are_among_the_busy_tags() {
     };
     let late: Vec<u32> = pool.busy_tags().filter(is_late).collect();
     assert_eq!(late, [tags[0].number()]);
+}
+
+/// By default there are as many whole words as hands, and at least four; or four, as in the kernel.
+#[test]
+fn words_are_as_many_as_hands() {
+    let bits = |options| {
+        let pool = Pool::open(&options).unwrap();
+        [Kind::Ordinary, Kind::Reserved].map(|kind| pool.show(kind).bits_per_word)
+    };
+    for (total, hands, wanted, as_kernel) in [
+        (1024, 4, 64, 64),
+        (1024, 16, 64, 64),
+        (1024, 17, 32, 64),
+        (1023, 64, 8, 64),
+        (128, 5, 16, 32),
+        (64, 64, 1, 16),
+        (63, 64, 1, 8),
+        (4, 64, 1, 1),
+        (3, 64, 64, 64),
+    ] {
+        let options = Options::new(total, hands);
+        assert_eq!(bits(options)[0], wanted, "{total} tags, {hands} hands");
+        let shift = Shift::AsKernel;
+        assert_eq!(bits(Options { shift, ..options })[0], as_kernel, "{total} tags");
+    }
+    let reserved = Options {
+        reserved: 32,
+        ..Options::new(1024 + 32, 16)
+    };
+    assert_eq!(bits(reserved), [64, 2]);
+    let pool = Pool::open(&reserved).unwrap();
+    pool.resize(32 + 128).unwrap();
+    assert_eq!((pool.batch_limit(), pool.show(Kind::Ordinary).words), (64, 2));
 }

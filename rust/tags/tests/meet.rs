@@ -8,7 +8,7 @@ use std::sync::{Arc, Barrier};
 use std::task::{Context, Poll, Wake, Waker};
 use std::thread::{self, Thread};
 use std::time::{Duration, Instant};
-use tags::{Hand, Options, Pool, SharedHand};
+use tags::{Hand, Options, Pool, SharedHand, Shift};
 
 /// How long each setting runs.
 const TIME: Duration = Duration::from_millis(600);
@@ -126,7 +126,7 @@ fn run(options: Options, ways: [usize; 2]) {
 #[test]
 fn threads_that_sleep_meet() {
     run(Options::new(3, 0), [0, 0]);
-    let shift = Some(1);
+    let shift = Shift::Of(1);
     run(
         Options {
             shift,
@@ -139,7 +139,7 @@ fn threads_that_sleep_meet() {
 #[test]
 fn futures_meet() {
     run(Options::new(3, 0), [2, 2]);
-    let shift = Some(3);
+    let shift = Shift::Of(3);
     run(
         Options {
             shift,

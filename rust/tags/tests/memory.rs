@@ -101,7 +101,8 @@ fn each_allocation_is_refused() {
     if let Ok(asked) = env::var("REFUSED") {
         let (what, allocation) = asked.split_once(' ').unwrap();
         let is_refused = carry_out(what, allocation.parse().unwrap());
-        println!("{}", if is_refused { "refused" } else { "done" });
+        // With one test thread the line has begun with the name of the test.
+        println!("\n{}", if is_refused { "refused" } else { "done" });
         return;
     }
     // How many allocations can't be refused: the `Arc`s of a pool and of its tags.

@@ -45,6 +45,7 @@ fn no_number_makes_two_tags() {
     assert_eq!(tag.post(), 0);
     assert_eq!(hand.claim(0).unwrap_err(), Error::NotHeld);
     let tag = other.take(0).unwrap();
+    assert_eq!(hand.get_exactly(4).unwrap_err(), Error::NoSuchTag);
     assert_eq!(hand.take(0).unwrap_err(), Error::NotPosted);
     assert_eq!(tag.hand().claim(0).unwrap_err(), Error::NotHeld);
     drop(tag);

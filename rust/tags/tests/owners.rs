@@ -7,7 +7,7 @@ use std::sync::{Arc, Barrier, Mutex};
 use std::task::{Context, Poll, Wake, Waker};
 use std::thread;
 use std::time::Duration;
-use tags::{Batch, Error, Hand, Kind, Numbers, Options, Pool, SharedHand};
+use tags::{Batch, Error, Hand, Kind, Numbers, Options, Pool, SharedHand, Shift};
 
 const MOST: usize = 96;
 const THREADS: u32 = 5;
@@ -264,7 +264,7 @@ fn a_few_tags() {
 #[test]
 fn words_of_one_tag() {
     run(Options {
-        shift: Some(0),
+        shift: Shift::Of(0),
         reserved: 2,
         ..Options::new(9, 0)
     });
@@ -275,7 +275,7 @@ fn round_robin() {
     run(Options {
         round_robin: true,
         reserved: 1,
-        shift: Some(2),
+        shift: Shift::Of(2),
         ..Options::new(14, 0)
     });
 }

@@ -35,6 +35,33 @@ fn depths_have_their_default_shift(rt: HostRuntime) -> Result<(), Fail> {
 }
 
 #[test]
+fn words_are_as_many_as_hands(rt: HostRuntime) -> Result<(), Fail> {
+    for (depth, hands, shift) in [
+        // Fewer than five hands count as four.
+        (1024, 0, 6),
+        (1024, 4, 6),
+        (128, 4, 5),
+        (128, 5, 4),
+        // 64 tags for each hand, and one fewer.
+        (1024, 16, 6),
+        (1023, 16, 5),
+        (1024, 64, 4),
+        (10_240, 64, 6),
+        (64, 64, 0),
+        // Fewer tags than hands, and than four.
+        (63, 64, 0),
+        (4, 64, 0),
+        (3, 64, 6),
+        (0, 64, 6),
+    ] {
+        assert_eq!(rt; Layout::shift_by_hands(depth, hands), shift);
+        assert_eq!(rt; Layout::by_hands(depth, hands, None)?.shift(), shift);
+        assert_eq!(rt; Layout::by_hands(depth, hands, Some(2))?.shift(), 2);
+    }
+    Ok(())
+}
+
+#[test]
 fn a_depth_is_refused_before_a_shift(rt: HostRuntime) {
     for (depth, shift, fault) in [
         (8, Some(7), ShiftTooLarge),

@@ -2,7 +2,7 @@
 use crate::board::Board;
 use std::alloc::{AllocError, Global};
 use std::sync::Wait;
-use tag_sets::{Left, Options, ResizeCause, TagFault, Wakes};
+use tag_queue::{Left, MAX_CAP, Options, QueueOpenFault, ResizeCause, TagFault, WaitFault, Wakes};
 
 /// A command of a caller, with its arguments.
 #[derive(Clone, Copy, Debug, PartialEq, Eq)]
@@ -40,6 +40,7 @@ pub(crate) enum Answer {
     /// Completions counted, wakeups charged, the wake index, and the number of active waiters.
     Found(u64, u64, u32, u64),
     Refused(TagFault),
+    NotWaited(WaitFault),
     NotResized(ResizeCause),
 }
 
@@ -73,17 +74,17 @@ fn woken(called: Result<u32, TagFault>) -> Answer {
     }
 }
 
-fn group(called: Result<u32, TagFault>) -> Answer {
+fn group(called: Result<u32, WaitFault>) -> Answer {
     match called {
         Ok(group) => Answer::Group(group),
-        Err(fault) => Answer::Refused(fault),
+        Err(fault) => Answer::NotWaited(fault),
     }
 }
 
-fn left(called: Result<Left, TagFault>) -> Answer {
+fn left(called: Result<Left, WaitFault>) -> Answer {
     match called {
         Ok(left) => Answer::Left(left),
-        Err(fault) => Answer::Refused(fault),
+        Err(fault) => Answer::NotWaited(fault),
     }
 }
 
@@ -91,9 +92,13 @@ fn counts(found: Wakes) -> Answer {
     Answer::Found(found.counted, found.charged, found.index, found.active)
 }
 
-/// Options for this many callers, each of which may win any number of tags.
-pub(crate) fn options(callers: u32) -> Options {
-    Options::new(callers)
+/// Opens a board for this many callers, each of which may win any number of tags and count any number of completions.
+pub(crate) fn open(
+    alloc: Global,
+    (total, reserved, callers): (u32, u32, u32),
+) -> Result<Board, QueueOpenFault> {
+    let options = Options::new(total, callers).with_reserved(reserved);
+    Board::open(alloc, options, MAX_CAP)
 }
 
 /// Runs any command but a resize.

@@ -1,15 +1,14 @@
 //! Out of memory. This test passes whichever allocation is refused.
-use crate::board::Board;
-use crate::tests::calls::options;
+use crate::tests::calls::open;
 use std::test::Fail;
-use tag_sets::SetFault;
+use tag_queue::QueueOpenFault;
 
 #[test]
 fn want_of_memory_is_told(rt: HostRuntime) -> Result<(), Fail> {
-    let mut board = match Board::open(rt.alloc(), 8, 3, options(2)) {
+    let mut board = match open(rt.alloc(), (8, 3, 2)) {
         Ok(board) => board,
         Err(fault) => {
-            assert_eq!(rt; fault, SetFault::Memory);
+            assert_eq!(rt; fault, QueueOpenFault::Memory);
             return Ok(());
         }
     };

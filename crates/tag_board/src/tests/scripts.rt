@@ -1,30 +1,29 @@
 //! Scripts of several callers, command by command.
-use crate::board::Board;
 use crate::tests::calls::Answer::{
-    Batch, Done, Found, Group, Left, NotResized, Nothing, Refused, Tag, Woken,
+    Batch, Done, Found, Group, Left, NotResized, NotWaited, Nothing, Refused, Tag, Woken,
 };
 use crate::tests::calls::Call::{
     Clear, ClearBoth, Get, GetBatch, GetReserved, GetShallow, Leave, Post, Resize, Take, Wait,
     Wakes,
 };
-use crate::tests::calls::{Answer, Call, options, replay};
+use crate::tests::calls::{Answer, Call, open, replay};
 use std::process::Abort;
 use std::sync::Wait as Blocks;
 use std::test::*;
 use tag_model::Totals;
-use tag_sets::Left::{Unwoken, Woken as ByGrant};
-use tag_sets::ResizeCause::{DepthTooLarge, InUse, Waiting};
-use tag_sets::TagFault;
+use tag_queue::Left::{Unwoken, Woken as ByGrant};
+use tag_queue::ResizeCause::{DepthTooLarge, InUse, Waiting};
+use tag_queue::{TagFault, WaitFault};
 
-/// Runs a script on a board of `total` tags, `reserved` of them reserved, for `callers` callers. Each command must have
-/// the answer beside it, and the totals at the end must be these.
+/// Runs a script on a board with this many tags, reserved ones among them, and callers. Each command must have the
+/// answer beside it, and the totals at the end must be these.
 fn expect<R: Abort + AllocGlobal + Blocks>(
     rt: &R,
-    (total, reserved, callers): (u32, u32, u32),
+    sizes: (u32, u32, u32),
     said: &[(u32, Call, Answer)],
     sums: Totals,
 ) -> Result<(), Fail> {
-    let board = Board::open(rt.alloc(), total, reserved, options(callers))?;
+    let board = open(rt.alloc(), sizes)?;
     let (wrong, board) = replay(rt, rt.alloc(), board, said)?;
     assert_eq!(rt; wrong, None);
     assert_eq!(rt; board.close(), sums);
@@ -87,6 +86,8 @@ fn waits_are_woken_by_batches(rt: HostRuntime) -> Result<(), Fail> {
             (0, Get, Tag(1)),
             (0, Get, Tag(2)),
             (1, Wait, Group(0)),
+            (1, Wait, NotWaited(WaitFault::Waiting)),
+            (0, Leave, NotWaited(WaitFault::NotWaiting)),
             (0, Clear(0), Woken(0)),
             (0, Clear(1), Woken(1)),
             (0, Clear(2), Woken(0)),

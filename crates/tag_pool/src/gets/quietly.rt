@@ -117,7 +117,7 @@ impl<R: Copy> Pool<R> {
 
     /// Returns the ordinary tag with this number in its set, if there is one. The number is one of the set.
     #[inline(always)]
-    fn ordinary_tag(&self, number: Option<u32>) -> Option<u32>
+    pub(crate) fn ordinary_tag(&self, number: Option<u32>) -> Option<u32>
         requires { IfSome number (λ n. n < (layout_of self.now Ordinary).depth) }
         ensures { result ≡ whole (reserved_of self.now) number }
     {

@@ -1,49 +1,48 @@
-//! Blocking gets: an agent that finds no tag stays in a wait group until it is woken, and searches again.
+//! Blocking gets: a hand that finds no tag stays in a wait group until it is woken, and searches again.
 ghost use Rattle.std.specs.Prelude.{◌≡◌, ℕ, IfOk, Some, None};
 ghost use Rattle.wake_book.specs.Groups.{IsWaiterOf, IsKeyFor, StandsAsBefore, StandsSilent, steps_of, wait_index_of};
 ghost use Rattle.wake_book.specs.Groups.{announcement_of as announced};
-ghost use Rattle.tag_queue.specs.Agents.{layout_of, IsAgentOf, HasRoom, standing_of, waiter_of, group_steps, announcement_of};
-ghost use Rattle.tag_queue.specs.Waits.{SameTags};
-ghost use Rattle.tag_queue.specs.Blocking.{GetsPlainAndLooks, Rests, PassesOn, IsStay, WaitsFor, BlockingGets};
+ghost use Rattle.tag_queue.specs.Hands.{IsHandOf, IsStillOf, SameTags, in_pool, pool_of, standing_of, waiter_of, group_steps, announcement_of};
+ghost use Rattle.tag_pool.specs.Hands.{HasRoom};
+ghost use Rattle.tag_pool.specs.declared.kind.Kind.TheVariants.{Ordinary};
+ghost use Rattle.tag_queue.specs.Blocking.{GetsPlain, Rests, PassesOn, IsStay, WaitsFor, BlockingGets};
 ghost use Rattle.refusals.specs.Refusals.{RefusesBy};
 ghost use Rattle.tag_queue.specs.Refusals.{blocking_checks};
 
-use crate::agent::Agent;
-use crate::fault::QueueFault;
-use crate::queue::{Queue, Waits};
+use crate::fault::WaitFault;
+use crate::hand::QueueHand;
+use crate::queue::Queue;
 use std::sync::Wait;
-use tag_core::Caller;
+use tag_pool::{Hand, Kind};
 use wake_book::{Groups, Key, Left, Waiter};
 
 impl<R: Copy> Queue<R> {
-    /// Takes a free tag like `get`, and waits as long as it finds none: it enters a wait group, searches once more, and
+    /// Takes a free ordinary tag like `get`, and waits as long as it finds none: it enters a wait group, searches once more, and
     /// sleeps there if it finds none again, until it is granted a wakeup or rung. Nothing promises that it returns.
-    /// `OtherWait` means that the queue's agents wait by the bell, `NoSuchTag` that it has no tags, `Waiting` that the agent
-    /// is already in a wait group, `Spent` that its life is used up.
-    pub fn get_blocking<W: Wait>(&self, rt: &W, agent: &mut Agent<R>) -> Result<u32, QueueFault>
-        requires agent { IsAgentOf self.now agent.old }
-        ensures agent { IsAgentOf self.now agent.new }
-        ensures refusals { RefusesBy (blocking_checks Waits.InGroups self.now agent.old) (agent.new ≡ agent.old) result }
-        ensures gets { IfOk result (λ tag. BlockingGets (layout_of self.now) tag agent.old agent.new) }
-        ensures waits { IfOk result (λ tag. WaitsFor (layout_of self.now) tag agent.old agent.new) }
+    /// `NoSuchTag` means that there is no ordinary tag, `Waiting` that the hand is already in a wait group, `Spent` that its
+    /// life in the ordinary set is used up.
+    pub fn get_blocking<W: Wait>(&self, rt: &W, hand: &mut QueueHand<R>) -> Result<u32, WaitFault>
+        requires hand { IsHandOf self.now hand.old }
+        ensures hand { IsStillOf self.now hand.old hand.new }
+        ensures refusals { RefusesBy (blocking_checks self.now hand.old) (hand.new ≡ hand.old) result }
+        ensures gets { IfOk result (λ tag. BlockingGets (pool_of self.now) tag hand.old hand.new) }
+        ensures waits { IfOk result (λ tag. WaitsFor (pool_of self.now) tag hand.old hand.new) }
     {
-        if self.waits != Waits::InGroups {
-            return Err(QueueFault::OtherWait);
+        if self.pool.layout(Kind::Ordinary).depth() == 0 {
+            return Err(WaitFault::NoSuchTag);
         }
-        if self.map.layout().depth() == 0 {
-            return Err(QueueFault::NoSuchTag);
-        }
-        if Groups::standing(&agent.waiter).is_some() {
-            return Err(QueueFault::Waiting);
-        }
-        if !agent.caller.room(1) {
-            return Err(QueueFault::Spent);
+        if Groups::standing(&hand.waiter).is_some() {
+            return Err(WaitFault::Waiting);
         }
         for _ in rt.forever() {
-            if let Some(tag) = self.try_get(agent) {
+            // Only the first get can be refused: each later one follows a get that won nothing.
+            let Ok(answer) = self.get(hand) else {
+                return Err(WaitFault::Spent);
+            };
+            if let Some(tag) = answer {
                 return Ok(tag);
             }
-            if let Some(tag) = self.stay(rt, agent) {
+            if let Some(tag) = self.stay(rt, hand) {
                 return Ok(tag);
             }
         }
@@ -51,42 +50,42 @@ impl<R: Copy> Queue<R> {
     }
 
     /// Stays in a wait group for one search, and sleeps there if it finds no tag.
-    fn stay<W: Wait>(&self, rt: &W, agent: &mut Agent<R>) -> Option<u32>
-        requires agent { IsAgentOf self.now agent.old }
-        requires out { standing_of agent.old ≡ None }
-        requires room { HasRoom agent.old 1 }
-        ensures agent { IsAgentOf self.now agent.new }
-        ensures stay { IsStay (layout_of self.now) (wait_index_of (waiter_of agent.old)) result agent.old agent.new }
+    fn stay<W: Wait>(&self, rt: &W, hand: &mut QueueHand<R>) -> Option<u32>
+        requires hand { IsHandOf self.now hand.old }
+        requires out { standing_of hand.old ≡ None }
+        requires room { HasRoom (in_pool hand.old) Ordinary 1 }
+        ensures hand { IsStillOf self.now hand.old hand.new }
+        ensures stay { IsStay (pool_of self.now) (wait_index_of (waiter_of hand.old)) result hand.old hand.new }
     {
-        self.groups.enter(&mut agent.waiter);
+        self.groups.enter(&mut hand.waiter);
         // Whoever frees a tag after this search has passed it rings, and a ring after this line ends the sleep.
-        let key = self.groups.announce(&agent.waiter, &agent.caller);
-        // A tag given back before the agent entered wakes nobody, so it must be searched for once more.
-        let answer = self.try_get(agent);
-        self.sleep_if_none(rt, agent, key, answer);
-        let left = self.groups.leave(rt, &mut agent.waiter);
-        self.pass_on(&mut agent.waiter, answer, left);
+        let key = self.groups.announce(&hand.waiter, &hand.inner);
+        // A tag given back before the hand entered wakes nobody, so it must be searched for once more.
+        let answer = self.try_get(hand);
+        self.sleep_if_none(rt, hand, key, answer);
+        let left = self.groups.leave(rt, &mut hand.waiter);
+        self.pass_on(&mut hand.waiter, answer, left);
         answer
     }
 
-    /// Sleeps in the agent's group, as the key announced, if the search there found no tag.
+    /// Sleeps in the hand's group, as the key announced, if the search there found no tag.
     fn sleep_if_none<W: Wait>(
         &self,
         rt: &W,
-        agent: &mut Agent<R>,
-        key: Key<'_, Caller<R>>,
+        hand: &mut QueueHand<R>,
+        key: Key<'_, Hand<R>>,
         answer: Option<u32>,
     )
-        requires agent { IsAgentOf self.now agent.old }
-        requires key { IsKeyFor self.now.groups (waiter_of agent.old) key }
-        ensures agent { IsAgentOf self.now agent.new }
-        ensures rests { (group : ℕ) → standing_of agent.old ≡ Some group
-            → Rests group answer (group_steps agent.old) (group_steps agent.new) }
-        ensures announced { answer ≡ None → announcement_of agent.new ≡ announced key.entry }
-        ensures same { SameTags agent.old agent.new × StandsSilent (waiter_of agent.old) (waiter_of agent.new) }
+        requires hand { IsHandOf self.now hand.old }
+        requires key { IsKeyFor self.now.groups (waiter_of hand.old) key }
+        ensures hand { IsStillOf self.now hand.old hand.new }
+        ensures rests { (group : ℕ) → standing_of hand.old ≡ Some group
+            → Rests group answer (group_steps hand.old) (group_steps hand.new) }
+        ensures announced { answer ≡ None → announcement_of hand.new ≡ announced key.entry }
+        ensures same { SameTags hand.old hand.new × StandsSilent (waiter_of hand.old) (waiter_of hand.new) }
     {
         if answer.is_none() {
-            agent.announcement = self.groups.sleep(rt, &mut agent.waiter, key);
+            hand.announcement = self.groups.sleep(rt, &mut hand.waiter, key);
         }
     }
 
@@ -103,14 +102,14 @@ impl<R: Copy> Queue<R> {
         }
     }
 
-    /// Makes a get for an agent that may win one more tag.
-    pub(super) fn try_get(&self, agent: &mut Agent<R>) -> Option<u32>
-        requires agent { IsAgentOf self.now agent.old }
-        requires room { HasRoom agent.old 1 }
-        ensures agent { IsAgentOf self.now agent.new }
-        ensures gets { GetsPlainAndLooks (layout_of self.now) result agent.old agent.new }
+    /// Makes a get for a hand that may win one more tag.
+    fn try_get(&self, hand: &mut QueueHand<R>) -> Option<u32>
+        requires hand { IsHandOf self.now hand.old }
+        requires room { HasRoom (in_pool hand.old) Ordinary 1 }
+        ensures hand { IsStillOf self.now hand.old hand.new }
+        ensures gets { GetsPlain (pool_of self.now) result hand.old hand.new }
     {
-        let Ok(answer) = self.get(agent) else {
+        let Ok(answer) = self.get(hand) else {
             unreachable!()
         };
         answer

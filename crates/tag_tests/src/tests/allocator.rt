@@ -8,7 +8,7 @@ use std::alloc::Global;
 use std::sync::Wait;
 use tag_pool::{GatherCause, ResizeCause, Totals};
 
-/// An allocator of tags that callers share, each through a handle: a hand of a pool, a cache, or an agent of a queue.
+/// An allocator of tags that callers share, each through a handle: a hand of a pool, a cache, or a hand of a queue.
 pub(crate) trait TagAllocator: Drop {
     /// The handle of one caller.
     type Caller: Drop;

@@ -45,17 +45,16 @@ pub(crate) enum Answer {
     Refused(TagFault),
     /// Waiters of a queue woken.
     Woken(u32),
-    /// The wait group of a queue's agent.
+    /// The wait group of a queue's hand.
     Group(u32),
-    /// An agent left its group woken, or with no grant.
+    /// A hand left its group woken, or with no grant.
     LeftWoken,
     LeftUnwoken,
     /// A queue's completions counted and charged, its wake index, and its active count.
     Found(u64, u64, u32, u64),
-    /// Why a queue refuses a call of a wait: the agent waits, or does not, or agents wait in the other way.
+    /// Why a queue refuses a call of a wait: the hand waits, or does not.
     Waits,
     WaitsNot,
-    OtherWait,
     /// The allocator has no such call.
     NoSuchCall,
     /// No caller has this index.
@@ -79,7 +78,6 @@ impl Answer {
         match self {
             Answer::Refused(_) => false,
             Answer::Waits => false,
-            Answer::OtherWait => false,
             Answer::NoSuchCall => false,
             _ => true,
         }

@@ -2,6 +2,7 @@
 
 mod batches;
 mod clears;
+mod exact;
 mod keeping;
 mod resizing;
 mod slots;

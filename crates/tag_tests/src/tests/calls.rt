@@ -13,6 +13,7 @@ pub(crate) enum Call {
     GetReserved,
     GetShallow(u32),
     GetBatch(u32),
+    GetExactly(u32),
     GetBlocking,
     /// A get that tells nobody.
     GetQuietly,
@@ -54,7 +55,6 @@ pub(crate) enum Call {
     PeekShow(Kind),
     PeekBusy,
     /// The calls of a queue alone.
-    ClearUncounted(u32),
     PrepareWait,
     FinishWait,
     Wakes,

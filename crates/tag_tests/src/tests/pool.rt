@@ -1,6 +1,7 @@
 //! Tests of pools.
 
 mod clears;
+mod exact;
 mod example;
 mod excerpts;
 mod faults;

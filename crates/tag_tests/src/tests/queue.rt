@@ -1,7 +1,8 @@
-//! A queue with its agents. Only what its charge book and its wait groups do is tested here.
-ghost use Rattle.std.specs.Prelude.{All, IfOk, IfErr, IsTrue};
+//! A queue with its hands. Only what its charge book and its wait groups do is tested here.
+ghost use Rattle.std.specs.Prelude.{◌≡◌, All, IfOk, IfErr, IsTrue};
 ghost use Rattle.std.specs.Coded.{codes};
-ghost use Rattle.tag_queue.specs.Agents.{IsAgentOf, Holds};
+ghost use Rattle.tag_pool.specs.Hands.{Holds};
+ghost use Rattle.tag_queue.specs.Hands.{IsHandOf, in_pool};
 
 mod clears;
 mod example;
@@ -12,34 +13,28 @@ mod threads;
 mod waits;
 
 use crate::tests::allocator::TagAllocator;
-use crate::tests::answers::{Answer, batch, tag};
+use crate::tests::answers::{Answer, answered, batch, tag};
 use crate::tests::calls::Call;
 use std::alloc::Global;
 use std::sync::Wait;
-use step_ledger::{GatherCause, Numbered};
-use tag_pool::{ResizeCause, TagFault, Totals};
-use tag_queue::{Agent, Queue, QueueFault, ResizeCause as QueueCause};
-use wake_book::{Left, Ring};
+use tag_queue::{
+    GatherCause, Left, Numbered, Queue, QueueHand, ResizeCause, Ring, TagFault, Totals, WaitFault,
+};
 
-fn answered(called: Result<Answer, QueueFault>) -> Answer {
+/// The answer of a call of a wait, or the fault for which it was refused.
+fn waited(called: Result<Answer, WaitFault>) -> Answer {
     match called {
         Ok(answer) => answer,
         Err(fault) => refused(fault),
     }
 }
 
-/// A refusal, in a pool's words where a pool has them.
-fn refused(fault: QueueFault) -> Answer {
+fn refused(fault: WaitFault) -> Answer {
     match fault {
-        QueueFault::OtherWait => Answer::OtherWait,
-        QueueFault::Waiting => Answer::Waits,
-        QueueFault::NotWaiting => Answer::WaitsNot,
-        QueueFault::NoSuchTag => Answer::Refused(TagFault::NoSuchTag),
-        QueueFault::NotHeld => Answer::Refused(TagFault::NotHeld),
-        QueueFault::NotPosted => Answer::Refused(TagFault::NotPosted),
-        QueueFault::BadCount => Answer::Refused(TagFault::BadCount),
-        QueueFault::TooShallow => Answer::Refused(TagFault::TooShallow),
-        QueueFault::Spent => Answer::Refused(TagFault::Spent),
+        WaitFault::NoSuchTag => Answer::Refused(TagFault::NoSuchTag),
+        WaitFault::Waiting => Answer::Waits,
+        WaitFault::NotWaiting => Answer::WaitsNot,
+        WaitFault::Spent => Answer::Refused(TagFault::Spent),
     }
 }
 
@@ -50,31 +45,26 @@ fn left(how: Left) -> Answer {
     }
 }
 
-/// Why a queue is not resized, in a pool's words.
-fn cause(found: QueueCause) -> ResizeCause {
-    match found {
-        QueueCause::Missing(number) => ResizeCause::Missing(number),
-        QueueCause::DepthTooLarge => ResizeCause::DepthTooLarge,
-        QueueCause::InUse(held, posted) => ResizeCause::InUse(held, posted),
-        QueueCause::Waiting(count) => ResizeCause::Waiting(count),
-        QueueCause::Memory => ResizeCause::Memory,
-    }
-}
-
-/// Makes a call of an agent that waits, or that looks at the counts.
-fn wait_or_look<W: Wait>(rt: &W, queue: &Queue<u64>, agent: &mut Agent<u64>, call: Call) -> Answer
-    requires { IsAgentOf queue.now agent.old }
-    ensures { IsAgentOf queue.now agent.new }
+/// Makes a call of a hand that waits, or that looks at the counts.
+fn wait_or_look<W: Wait>(
+    rt: &W,
+    queue: &Queue<u64>,
+    hand: &mut QueueHand<u64>,
+    call: Call,
+) -> Answer
+    requires { IsHandOf queue.now hand.old }
+    ensures { IsHandOf queue.now hand.new }
 {
     match call {
-        Call::PrepareWait => answered(queue.prepare_wait(agent).map(Answer::Group)),
-        Call::FinishWait => answered(queue.finish_wait(rt, agent).map(left)),
-        Call::WaitInVain => wait_in_vain(rt, queue, agent),
-        Call::Wakes => counts(queue, agent),
-        Call::FindsWaiters => Answer::Waiters(queue.wakes(agent).active > 0),
-        Call::Agrees(tag) => Answer::Held(agrees(queue, agent, tag)),
+        Call::GetBlocking => waited(queue.get_blocking(rt, hand).map(Answer::Tag)),
+        Call::PrepareWait => waited(queue.prepare_wait(hand).map(Answer::Group)),
+        Call::FinishWait => waited(queue.finish_wait(rt, hand).map(left)),
+        Call::WaitInVain => wait_in_vain(rt, queue, hand),
+        Call::Wakes => counts(queue, hand),
+        Call::FindsWaiters => Answer::Waiters(queue.wakes(hand).active > 0),
+        Call::Agrees(tag) => Answer::Held(agrees(queue, hand, tag)),
         Call::Place => {
-            queue.place(agent);
+            queue.place(hand);
             Answer::Done
         }
         _ => Answer::NoSuchCall,
@@ -82,126 +72,150 @@ fn wait_or_look<W: Wait>(rt: &W, queue: &Queue<u64>, agent: &mut Agent<u64>, cal
 }
 
 /// Starts a wait and gives it up.
-fn wait_in_vain<W: Wait>(rt: &W, queue: &Queue<u64>, agent: &mut Agent<u64>) -> Answer
-    requires { IsAgentOf queue.now agent.old }
-    ensures { IsAgentOf queue.now agent.new }
+fn wait_in_vain<W: Wait>(rt: &W, queue: &Queue<u64>, hand: &mut QueueHand<u64>) -> Answer
+    requires { IsHandOf queue.now hand.old }
+    ensures { IsHandOf queue.now hand.new }
 {
-    if let Err(fault) = queue.prepare_wait(agent) {
+    if let Err(fault) = queue.prepare_wait(hand) {
         return refused(fault);
     }
-    answered(queue.finish_wait(rt, agent).map(left))
+    waited(queue.finish_wait(rt, hand).map(left))
 }
 
-fn counts(queue: &Queue<u64>, agent: &mut Agent<u64>) -> Answer
-    requires { IsAgentOf queue.now agent.old }
-    ensures { IsAgentOf queue.now agent.new }
+fn counts(queue: &Queue<u64>, hand: &mut QueueHand<u64>) -> Answer
+    requires { IsHandOf queue.now hand.old }
+    ensures { IsHandOf queue.now hand.new }
 {
-    let found = queue.wakes(agent);
+    let found = queue.wakes(hand);
     Answer::Found(found.counted, found.charged, found.index, found.active)
 }
 
-/// Returns whether the agent holds the tag, and no more completions are charged than were counted.
-fn agrees(queue: &Queue<u64>, agent: &mut Agent<u64>, tag: u32) -> bool
-    requires { IsAgentOf queue.now agent.old }
-    ensures { IsAgentOf queue.now agent.new }
+/// Returns whether the hand holds the tag, and no more completions are charged than were counted.
+fn agrees(queue: &Queue<u64>, hand: &mut QueueHand<u64>, tag: u32) -> bool
+    requires { IsHandOf queue.now hand.old }
+    ensures { IsHandOf queue.now hand.new }
 {
-    let found = queue.wakes(agent);
-    found.charged <= found.counted && has(queue, agent, tag)
+    let found = queue.wakes(hand);
+    found.charged <= found.counted && has(queue, hand, tag)
 }
 
-fn has(queue: &Queue<u64>, agent: &mut Agent<u64>, tag: u32) -> bool
-    requires { IsAgentOf queue.now agent.old }
-    ensures own { IsAgentOf queue.now agent.new }
-    ensures held { IsTrue result → Holds agent.new tag }
+fn has(queue: &Queue<u64>, hand: &mut QueueHand<u64>, tag: u32) -> bool
+    requires { IsHandOf queue.now hand.old }
+    ensures own { IsHandOf queue.now hand.new }
+    ensures held { IsTrue result → Holds (in_pool hand.new) tag }
 {
-    match queue.read(agent, tag) {
-        Err(QueueFault::NoSuchTag) => false,
-        _ => agent.holds(tag),
+    match queue.read(hand, tag) {
+        Err(TagFault::NoSuchTag) => false,
+        _ => hand.holds(tag),
     }
 }
 
-impl TagAllocator for Queue<u64> {
-    type Caller = Agent<u64>;
+/// A queue, as what the tests of all allocators have in common takes it.
+pub(crate) struct TestedQueue {
+    pub(crate) queue: Queue<u64>,
+}
 
-    ghost is_own = { IsAgentOf };
+impl Drop for TestedQueue {
+    fn drop(self) {
+        let TestedQueue { queue: _queue } = self;
+    }
+}
 
-    ghost is_fact = { λ tags caller. Prim.hlevel codes };
+impl TestedQueue {
+    pub(crate) fn into_queue(self) -> Queue<u64>
+        ensures { result ≡ self.queue }
+    {
+        let TestedQueue { queue } = self;
+        queue
+    }
+}
 
-    ghost holds = { Holds };
+impl TagAllocator for TestedQueue {
+    type Caller = QueueHand<u64>;
 
-    fn number(agent: &Agent<u64>) -> u32 {
-        Numbered::number(agent)
+    ghost is_own = { λ tested. IsHandOf tested.queue };
+
+    ghost is_fact = { λ tested caller. Prim.hlevel codes };
+
+    ghost holds = { λ hand. Holds (in_pool hand) };
+
+    fn number(hand: &QueueHand<u64>) -> u32 {
+        Numbered::number(hand)
     }
 
-    fn act<W: Wait>(&self, rt: &W, agent: &mut Agent<u64>, call: Call) -> Answer {
+    fn act<W: Wait>(&self, rt: &W, hand: &mut QueueHand<u64>, call: Call) -> Answer {
         match call {
-            Call::Get => answered(self.get(agent).map(tag)),
-            Call::GetShallow(depth) => answered(self.get_shallow(agent, depth).map(tag)),
-            Call::GetBatch(count) => answered(self.get_batch(agent, count).map(batch)),
-            Call::GetBlocking => answered(self.get_blocking(rt, agent).map(Answer::Tag)),
-            Call::Clear(tag) => answered(self.clear::<Ring>(agent, tag).map(Answer::Woken)),
-            Call::ClearUncounted(tag) => {
-                answered(self.clear_uncounted(agent, tag).map(|()| Answer::Woken(0)))
-            }
+            Call::Get => answered(self.queue.get(hand).map(tag)),
+            Call::GetReserved => answered(self.queue.get_reserved(hand).map(tag)),
+            Call::GetShallow(depth) => answered(self.queue.get_shallow(hand, depth).map(tag)),
+            Call::GetBatch(count) => answered(self.queue.get_batch(hand, count).map(batch)),
+            Call::Clear(tag) => answered(self.queue.clear::<Ring>(hand, tag).map(Answer::Woken)),
             Call::ClearMask(first, mask) => {
                 answered(
-                    self.clear_mask::<Ring>(agent, first, mask)
+                    self.queue
+                        .clear_mask::<Ring>(hand, first, mask)
                         .map(Answer::Woken),
                 )
             }
-            Call::Read(tag) => answered(self.read(agent, tag).map(Answer::Value)),
-            Call::Write(tag, new) => answered(self.write(agent, tag, new).map(Answer::Value)),
-            Call::Post(tag) => answered(self.post(agent, tag).map(|()| Answer::Done)),
-            Call::Take(tag) => answered(self.take(agent, tag).map(|()| Answer::Done)),
+            Call::Read(tag) => answered(self.queue.read(hand, tag).map(Answer::Value)),
+            Call::Write(tag, new) => answered(self.queue.write(hand, tag, new).map(Answer::Value)),
+            Call::Post(tag) => answered(self.queue.post(hand, tag).map(|()| Answer::Done)),
+            Call::Take(tag) => answered(self.queue.take(hand, tag).map(|()| Answer::Done)),
             Call::Flush => Answer::Woken(0),
-            _ => wait_or_look(rt, self, agent, call),
+            _ => wait_or_look(rt, &self.queue, hand, call),
         }
     }
 
-    fn clear_batch(&self, agent: &mut Agent<u64>, tags: &[u32]) -> Answer {
-        answered(Queue::clear_batch::<Ring>(self, agent, tags).map(Answer::Woken))
+    fn clear_batch(&self, hand: &mut QueueHand<u64>, tags: &[u32]) -> Answer {
+        answered(
+            self.queue
+                .clear_batch::<Ring>(hand, tags)
+                .map(Answer::Woken),
+        )
     }
 
-    fn has(&self, agent: &mut Agent<u64>, tag: u32) -> bool {
-        has(self, agent, tag)
+    fn has(&self, hand: &mut QueueHand<u64>, tag: u32) -> bool {
+        has(&self.queue, hand, tag)
     }
 
-    fn meet(&self, first: &mut Agent<u64>, second: &mut Agent<u64>) {
-        Queue::meet(self, first, second);
+    fn meet(&self, first: &mut QueueHand<u64>, second: &mut QueueHand<u64>) {
+        self.queue.meet(first, second);
     }
 
-    fn apart(&self, first: &mut Agent<u64>, second: &mut Agent<u64>, tag: u32) {
-        Queue::apart(self, first, second, tag);
+    fn apart(&self, first: &mut QueueHand<u64>, second: &mut QueueHand<u64>, tag: u32) {
+        self.queue.apart(first, second, tag);
     }
 
     fn gather(
         self,
-        agents: Vec<Agent<u64>>,
-    ) -> Result<Totals, (GatherCause, Queue<u64>, Vec<Agent<u64>>)>
-        requires { All (IsAgentOf self) agents.items }
-        ensures own { IfErr result (λ back. All (IsAgentOf back.1) back.2.items) }
-        ensures others { IfErr result (λ back. (c : _) → IsAgentOf self c → IsAgentOf back.1 c) }
+        hands: Vec<QueueHand<u64>>,
+    ) -> Result<Totals, (GatherCause, TestedQueue, Vec<QueueHand<u64>>)>
+        requires { All (IsHandOf self.queue) hands.items }
+        ensures own { IfErr result (λ back. All (IsHandOf back.1.queue) back.2.items) }
+        ensures others { IfErr result (λ back. (c : _) → IsHandOf self.queue c → IsHandOf back.1.queue c) }
     {
-        match Queue::gather(self, agents) {
+        let TestedQueue { queue } = self;
+        match Queue::gather(queue, hands) {
             Ok(totals) => Ok(totals.tags),
-            Err(fault) => Err((fault.cause, fault.queue, fault.agents)),
+            Err(fault) => Err((fault.cause, TestedQueue { queue: fault.queue }, fault.hands)),
         }
     }
 
     fn resize(
         self,
         alloc: Global,
-        agents: Vec<Agent<u64>>,
+        hands: Vec<QueueHand<u64>>,
         depth: u32,
-    ) -> Result<(Queue<u64>, Vec<Agent<u64>>), (ResizeCause, Queue<u64>, Vec<Agent<u64>>)>
-        requires { All (IsAgentOf self) agents.items }
-        ensures ok { IfOk result (λ next. All (IsAgentOf next.0) next.1.items) }
-        ensures own { IfErr result (λ back. All (IsAgentOf back.1) back.2.items) }
-        ensures others { IfErr result (λ back. (c : _) → IsAgentOf self c → IsAgentOf back.1 c) }
+    ) -> Result<(TestedQueue, Vec<QueueHand<u64>>), (ResizeCause, TestedQueue, Vec<QueueHand<u64>>)>
+        requires { All (IsHandOf self.queue) hands.items }
+        ensures ok { IfOk result (λ next. All (IsHandOf next.0.queue) next.1.items) }
+        ensures own { IfErr result (λ back. All (IsHandOf back.1.queue) back.2.items) }
+        ensures others { IfErr result (λ back. (c : _) → IsHandOf self.queue c → IsHandOf back.1.queue c) }
     {
-        match Queue::resize(alloc, self, agents, depth) {
-            Ok(next) => Ok(next),
-            Err(fault) => Err((cause(fault.cause), fault.queue, fault.agents)),
+        let TestedQueue { queue } = self;
+        match Queue::resize(alloc, queue, hands, depth) {
+            Ok((queue, hands)) => Ok((TestedQueue { queue }, hands)),
+            Err(fault) => Err((fault.cause, TestedQueue { queue: fault.queue }, fault.hands)),
         }
     }
 }

@@ -1,38 +1,34 @@
-//! A lock as one step to take it, and one to free it.
+//! A lock that is taken in one step, and freed in none.
 
-use crate::search;
 use crate::sleep::Sleeper;
-use std::cell::{Cell, RefCell, RefMut};
-use std::mem::ManuallyDrop;
+use crate::steps;
+use std::cell::UnsafeCell;
 use std::ops::{Deref, DerefMut};
 
 pub struct Lock<T> {
-    is_held: Cell<bool>,
-    value: RefCell<T>,
+    value: UnsafeCell<T>,
 }
 
 // SAFETY: all threads that are explored are coroutines of one.
 unsafe impl<T: Send> Sync for Lock<T> {}
 
 pub struct Guard<'a, T> {
-    is_held: &'a Cell<bool>,
-    value: ManuallyDrop<RefMut<'a, T>>,
+    lock: &'a Lock<T>,
 }
 
 impl<T> Lock<T> {
     pub fn new(value: T, _: &'static dyn Sleeper) -> Lock<T> {
-        Lock {
-            is_held: Cell::new(false),
-            value: RefCell::new(value),
-        }
+        let value = UnsafeCell::new(value);
+        Lock { value }
+    }
+
+    fn place(&self) -> usize {
+        std::ptr::from_ref(self) as usize
     }
 
     pub fn lock(&self) -> Guard<'_, T> {
-        while search::park(&raw const self.is_held as usize, || self.is_held.get()) {}
-        self.is_held.set(true);
-        let value = ManuallyDrop::new(self.value.borrow_mut());
-        let is_held = &self.is_held;
-        Guard { is_held, value }
+        steps::take(self.place());
+        Guard { lock: self }
     }
 }
 
@@ -40,22 +36,20 @@ impl<T> Deref for Guard<'_, T> {
     type Target = T;
 
     fn deref(&self) -> &T {
-        &self.value
+        // SAFETY: the lock is held as long as the guard lives.
+        unsafe { &*self.lock.value.get() }
     }
 }
 
 impl<T> DerefMut for Guard<'_, T> {
     fn deref_mut(&mut self) -> &mut T {
-        &mut self.value
+        // SAFETY: as in `deref`, and nothing else borrows the guard.
+        unsafe { &mut *self.lock.value.get() }
     }
 }
 
 impl<T> Drop for Guard<'_, T> {
     fn drop(&mut self) {
-        search::wake_after(std::ptr::from_ref(self.is_held) as usize, usize::MAX, || {
-            self.is_held.set(false);
-            // SAFETY: nothing uses the value after this.
-            unsafe { ManuallyDrop::drop(&mut self.value) };
-        });
+        steps::free(self.lock.place());
     }
 }

@@ -1,12 +1,12 @@
-//! Sleep on a word, which ends by a wake alone: a thread that sleeps for ever is found.
+//! Sleep on a word, as the explorer decides.
 
 use crate::base::word::Word;
-use crate::search;
+use crate::steps;
 
 pub fn park(word: &Word, expected: u32) {
-    search::park(word.address(), || word.peek() as u32 == expected);
+    steps::park(word.address(), false, || word.peek() as u32 == expected);
 }
 
 pub fn wake(word: &Word, count: u32) {
-    search::wake(word.address(), count as usize);
+    steps::wake(word.address(), count as usize);
 }

@@ -1,6 +1,7 @@
 //! Atomic words, before each access of which the explorer may go on with another thread.
 
-use crate::search::{step, Access};
+use crate::stage::Access;
+use crate::steps::step;
 use std::sync::atomic::{self, Ordering};
 
 macro_rules! word {
@@ -24,12 +25,12 @@ macro_rules! word {
             }
 
             pub fn load(&self, order: Ordering) -> $value {
-                step(self.address(), Access::Read);
+                step(self.address(), Access::Word);
                 self.0.load(order)
             }
 
             pub fn store(&self, value: $value, order: Ordering) {
-                step(self.address(), Access::Write);
+                step(self.address(), Access::Word);
                 self.0.store(value, order);
             }
 
@@ -40,7 +41,7 @@ macro_rules! word {
                 won: Ordering,
                 lost: Ordering,
             ) -> Result<$value, $value> {
-                step(self.address(), Access::Write);
+                step(self.address(), Access::Word);
                 self.0.compare_exchange(old, new, won, lost)
             }
 
@@ -50,7 +51,7 @@ macro_rules! word {
                 lost: Ordering,
                 change: impl FnMut($value) -> Option<$value>,
             ) -> Result<$value, $value> {
-                step(self.address(), Access::Write);
+                step(self.address(), Access::Word);
                 self.0.fetch_update(won, lost, change)
             }
 
@@ -59,7 +60,7 @@ macro_rules! word {
     };
     (writes $value:ty: $($name:ident)*) => {$(
         pub fn $name(&self, value: $value, order: Ordering) -> $value {
-            step(self.address(), Access::Write);
+            step(self.address(), Access::Word);
             self.0.$name(value, order)
         }
     )*};
@@ -69,7 +70,10 @@ word!(Word AtomicU64 u64);
 word!(AtomicU32 AtomicU32 u32);
 word!(AtomicI32 AtomicI32 i32);
 
-/// A slot is about to be used: a step of its own, so that two users at once are seen.
+/// A thread looks once whether a lock is free before it sleeps: more looks find nothing else.
+pub const LOOKS: u32 = 1;
+
+/// A slot, or another value that has one user at a time, is about to be used: a step of its own, so that two users are seen.
 pub fn touch<T>(slot: *mut T) {
     step(slot as usize, Access::Slot);
 }

@@ -10,6 +10,8 @@ pub mod tag_core;
 pub mod tag_layout;
 #[path = "../../../tags/src/proved/tag_model/mod.rs"]
 pub mod tag_model;
+#[path = "../../../tags/src/proved/tag_pool/mod.rs"]
+pub mod tag_pool;
 #[path = "../../../tags/src/proved/tag_search/mod.rs"]
 pub mod tag_search;
 
@@ -19,6 +21,5 @@ pub mod tag_lines;
 pub mod tag_queue;
 pub mod tag_runs;
 pub mod tag_script;
-pub mod tag_sets;
 pub mod tagplay;
 pub mod wake_book;

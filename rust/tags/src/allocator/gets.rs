@@ -117,6 +117,15 @@ impl Way {
         gotten(found, Held::new)
     }
 
+    pub fn get_exactly(&mut self, core: &Core, number: u32) -> Gotten<Held> {
+        let tags = &core.tags;
+        let found = by_way!(self,
+            hand => tags.get_exactly_quietly(hand, number),
+            cache => cache.get_exactly_quietly(tags, number)
+        );
+        gotten(found, Held::new)
+    }
+
     pub fn get_batch(&mut self, core: &Core, n: u32) -> Gotten<HeldMask> {
         let tags = &core.tags;
         let found = by_way!(self,

@@ -79,6 +79,10 @@ impl<T> Member<T> {
         self.call(|way, core| way.get_shallow(core, depth))
     }
 
+    pub fn get_exactly(&self, number: u32) -> Gotten<Held> {
+        self.call(|way, core| way.get_exactly(core, number))
+    }
+
     /// `n` is at most the tags of a word, or the call is refused.
     pub fn get_batch(&self, n: u32) -> Gotten<HeldMask> {
         self.call(|way, core| way.get_batch(core, n))
@@ -103,11 +107,6 @@ impl<T> Member<T> {
     /// Gives all kept tags back.
     pub fn flush(&self) -> u32 {
         self.call(Way::flush)
-    }
-
-    /// Whether the hand may keep tags.
-    pub fn may_keep(&self) -> bool {
-        self.call(|way, _| way.may_keep())
     }
 
     /// Tells those who wait for this many tags that became free, if any did. If somebody waits, what the hand keeps goes

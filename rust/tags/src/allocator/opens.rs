@@ -5,7 +5,7 @@ use crate::allocator::{Core, Roster, Set, MAX_CACHE};
 use crate::base::vec::Global;
 use crate::cells::Values;
 use crate::error::{Error, Result};
-use crate::options::Options;
+use crate::options::{Options, Shift};
 use crate::proved::tag_cache::Keeping;
 use crate::proved::tag_pool::{self, Pool, MOST_WON};
 use alloc::sync::Arc;
@@ -16,7 +16,11 @@ fn asked_for(options: &Options) -> tag_pool::Options {
         depth: options.total,
         reserved: options.reserved,
         hands: options.hands,
-        shift: options.shift,
+        shift: match options.shift {
+            Shift::Of(shift) => Some(shift),
+            Shift::ByHands | Shift::AsKernel => None,
+        },
+        by_hands: options.shift == Shift::ByHands,
         round_robin: options.round_robin,
         min_shallow: options.min_shallow,
         life: MOST_WON,

@@ -1,7 +1,7 @@
 //! A wait, round by round. Whoever calls sleeps between two rounds as it likes, and may end the wait: a limit, a stop
 //! and a cancel each only end a sleep, and a sleep that ends for no reason is one round more.
 
-use crate::allocator::way::{by_way, Plain, Way};
+use crate::allocator::way::{by_way, Way};
 use crate::allocator::{Core, Due, Held};
 use crate::error::{Error, Result};
 use crate::proved::tag_pool::{self, LISTENERS, SLEEPERS};
@@ -36,45 +36,29 @@ pub(crate) enum Next {
     Sleep,
 }
 
-impl Plain {
-    /// The proved round, if the hand can wait: as it can after a get that found no tag.
-    fn wait_on(&mut self, core: &Core, list: List, is_over: bool, turn: Turn) -> Option<(Next, Due)> {
-        if !self.hand.can_wait() {
-            return None;
-        }
-        let (next, told) = core.tags.wait_on(&mut self.hand, list.number(), is_over, turn);
-        let next = match next {
+impl From<tag_pool::Next> for Next {
+    fn from(next: tag_pool::Next) -> Next {
+        match next {
             tag_pool::Next::Won(tag) => Next::Won(Held::new(tag)),
             tag_pool::Next::Over => Next::Over,
             tag_pool::Next::Sleep => Next::Sleep,
-        };
-        Some((next, told.into()))
+        }
     }
 }
 
 impl Way {
+    /// The proved round, if the hand can wait: as it can after a get that found no tag.
     pub fn wait_on(&mut self, core: &Core, list: List, is_over: bool, turn: Turn) -> (Result<Next>, Due) {
-        match self {
-            Way::Plain(plain) => match plain.wait_on(core, list, is_over, turn) {
-                Some((next, due)) => (Ok(next), due),
-                None if is_over => (Ok(Next::Over), self.give_up(core, list)),
-                None => (Err(Error::Spent), self.give_up(core, list)),
-            },
-            _ => self.wait_over(core, list, is_over, turn),
+        let (tags, number) = (&core.tags, list.number());
+        if !by_way!(self, hand => hand.can_wait(), cache => cache.can_wait()) {
+            let answer = if is_over { Ok(Next::Over) } else { Err(Error::Spent) };
+            return (answer, self.give_up(core, list));
         }
-    }
-
-    /// The same of a hand with a cache, by the steps of the proved round.
-    fn wait_over(&mut self, core: &Core, list: List, is_over: bool, turn: Turn) -> (Result<Next>, Due) {
-        if is_over {
-            return (Ok(Next::Over), self.give_up(core, list));
-        }
-        self.list_self(core, list, turn);
-        match self.get_and_tell(core) {
-            (Ok(Some(held)), due) => (Ok(Next::Won(held)), due.and(self.give_up(core, list))),
-            (Ok(None), due) => (Ok(Next::Sleep), due),
-            (Err(error), due) => (Err(error), due.and(self.give_up(core, list))),
-        }
+        let (next, told) = by_way!(self,
+            hand => tags.wait_on(hand, number, is_over, turn),
+            cache => cache.wait_on(tags, number, is_over, turn)
+        );
+        (Ok(next.into()), told.into())
     }
 
     /// A round that other calls of the hand may have come before: so first a get has it begin at the first tag, as a
@@ -98,11 +82,6 @@ impl Way {
         (found, self.see_to(core, left))
     }
 
-    fn list_self(&mut self, core: &Core, list: List, turn: Turn) {
-        let (tags, list) = (&core.tags, list.number());
-        by_way!(self, hand => tags.list_self(hand, list, turn), cache => cache.list_self(tags, list, turn));
-    }
-
     /// Ends a wait, and sees to all tags.
     fn give_up(&mut self, core: &Core, list: List) -> Due {
         let (tags, list) = (&core.tags, list.number());
@@ -111,10 +90,7 @@ impl Way {
                 tags.get_up(hand, list);
                 tags.see_to_all(hand)
             },
-            cache => {
-                cache.get_up(tags, list);
-                cache.see_to_all(tags)
-            }
+            cache => cache.end_wait(tags, list)
         )
         .into()
     }

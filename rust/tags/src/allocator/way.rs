@@ -68,11 +68,6 @@ impl Way {
         by_way!(self, hand => hand.number(), cache => cache.number())
     }
 
-    /// Whether it is a hand with a cache.
-    pub fn may_keep(&self) -> bool {
-        matches!(self, Way::Cached(_))
-    }
-
     /// Ends the use of the hand, and gives it up once it keeps nothing.
     pub fn leave(&mut self, core: &Core) -> Option<Hand<u64>> {
         match core::mem::replace(self, Way::Left) {

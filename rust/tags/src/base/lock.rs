@@ -1,20 +1,18 @@
 //! A lock over a word on which threads sleep.
 
+use crate::base::word::{touch, AtomicU32, LOOKS};
 use crate::sleep::Sleeper;
 use core::cell::UnsafeCell;
 use core::hint::spin_loop;
 use core::marker::PhantomData;
 use core::ops::{Deref, DerefMut};
-use core::sync::atomic::{AtomicU32, Ordering::Acquire, Ordering::Relaxed, Ordering::Release};
+use core::sync::atomic::Ordering::{Acquire, Relaxed, Release};
 
 // The states of the word.
 const FREE: u32 = 0;
 const HELD: u32 = 1;
 /// A thread may sleep, so whoever frees the lock wakes.
 const AWAITED: u32 = 2;
-
-/// How often a thread looks before it sleeps.
-const LOOKS: u32 = 100;
 
 /// A value that one thread at a time uses, for a short time.
 pub struct Lock<T> {
@@ -83,6 +81,14 @@ impl<T> Lock<T> {
     fn wake(&self) {
         self.sleeper.wake(&self.state);
     }
+
+    /// For its guard alone.
+    #[inline]
+    fn value(&self) -> *mut T {
+        let value = self.value.get();
+        touch(value);
+        value
+    }
 }
 
 impl<T> Deref for Guard<'_, T> {
@@ -91,7 +97,7 @@ impl<T> Deref for Guard<'_, T> {
     #[inline]
     fn deref(&self) -> &T {
         // SAFETY: the lock is held as long as the guard lives, which lends the value no longer.
-        unsafe { &*self.lock.value.get() }
+        unsafe { &*self.lock.value() }
     }
 }
 
@@ -99,7 +105,7 @@ impl<T> DerefMut for Guard<'_, T> {
     #[inline]
     fn deref_mut(&mut self) -> &mut T {
         // SAFETY: as in `deref`, and nothing else borrows the guard.
-        unsafe { &mut *self.lock.value.get() }
+        unsafe { &mut *self.lock.value() }
     }
 }
 

@@ -2,6 +2,9 @@
 
 pub use core::sync::atomic::{AtomicI32, AtomicU32, AtomicU64 as Word};
 
-/// A slot is about to be used.
+/// How often a thread looks whether a lock is free before it sleeps.
+pub const LOOKS: u32 = 100;
+
+/// A slot, the value beside a tag or that of a lock is about to be used.
 #[inline(always)]
 pub fn touch<T>(_: *mut T) {}

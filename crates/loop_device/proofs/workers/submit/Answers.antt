@@ -23,7 +23,7 @@ returns-in_default-taken-clause-submits g c =
           (sym c.requires.total) c.in-Err.ensures.full;
       ends = told_back tags c.in-Err.tag posted c.take-taken.new.hand c.args.log.now.ios.items c.take-taken.result
           c.in_default-taken.field-0 c.in_default-taken.is c.take-taken.ensures.does.no_such_tag
-          c.in_default-taken.ensures.does.refuses;
+          c.in_default-taken.ensures.does.refuses c.in_default-taken.ensures.unchanged c.take-taken.ensures.counts;
       same = c.in-Err.ensures.err;
     })
 
@@ -34,15 +34,17 @@ pub returns-clause-submits : goal.returns-clause-submits
 returns-clause-submits g c =
     let tags = c.args.device.now.tags in let ios = c.args.log.now.ios.items in let tag = c.in-Err.tag in
     let posted = c.post_line.new.hand in let taken = c.take-taken.new.hand in let last = c.finish.new.hand in
-    let takes = c.in-Ok-taken.ensures.does.takes in let done = c.finish.result in inr (inl record {
+    let takes = c.in-Ok-taken.ensures.does.takes in let counts = c.take-taken.ensures.counts in
+    let done = c.finish.result in inr (inl record {
       tag = tag;
       posted = posted;
       posts = subst (λ (tag : ℕ). PostsLine tags c.args.line tag c.args.hand.now posted) (sym c.in-Err.ensures.back)
           c.in-Ok.ensures.posts;
       full = subst (λ (total : ℕ). WasFull total (ruled_capacity c.args.device.now.queue) (view c.args.pass.now))
           (sym c.requires.total) c.in-Err.ensures.full;
-      ends = ended tags ios tag posted last done (completed tags tag posted taken last takes done c.finish.ensures.ok)
-          (told tags tag posted taken last takes ios done c.finish.ensures.fault);
+      ends = ended tags ios tag posted last done
+          (completed tags tag posted taken last takes counts done c.finish.ensures.ok)
+          (told tags tag posted taken last takes counts ios done c.finish.ensures.fault);
       same = c.in-Err.ensures.err;
     })
 

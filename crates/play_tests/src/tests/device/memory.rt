@@ -6,7 +6,7 @@ use crate::tests::device::{SMALL, done, small_log};
 use loop_device::{Log, LogCause, OpenGate, PlayFault, Store, complete, play, verdict};
 use std::sync::Mutex;
 use std::test::Fail;
-use tag_sets::Ring;
+use tag_queue::Ring;
 
 #[test]
 fn want_of_memory_is_told_of_a_log(rt: HostRuntime) {

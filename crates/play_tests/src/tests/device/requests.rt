@@ -1,6 +1,6 @@
 //! Requests that are completed one at a time.
 ghost use Rattle.std.specs.Prelude.{IfOk};
-ghost use Rattle.tag_sets.specs.Hands.{IsHandOf};
+ghost use Rattle.tag_queue.specs.Hands.{IsHandOf};
 
 use crate::tests::device::small_log;
 use loop_device::{Gate, PlayFault, Store, complete};
@@ -9,7 +9,7 @@ use std::sync::Mutex;
 use std::sync::atomic::AtomicU64;
 use std::sync::atomic::Ordering::SeqCst;
 use std::test::Fail;
-use tag_sets::{Hand, Options, Ring, SetFault, Tags};
+use tag_queue::{MAX_CAP, Options, Queue, QueueHand, QueueOpenFault, Ring};
 
 /// Records the last line that was about to be carried out.
 #[derive(Drop)]
@@ -26,11 +26,10 @@ impl Gate for Recorder {
 }
 
 /// Four ordinary tags with one hand.
-pub(crate) fn opened(alloc: Global) -> Result<(Tags<u64>, Hand<u64>), SetFault>
+pub(crate) fn opened(alloc: Global) -> Result<(Queue<u64>, QueueHand<u64>), QueueOpenFault>
     ensures { IfOk result (λ opened. IsHandOf opened.0 opened.1) }
 {
-    let options = Options::new(1);
-    let (tags, mut hands) = Tags::open(alloc, 4, 0, options, 0u64)?;
+    let (tags, mut hands) = Queue::open(alloc, Options::new(4, 1), MAX_CAP, 0u64)?;
     let Some(hand) = hands.pop() else {
         unreachable!()
     };

@@ -7,7 +7,7 @@ use crate::tests::steps::Step::{Calls, Count};
 use std::alloc::Global;
 use std::test::Fail;
 use tag_pool::TagFault::{NoSuchTag, NotHeld};
-use tag_pool::{OpenFault, Options, Pool};
+use tag_pool::{Kind, OpenFault, Options, Pool};
 
 /// Returns the faults of opening a pool with these options, and of opening it with its hands placed.
 fn refusals(alloc: Global, options: Options) -> (Option<OpenFault>, Option<OpenFault>) {
@@ -71,6 +71,39 @@ fn a_pool_opens_with_as_many_hands_as_asked(rt: HostRuntime) -> Result<(), Fail>
             ]),
         ],
     )
+}
+
+#[test]
+fn words_are_for_the_hands_if_asked(rt: HostRuntime) -> Result<(), Fail> {
+    let many = Options::new(160, 16).with_reserved(32);
+    let by_hands = many.with_words_by_hands();
+    for (options, ordinary, reserved) in [
+        (many, 5, 3),
+        (by_hands, 3, 1),
+        (by_hands.with_shift(4), 4, 4),
+        (
+            Options {
+                hands: 4,
+                ..by_hands
+            },
+            5,
+            3,
+        ),
+    ] {
+        let (pool, hands) = Pool::open(rt.alloc(), options, 0u64)?;
+        assert_eq!(rt; hands.len(), options.hands as usize);
+        assert_eq!(rt;
+            pool.layout(Kind::Ordinary).shift(),
+            ordinary,
+            "with {options:?}"
+        );
+        assert_eq!(rt;
+            pool.layout(Kind::Reserved).shift(),
+            reserved,
+            "with {options:?}"
+        );
+    }
+    Ok(())
 }
 
 #[test]

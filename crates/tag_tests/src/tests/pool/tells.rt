@@ -1,9 +1,9 @@
 //! Whom calls tell, and waits that are ended by others. A bit of a mask stands for the hand of that number.
 use crate::tests::answers::Answer::{
-    BatchAndTold, Done, Tag, TagAndLeft, TagAndTold, Told, Waiters, WasTold,
+    BatchAndTold, Done, NothingAndTold, Tag, TagAndLeft, TagAndTold, Told, Waiters, WasTold,
 };
 use crate::tests::calls::Call::{
-    Clear, ClearBoth, ClearMask, ClearQuietly, FindsWaiters, Get, GetBatch, GetQuietly,
+    Clear, ClearBoth, ClearMask, ClearQuietly, FindsWaiters, Get, GetBatch, GetExactly, GetQuietly,
     GetReserved, GetShallow, GetUp, IsTold, ListSelf, SeeTo, SeeToAll,
 };
 use crate::tests::shared::stages::{expect, expect_steps, pool};
@@ -67,6 +67,8 @@ fn a_get_tells_of_the_tags_that_it_left_free(rt: HostRuntime) -> Result<(), Fail
     for (get, answer) in [
         (Get, TagAndTold(1, 0b10)),
         (GetShallow(4), TagAndTold(1, 0b10)),
+        (GetExactly(2), TagAndTold(2, 0b10)),
+        (GetExactly(0), NothingAndTold(0b10)),
         (GetBatch(1), BatchAndTold(1, 1, 0b10)),
     ] {
         expect_steps(

@@ -1,28 +1,23 @@
 //! Clears, and what they count.
 use crate::tests::answers::Answer::{Batch, Found, Group, Refused, Tag, Woken};
-use crate::tests::calls::Call::{
-    Clear, ClearMask, ClearUncounted, Get, GetBatch, PrepareWait, Wakes,
-};
-use crate::tests::queue::stages::{all_totals, expect, expect_totals, in_words, options};
+use crate::tests::calls::Call::{Clear, ClearMask, Get, GetBatch, GetReserved, PrepareWait, Wakes};
+use crate::tests::queue::stages::{all_totals, expect, expect_totals, queue};
 use crate::tests::steps::Step::{Calls, ClearBatch, Gets};
 use crate::tests::totals::totals;
 use std::test::Fail;
-use tag_pool::TagFault::{NoSuchTag, NotHeld};
 use tag_queue::QueueTotals;
+use tag_queue::TagFault::{NoSuchTag, NotHeld};
 use wake_book::GroupTotals;
 
 #[test]
 fn a_clear_of_a_tag_that_is_not_held_is_refused(rt: HostRuntime) -> Result<(), Fail> {
     expect(
         &rt,
-        4,
-        options(2),
+        queue(4, 2),
         &[
             (0, Get, Tag(0)),
             (1, Clear(0), Refused(NotHeld)),
             (0, Clear(4), Refused(NoSuchTag)),
-            (1, ClearUncounted(0), Refused(NotHeld)),
-            (0, ClearUncounted(4), Refused(NoSuchTag)),
             (0, Clear(0), Woken(0)),
             (0, Clear(0), Refused(NotHeld)),
         ],
@@ -31,7 +26,7 @@ fn a_clear_of_a_tag_that_is_not_held_is_refused(rt: HostRuntime) -> Result<(), F
 
 #[test]
 fn a_batch_clear_counts_all_its_tags_and_charges_one_batch(rt: HostRuntime) -> Result<(), Fail> {
-    // Agent 1 is woken, and does not leave the wait.
+    // Hand 1 is woken, and does not leave the wait.
     let groups = GroupTotals {
         issued: 1,
         used: 0,
@@ -40,15 +35,14 @@ fn a_batch_clear_counts_all_its_tags_and_charges_one_batch(rt: HostRuntime) -> R
     };
     let sums = QueueTotals {
         groups,
-        ..all_totals(totals(7, 7, 0, 0), (6, 4, 2), 1)
+        ..all_totals(totals(6, 6, 0, 0), (6, 4, 2), 1)
     };
     expect_totals(
         &rt,
-        16,
-        options(2),
+        queue(16, 2),
         &[
-            Gets(0, 7),
-            Calls(&[(1, PrepareWait, Group(0)), (0, ClearUncounted(6), Woken(0))]),
+            Gets(0, 6),
+            Calls(&[(1, PrepareWait, Group(0))]),
             ClearBatch(0, &[0, 1, 2, 3, 4], Woken(1)),
             // Two more are open, and one completion charges two of them.
             Calls(&[
@@ -65,13 +59,29 @@ fn a_batch_clear_counts_all_its_tags_and_charges_one_batch(rt: HostRuntime) -> R
 fn the_tags_of_a_mask_are_counted_together(rt: HostRuntime) -> Result<(), Fail> {
     expect(
         &rt,
-        16,
-        in_words(4, 2),
+        queue(16, 2).in_words(4),
         &[
             (0, GetBatch(16), Batch(0, 0xffff)),
             (1, PrepareWait, Group(0)),
             (0, ClearMask(0, 0b11), Woken(1)),
             (0, Wakes, Found(2, 2, 0, 1)),
+        ],
+    )
+}
+
+#[test]
+fn a_clear_of_a_reserved_tag_is_not_counted(rt: HostRuntime) -> Result<(), Fail> {
+    expect(
+        &rt,
+        queue(3, 2).with_reserved(1),
+        &[
+            (0, GetReserved, Tag(0)),
+            (0, Get, Tag(1)),
+            (1, PrepareWait, Group(0)),
+            (0, Clear(0), Woken(0)),
+            (0, Wakes, Found(0, 0, 0, 1)),
+            (0, Clear(1), Woken(1)),
+            (0, Wakes, Found(1, 1, 1, 1)),
         ],
     )
 }

@@ -1,55 +1,69 @@
 //! Opening a queue.
-use crate::tests::queue::stages::options;
 use std::alloc::Global;
 use std::test::Fail;
-use tag_queue::{Options, Queue, QueueOpenFault};
+use tag_queue::{MAX_CAP, Options, Queue, QueueHand, QueueOpenFault};
 
-/// Returns the faults of opening a queue with these options, and of opening it with its agents placed.
+/// Returns the faults of opening a queue with these options and this cap, and of opening it with its hands placed.
 fn refusals(
     alloc: Global,
-    depth: u32,
     options: Options,
+    cap: u64,
 ) -> (Option<QueueOpenFault>, Option<QueueOpenFault>) {
     (
-        Queue::open(alloc, depth, options, 0u64).err(),
-        Queue::open_placed(alloc, depth, options, 0u64).err(),
+        fault_of(Queue::open(alloc, options, cap, 0u64)),
+        fault_of(Queue::open_placed(alloc, options, cap, 0u64)),
     )
+}
+
+fn fault_of(
+    opened: Result<(Queue<u64>, Vec<QueueHand<u64>>), QueueOpenFault>,
+) -> Option<QueueOpenFault> {
+    match opened {
+        Ok(_) => None,
+        Err(fault) => Some(fault),
+    }
 }
 
 #[test]
 fn a_queue_is_refused_for_its_first_fault(rt: HostRuntime) {
-    let capped = Options {
-        cap: (1 << 56) + 1,
-        ..options(1)
-    };
     let lasting = Options {
         life: (1 << 48) + 1,
-        ..capped
+        ..Options::new(10_240, 1)
     };
     let deserted = Options {
-        callers: 0,
+        hands: 0,
         ..lasting
     };
     let crowded = Options {
-        callers: 65,
+        hands: 65,
         ..lasting
     };
     let wide = Options {
         shift: Some(7),
         ..deserted
     };
-    for (depth, options, fault) in [
-        (10_241, wide, QueueOpenFault::TotalTooLarge),
-        (10_240, wide, QueueOpenFault::ShiftTooLarge),
-        (10_240, deserted, QueueOpenFault::CallerCount),
-        (10_240, crowded, QueueOpenFault::CallerCount),
-        (10_240, lasting, QueueOpenFault::LifeTooLong),
-        (10_240, capped, QueueOpenFault::CapTooLarge),
+    let taken = Options {
+        reserved: 10_241,
+        ..wide
+    };
+    let deep = Options {
+        depth: 10_241,
+        reserved: 10_242,
+        ..wide
+    };
+    for (options, fault) in [
+        (deep, QueueOpenFault::TotalTooLarge),
+        (taken, QueueOpenFault::ReservedTooLarge),
+        (wide, QueueOpenFault::ShiftTooLarge),
+        (deserted, QueueOpenFault::CallerCount),
+        (crowded, QueueOpenFault::CallerCount),
+        (lasting, QueueOpenFault::LifeTooLong),
+        (Options::new(10_240, 1), QueueOpenFault::CapTooLarge),
     ] {
         assert_eq!(rt;
-            refusals(rt.alloc(), depth, options),
+            refusals(rt.alloc(), options, MAX_CAP + 1),
             (Some(fault), Some(fault)),
-            "at depth {depth} with {options:?}"
+            "with {options:?}"
         );
     }
 }

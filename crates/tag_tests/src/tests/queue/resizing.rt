@@ -1,20 +1,17 @@
 //! Resizes.
 use crate::tests::answers::Answer::{Done, Found, Group, LeftUnwoken, LeftWoken, Tag, Woken};
-use crate::tests::calls::Call::{Clear, FinishWait, Get, Post, PrepareWait, Wakes};
-use crate::tests::queue::stages::{all_totals, expect_totals, options, unwaited};
-use crate::tests::stage::Stage;
-use crate::tests::steps::Step::{BringBack, Calls, Present, Resize, ResizeFails};
+use crate::tests::calls::Call::{Clear, FinishWait, Get, GetReserved, Post, PrepareWait, Wakes};
+use crate::tests::queue::stages::{all_totals, expect_totals, queue, unwaited};
+use crate::tests::steps::Step::{BringBack, Calls, Present, Resize, ResizeFails, SendAway};
 use crate::tests::totals::totals;
 use std::test::Fail;
-use step_ledger::GatherCause;
-use tag_pool::ResizeCause;
+use tag_queue::ResizeCause;
 
 #[test]
 fn waits_forbid_a_resize(rt: HostRuntime) -> Result<(), Fail> {
     expect_totals(
         &rt,
-        16,
-        options(2),
+        queue(16, 2),
         &[
             Calls(&[
                 (0, Get, Tag(0)),
@@ -47,16 +44,12 @@ fn waits_forbid_a_resize(rt: HostRuntime) -> Result<(), Fail> {
 }
 
 #[test]
-fn a_resize_without_an_agent_hands_all_back(rt: HostRuntime) -> Result<(), Fail> {
-    let mut stage = Stage::of_queue(rt.alloc(), 4, options(2))?;
-    stage.send_away(1)?;
-    let Err((cause, stage)) = stage.in_use() else {
-        return Err(Fail::new("told without agent 1"));
-    };
-    assert_eq!(rt; cause, GatherCause::Missing(1));
-    stage.play_to_sums(
+fn a_resize_without_a_hand_hands_all_back(rt: HostRuntime) -> Result<(), Fail> {
+    expect_totals(
         &rt,
+        queue(4, 2),
         &[
+            SendAway(1),
             Present(&[0]),
             ResizeFails(10_241, ResizeCause::Missing(1)),
             Present(&[0]),
@@ -69,19 +62,20 @@ fn a_resize_without_an_agent_hands_all_back(rt: HostRuntime) -> Result<(), Fail>
 }
 
 #[test]
-fn held_and_posted_tags_are_told(rt: HostRuntime) -> Result<(), Fail> {
-    let stage = Stage::of_queue(rt.alloc(), 8, options(2))?;
-    let stage = stage.play(
+fn held_and_posted_tags_of_both_sets_are_told(rt: HostRuntime) -> Result<(), Fail> {
+    expect_totals(
         &rt,
-        &[Calls(&[(0, Get, Tag(0)), (0, Get, Tag(1)), (0, Post(1), Done)])],
-    )?;
-    let Ok((held, posted, stage)) = stage.in_use() else {
-        return Err(Fail::new("an agent is missing"));
-    };
-    assert_eq!(rt; (held, posted), (1, 1));
-    stage.play_to_sums(
-        &rt,
-        &[Present(&[0, 1]), ResizeFails(8, ResizeCause::InUse(1, 1))],
-        unwaited(2, 0, 1, 1),
+        queue(8, 2).with_reserved(2),
+        &[
+            Calls(&[
+                (0, GetReserved, Tag(0)),
+                (0, Get, Tag(2)),
+                (0, Get, Tag(3)),
+                (0, Post(3), Done),
+            ]),
+            ResizeFails(8, ResizeCause::InUse(2, 1)),
+            Present(&[0, 1]),
+        ],
+        unwaited(3, 0, 2, 1),
     )
 }

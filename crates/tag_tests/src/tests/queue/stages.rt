@@ -1,26 +1,54 @@
 //! Stages of a queue.
 use crate::tests::answers::Answer;
 use crate::tests::calls::Call;
+use crate::tests::queue::TestedQueue;
 use crate::tests::stage::Stage;
 use crate::tests::steps::Step;
-use crate::tests::totals::{FILL, totals};
+use crate::tests::totals::{FILL, tags, totals};
 use std::alloc::Global;
 use std::process::Abort;
 use std::sync::Wait;
 use std::test::*;
-use step_ledger::GatherCause;
-use tag_model::Totals;
-use tag_queue::{Options, Queue, QueueTotals};
+use tag_queue::{MAX_CAP, Options, Queue, QueueTotals, Totals};
 use wake_book::{BookTotals, GroupTotals};
 
-/// The default options for this many callers.
-pub(crate) fn options(callers: u32) -> Options {
-    Options::new(callers)
+/// With what a queue is opened for a test.
+#[derive(Clone, Copy)]
+pub(crate) struct Setting {
+    pub(crate) options: Options,
+    /// Completions that a hand may count.
+    pub(crate) cap: u64,
 }
 
-/// Options with words of `2^shift` tags, and the highest life and cap.
-pub(crate) fn in_words(shift: u32, callers: u32) -> Options {
-    options(callers).with_shift(shift)
+/// A queue of so many ordinary tags, for so many hands, with the highest life and cap.
+pub(crate) fn queue(depth: u32, hands: u32) -> Setting {
+    Setting {
+        options: tags(depth, 0, hands),
+        cap: MAX_CAP,
+    }
+}
+
+impl Setting {
+    /// The same with words of `2^shift` tags.
+    pub(crate) fn in_words(self, shift: u32) -> Setting {
+        Setting {
+            options: self.options.with_shift(shift),
+            ..self
+        }
+    }
+
+    /// The same, with so many of the tags reserved.
+    pub(crate) fn with_reserved(self, reserved: u32) -> Setting {
+        Setting {
+            options: self.options.with_reserved(reserved),
+            ..self
+        }
+    }
+
+    /// The same, where a hand may count so many completions.
+    pub(crate) fn with_cap(self, cap: u64) -> Setting {
+        Setting { cap, ..self }
+    }
 }
 
 /// Totals after a run in which no wakeup is outstanding and nobody waits: of tags, completions counted and charged, in
@@ -51,15 +79,11 @@ pub(crate) fn unwaited(got: u64, back: u64, held: u64, posted: u64) -> QueueTota
     all_totals(totals(got, back, held, posted), (0, 0, 0), 0)
 }
 
-impl Stage<Queue<u64>> {
+impl Stage<TestedQueue> {
     /// Opens a queue whose slots contain `FILL`.
-    pub(crate) fn of_queue(
-        alloc: Global,
-        depth: u32,
-        options: Options,
-    ) -> Result<Stage<Queue<u64>>, Fail> {
-        let (queue, agents) = Queue::open(alloc, depth, options, FILL)?;
-        Ok(Stage::of(alloc, queue, agents))
+    pub(crate) fn of_queue(alloc: Global, setting: Setting) -> Result<Stage<TestedQueue>, Fail> {
+        let (queue, hands) = Queue::open(alloc, setting.options, setting.cap, FILL)?;
+        Ok(Stage::of(alloc, TestedQueue { queue }, hands))
     }
 
     /// Takes the steps, and closes the queue, whose totals must be these.
@@ -74,7 +98,7 @@ impl Stage<Queue<u64>> {
         Ok(())
     }
 
-    /// Gathers the agents, and returns all totals.
+    /// Gathers the hands, and returns all totals.
     pub(crate) fn close_queue(self) -> Result<QueueTotals, Fail> {
         let Stage {
             tags,
@@ -82,39 +106,9 @@ impl Stage<Queue<u64>> {
             away,
         } = self;
         drop(away);
-        match Queue::gather(tags, callers) {
+        match Queue::gather(tags.into_queue(), callers) {
             Ok(sums) => Ok(sums),
-            Err(_) => Err(Fail::new("an agent is missing")),
-        }
-    }
-
-    /// Returns how many tags are held and how many are posted.
-    pub(crate) fn in_use(
-        self,
-    ) -> Result<(u64, u64, Stage<Queue<u64>>), (GatherCause, Stage<Queue<u64>>)> {
-        let Stage {
-            tags,
-            callers,
-            away,
-        } = self;
-        match Queue::in_use(tags, callers) {
-            Ok(usage) => Ok((
-                usage.held,
-                usage.posted,
-                Stage {
-                    tags: usage.queue,
-                    callers: usage.agents,
-                    away,
-                },
-            )),
-            Err(fault) => Err((
-                fault.cause,
-                Stage {
-                    tags: fault.queue,
-                    callers: fault.agents,
-                    away,
-                },
-            )),
+            Err(_) => Err(Fail::new("a hand is missing")),
         }
     }
 }
@@ -122,31 +116,19 @@ impl Stage<Queue<u64>> {
 /// Opens a queue and makes the calls, which must have the answers beside them.
 pub(crate) fn expect<R: Abort + AllocGlobal + Wait>(
     rt: &R,
-    depth: u32,
-    options: Options,
+    setting: Setting,
     said: &[(usize, Call, Answer)],
 ) -> Result<(), Fail> {
-    expect_steps(rt, depth, options, &[Step::Calls(said)])
-}
-
-/// Opens a queue and takes the steps.
-pub(crate) fn expect_steps<R: Abort + AllocGlobal + Wait>(
-    rt: &R,
-    depth: u32,
-    options: Options,
-    steps: &[Step<'_>],
-) -> Result<(), Fail> {
-    Stage::of_queue(rt.alloc(), depth, options)?.play(rt, steps)?;
+    Stage::of_queue(rt.alloc(), setting)?.play(rt, &[Step::Calls(said)])?;
     Ok(())
 }
 
-/// Opens a queue, takes the steps, and gathers the agents. The totals must be these.
+/// Opens a queue, takes the steps, and gathers the hands. The totals must be these.
 pub(crate) fn expect_totals<R: Abort + AllocGlobal + Wait>(
     rt: &R,
-    depth: u32,
-    options: Options,
+    setting: Setting,
     steps: &[Step<'_>],
     totals: QueueTotals,
 ) -> Result<(), Fail> {
-    Stage::of_queue(rt.alloc(), depth, options)?.play_to_sums(rt, steps, totals)
+    Stage::of_queue(rt.alloc(), setting)?.play_to_sums(rt, steps, totals)
 }

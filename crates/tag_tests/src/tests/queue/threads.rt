@@ -1,7 +1,7 @@
-//! Agents on threads of their own. These tests show that a blocked get is woken.
+//! Hands on threads of their own. These tests show that a blocked get is woken.
 use crate::tests::calls::Call;
 use crate::tests::jobs::{Job, Plan};
-use crate::tests::queue::stages::options;
+use crate::tests::queue::stages::queue;
 use crate::tests::stage::Stage;
 use crate::tests::tally::Tally;
 use crate::tests::threads::{
@@ -15,15 +15,15 @@ use std::test::*;
 use std::thread::Threads;
 use tag_queue::QueueTotals;
 
-/// Opens a queue for this many agents, has all of them play at once, and gathers them.
+/// Opens a queue for this many hands, has all of them play at once, and gathers them.
 fn played_on_queue<R: AllocGlobal + Wait + Threads + Sync>(
     rt: &R,
     depth: u32,
-    callers: u32,
+    hands: u32,
     plan: Plan,
 ) -> Result<(Tally, QueueTotals), Fail> {
     let tally = Tally::new(rt.alloc(), depth)?;
-    let stage = Stage::of_queue(rt.alloc(), depth, options(callers))?;
+    let stage = Stage::of_queue(rt.alloc(), queue(depth, hands))?;
     let sums = played(rt, stage, &tally, plan).close_queue()?;
     Ok((tally, sums))
 }
@@ -55,7 +55,7 @@ fn a_slot_of_a_queue_names_its_holder_among_nine_threads(rt: HostRuntime) -> Res
 }
 
 #[test]
-fn four_agents_balance_beside_one_that_waits(rt: HostRuntime) -> Result<(), Fail> {
+fn four_hands_balance_beside_one_that_waits(rt: HostRuntime) -> Result<(), Fail> {
     let (tally, sums) = played_on_queue(&rt, 3, 5, gets(Call::Get, 4, 10_000))?;
     expect_all_woken(&rt, &tally, sums);
     Ok(())
@@ -84,7 +84,7 @@ fn one_clear_is_enough_for_one_waiter(rt: HostRuntime) -> Result<(), Fail> {
 }
 
 #[test]
-fn as_many_agents_as_tags_meet(rt: HostRuntime) -> Result<(), Fail> {
+fn as_many_hands_as_tags_meet(rt: HostRuntime) -> Result<(), Fail> {
     let (tally, sums) = played_on_queue(&rt, 3, 3, meeting(3))?;
     expect_all_woken(&rt, &tally, sums);
     assert_eq!(rt; sums.tags.got, 6_000);

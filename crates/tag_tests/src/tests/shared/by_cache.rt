@@ -19,6 +19,7 @@ pub(crate) fn act<W: Wait>(rt: &W, pool: &Pool<u64>, cache: &mut Cache<u64>, cal
         Call::GetReserved => answered(cache.get_reserved(pool).map(tag)),
         Call::GetShallow(depth) => answered(cache.get_shallow(pool, depth).map(got)),
         Call::GetBatch(count) => answered(cache.get_batch(pool, count).map(got_batch)),
+        Call::GetExactly(tag) => answered(cache.get_exactly(pool, tag).map(got)),
         Call::GetBlocking => answered(cache.get_blocking(rt, pool).map(got_one)),
         Call::Clear(tag) => answered(cache.clear(pool, tag).map(woken)),
         Call::ClearBoth(one, other) => {

@@ -24,6 +24,7 @@ pub(crate) fn act<W: Wait>(rt: &W, pool: &Pool<u64>, hand: &mut Hand<u64>, call:
         Call::GetReserved => answered(pool.get_reserved(hand).map(tag)),
         Call::GetShallow(depth) => answered(pool.get_shallow(hand, depth).map(got)),
         Call::GetBatch(count) => answered(pool.get_batch(hand, count).map(got_batch)),
+        Call::GetExactly(tag) => answered(pool.get_exactly(hand, tag).map(got)),
         Call::GetBlocking => answered(pool.get_blocking(rt, hand).map(got_one)),
         Call::GetQuietly => answered(pool.get_quietly(hand).map(found)),
         Call::GetUntil(left) => get_until(pool, hand, left),

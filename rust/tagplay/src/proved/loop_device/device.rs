@@ -5,13 +5,13 @@
 use crate::base::sync::Mutex;
 use crate::proved::loop_device::device_queue::DeviceQueue;
 use crate::proved::loop_device::store::Store;
-use crate::proved::tag_sets::Tags;
+use crate::proved::tag_queue::Queue;
 use core::sync::atomic::AtomicBool;
 
 /// What the threads of a play share, besides the log and the gate.
 pub(crate) struct Device {
     /// A submitted line is in the slot of its tag.
-    pub(crate) tags: Tags<u64>,
+    pub(crate) tags: Queue<u64>,
     /// Tags that are posted and not yet taken.
     pub(crate) queue: DeviceQueue,
     /// What was carried out.

@@ -18,7 +18,7 @@ use crate::proved::loop_device::store::Store;
 use crate::proved::loop_device::threads::run_threads;
 use crate::proved::loop_device::workers::Faults;
 use crate::proved::tag_model::Totals;
-use crate::proved::tag_sets::{Hand, Options, Tags};
+use crate::proved::tag_queue::{Options, Queue, QueueHand, MAX_CAP};
 use core::sync::atomic::AtomicBool;
 
 /// Carries out each I/O line of the log once, in threads that share tags, and joins them all. `Setup` is reported
@@ -36,11 +36,12 @@ pub fn play<G: Gate, R: Threads + Wait + Sync>(
         return Err(PlayFault::Setup);
     }
     let options = Options {
+        reserved: setup.reserved,
         shift: setup.shift,
-        ..Options::new(setup.submitters + setup.completers)
+        ..Options::new(setup.total, setup.submitters + setup.completers)
     };
     // A legal setup is refused only if memory runs out.
-    let Ok((tags, hands)) = Tags::open(alloc, setup.total, setup.reserved, options, 0u64) else {
+    let Ok((tags, hands)) = Queue::open(alloc, options, MAX_CAP, 0u64) else {
         return Err(PlayFault::Memory);
     };
     play_under(rt, alloc, log, setup, gate, tags, hands)
@@ -53,8 +54,8 @@ fn play_under<G: Gate, R: Threads + Wait + Sync>(
     log: &Log,
     setup: Setup,
     gate: &G,
-    tags: Tags<u64>,
-    hands: Vec<Hand<u64>>,
+    tags: Queue<u64>,
+    hands: Vec<QueueHand<u64>>,
 ) -> Result<Report, PlayFault> {
     let Ok((queue, pass)) = DeviceQueue::ruled(alloc, setup.queue as usize) else {
         return Err(PlayFault::Memory);
@@ -79,7 +80,7 @@ fn play_under<G: Gate, R: Threads + Wait + Sync>(
     };
     let done = store.into_inner().into_history();
     // A hand is missing only if its thread could not be started.
-    let Ok(totals) = Tags::gather(tags, hands) else {
+    let Ok(totals) = Queue::gather(tags, hands) else {
         return Err(PlayFault::Memory);
     };
     judge(alloc, log, totals.tags, done, faults)

@@ -8,7 +8,7 @@ use crate::proved::loop_device::fault::PlayFault;
 use crate::proved::loop_device::gate::Gate;
 use crate::proved::loop_device::io::{Io, Log};
 use crate::proved::loop_device::store::Store;
-use crate::proved::tag_sets::{Hand, Ring, Tags};
+use crate::proved::tag_queue::{Queue, QueueHand, Ring};
 
 /// Completes the request of a posted tag: takes the tag, carries out the line in its slot, clears the tag and returns
 /// the line. `Spurious` means that there is no such tag, that it was found not posted (a step in the hand's list), or
@@ -16,8 +16,8 @@ use crate::proved::tag_sets::{Hand, Ring, Tags};
 /// A tag that was taken is cleared whatever became of its line.
 pub fn complete<G: Gate, W: Wait>(
     rt: &W,
-    tags: &Tags<u64>,
-    hand: &mut Hand<u64>,
+    tags: &Queue<u64>,
+    hand: &mut QueueHand<u64>,
     tag: u32,
     log: &Log,
     store: &Mutex<Store>,
@@ -32,8 +32,8 @@ pub fn complete<G: Gate, W: Wait>(
 /// Carries out the line in the slot of a tag that the hand holds, and clears the tag, whatever became of the line.
 pub(crate) fn finish<G: Gate, W: Wait>(
     rt: &W,
-    tags: &Tags<u64>,
-    hand: &mut Hand<u64>,
+    tags: &Queue<u64>,
+    hand: &mut QueueHand<u64>,
     tag: u32,
     log: &Log,
     store: &Mutex<Store>,

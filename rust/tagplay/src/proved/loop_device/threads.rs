@@ -13,7 +13,7 @@ use crate::proved::loop_device::gate::Gate;
 use crate::proved::loop_device::io::Log;
 use crate::proved::loop_device::setup::Setup;
 use crate::proved::loop_device::workers::{complete_all, submit_all, Faults, Worked};
-use crate::proved::tag_sets::Hand;
+use crate::proved::tag_queue::QueueHand;
 use core::sync::atomic::Ordering::SeqCst;
 
 type Handle<'s> = Started<'s, Worked>;
@@ -27,11 +27,11 @@ pub(crate) fn run_threads<G: Gate, R: Threads + Wait + Sync>(
     log: &Log,
     gate: &G,
     device: &Device,
-    hands: Vec<Hand<u64>>,
+    hands: Vec<QueueHand<u64>>,
     pass: Pass<u32>,
     setup: Setup,
-) -> Result<(Vec<Hand<u64>>, Faults), AllocError> {
-    thread::scope(|scope| -> Result<(Vec<Hand<u64>>, Faults), AllocError> {
+) -> Result<(Vec<QueueHand<u64>>, Faults), AllocError> {
+    thread::scope(|scope| -> Result<(Vec<QueueHand<u64>>, Faults), AllocError> {
         let mut handles = Vec::with_capacity(alloc, hands.len())?;
         let mut back = Vec::with_capacity(alloc, hands.len())?;
         let started = start_all(scope, rt, log, gate, device, hands, pass, setup, &mut handles);
@@ -57,7 +57,7 @@ fn start_all<'s, G: Gate, R: Wait + Sync>(
     log: &'s Log,
     gate: &'s G,
     device: &'s Device,
-    hands: Vec<Hand<u64>>,
+    hands: Vec<QueueHand<u64>>,
     mut pass: Pass<u32>,
     setup: Setup,
     handles: &mut Vec<Handle<'s>>,
@@ -80,7 +80,7 @@ fn do_part<G: Gate, W: Wait>(
     log: &Log,
     gate: &G,
     device: &Device,
-    hand: Hand<u64>,
+    hand: QueueHand<u64>,
     pass: Pass<u32>,
     number: Option<usize>,
     setup: Setup,
@@ -105,7 +105,7 @@ fn join_down_to<'s, R: Threads>(
     rt: &R,
     left: usize,
     handles: &mut Vec<Handle<'s>>,
-    back: &mut Vec<Hand<u64>>,
+    back: &mut Vec<QueueHand<u64>>,
     faults: &mut Faults,
 ) {
     while handles.len() > left {

@@ -11,7 +11,7 @@ use crate::proved::loop_device::fault::PlayFault;
 use crate::proved::loop_device::gate::Gate;
 use crate::proved::loop_device::io::Log;
 use crate::proved::loop_device::request::{complete, finish};
-use crate::proved::tag_sets::{Hand, TagFault, Tags};
+use crate::proved::tag_queue::{Queue, QueueHand, WaitFault};
 use core::sync::atomic::Ordering::SeqCst;
 
 /// Faults that threads ran into and that the store's history does not show.
@@ -50,7 +50,7 @@ impl Faults {
 
 /// What a thread returns.
 pub(crate) struct Worked {
-    pub(crate) hand: Hand<u64>,
+    pub(crate) hand: QueueHand<u64>,
     pub(crate) faults: Faults,
 }
 
@@ -60,7 +60,7 @@ pub(crate) fn complete_all<G: Gate, W: Wait>(
     log: &Log,
     gate: &G,
     device: &Device,
-    mut hand: Hand<u64>,
+    mut hand: QueueHand<u64>,
     mut pass: Pass<u32>,
 ) -> (Worked, Drained, Pass<u32>) {
     let mut faults = Faults::none();
@@ -87,7 +87,7 @@ pub(crate) fn submit_all<G: Gate, W: Wait>(
     log: &Log,
     gate: &G,
     device: &Device,
-    mut hand: Hand<u64>,
+    mut hand: QueueHand<u64>,
     mut pass: Pass<u32>,
     number: usize,
     submitters: usize,
@@ -113,7 +113,7 @@ fn submit<G: Gate, W: Wait>(
     log: &Log,
     gate: &G,
     device: &Device,
-    hand: &mut Hand<u64>,
+    hand: &mut QueueHand<u64>,
     pass: &mut Pass<u32>,
     line: u64,
 ) -> Result<u64, PlayFault> {
@@ -133,7 +133,7 @@ fn submit<G: Gate, W: Wait>(
 }
 
 /// Gets a tag, writes the line into its slot, and posts it.
-fn post_line<W: Wait>(rt: &W, tags: &Tags<u64>, hand: &mut Hand<u64>, line: u64) -> Result<u32, TagFault> {
+fn post_line<W: Wait>(rt: &W, tags: &Queue<u64>, hand: &mut QueueHand<u64>, line: u64) -> Result<u32, WaitFault> {
     let tag = tags.get_blocking(rt, hand)?;
     let _former = tags.write_held(hand, tag, line);
     let Ok(()) = tags.post(hand, tag) else { unreachable!() };

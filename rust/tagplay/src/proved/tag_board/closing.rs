@@ -4,18 +4,18 @@
 
 use crate::proved::tag_board::board::Board;
 use crate::proved::tag_model::Totals;
-use crate::proved::tag_sets::Tags;
+use crate::proved::tag_queue::Queue;
 
 impl Board {
     /// Gathers all callers. Returns the totals over both sets: tags got, given back, held and posted. They balance.
     pub fn close(self) -> Totals {
         let Board {
-            tags,
+            queue,
             hands,
             total: _,
             reserved: _,
         } = self;
-        let Ok(totals) = Tags::gather(tags, hands) else {
+        let Ok(totals) = Queue::gather(queue, hands) else {
             unreachable!()
         };
         totals.tags

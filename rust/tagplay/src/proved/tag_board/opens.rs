@@ -4,24 +4,19 @@
 
 use crate::base::vec::Global;
 use crate::proved::tag_board::board::Board;
-use crate::proved::tag_sets::{Options, SetFault, Tags, Waits};
+use crate::proved::tag_queue::{Options, Queue, QueueOpenFault};
 
 impl Board {
-    /// Opens a board whose tags are all free, and whose callers wait in groups, whatever the options say of that. The
-    /// lowest `reserved` of the `total` tags are the reserved ones. Refused
-    /// as `Tags::open` refuses: `TotalTooLarge`, `ReservedTooLarge`, `ShiftTooLarge`, `CallerCount`, `LifeTooLong`,
-    /// `CapTooLarge`, and last `Memory`.
-    pub fn open(alloc: Global, total: u32, reserved: u32, options: Options) -> Result<Board, SetFault> {
-        let in_groups = Options {
-            waits: Waits::InGroups,
-            ..options
-        };
-        let (tags, hands) = Tags::open(alloc, total, reserved, in_groups, 0u64)?;
+    /// Opens a board whose tags are all free, and each of whose callers may count up to `cap` completions, at most
+    /// 2^56. Refused as `Queue::open` refuses: `TotalTooLarge`, `ReservedTooLarge`, `ShiftTooLarge`, `CallerCount`,
+    /// `LifeTooLong`, `CapTooLarge`, and last `Memory`.
+    pub fn open(alloc: Global, options: Options, cap: u64) -> Result<Board, QueueOpenFault> {
+        let (queue, hands) = Queue::open(alloc, options, cap, 0u64)?;
         Ok(Board {
-            tags,
+            queue,
             hands,
-            total,
-            reserved,
+            total: options.depth,
+            reserved: options.reserved,
         })
     }
 }

@@ -4,33 +4,33 @@
 
 use crate::base::vec::{AllocError, Global};
 use crate::proved::tag_board::board::Board;
-use crate::proved::tag_sets::{ResizeCause, Tags, TagsResizeFault};
+use crate::proved::tag_queue::{Queue, QueueResizeFault, ResizeCause};
 
 impl Board {
     /// Continues with `total` tags, as many of them reserved as before, and with all callers. Returns the board with
     /// the answer; a refusal leaves it unchanged. If memory runs out, the board is lost.
     pub fn resize(self, alloc: Global, total: u32) -> Result<(Result<(), ResizeCause>, Board), AllocError> {
         let Board {
-            tags,
+            queue,
             hands,
             total: before,
             reserved,
         } = self;
-        match Tags::resize(alloc, tags, hands, total) {
-            Ok((tags, hands)) => Ok((
+        match Queue::resize(alloc, queue, hands, total) {
+            Ok((queue, hands)) => Ok((
                 Ok(()),
                 Board {
-                    tags,
+                    queue,
                     hands,
                     total,
                     reserved,
                 },
             )),
-            Err(TagsResizeFault { cause, tags, hands }) => match cause {
+            Err(QueueResizeFault { cause, queue, hands }) => match cause {
                 ResizeCause::Memory => Err(AllocError),
                 _ => {
                     let board = Board {
-                        tags,
+                        queue,
                         hands,
                         total: before,
                         reserved,

@@ -1,7 +1,8 @@
 // Made of crates/tag_queue/src/fault.rt, where the contracts are, by rust/generate.
 
-//! Why a call is refused.
+//! Why a queue can't be opened, and why a call of its own is refused.
 
+use crate::proved::tag_pool::OpenFault;
 use core::fmt;
 
 /// Why a queue can't be opened. The causes are checked in this order, except that memory comes last.
@@ -11,6 +12,8 @@ pub enum QueueOpenFault {
     Memory,
     /// There would be more than 10,240 tags.
     TotalTooLarge,
+    /// There would be more reserved tags than tags.
+    ReservedTooLarge,
     /// The shift is above 6.
     ShiftTooLarge,
     /// The number of callers is not 1 to 64.
@@ -26,6 +29,7 @@ impl fmt::Display for QueueOpenFault {
         match self {
             Self::Memory => f.write_str("out of memory"),
             Self::TotalTooLarge => f.write_str("more than 10240 tags"),
+            Self::ReservedTooLarge => f.write_str("more reserved tags than tags"),
             Self::ShiftTooLarge => f.write_str("a shift above 6"),
             Self::CallerCount => f.write_str("the number of callers is not from 1 to 64"),
             Self::LifeTooLong => f.write_str("a life above 2^48 tags"),
@@ -36,43 +40,41 @@ impl fmt::Display for QueueOpenFault {
 
 impl core::error::Error for QueueOpenFault {}
 
-/// Why a call on a tag or a wait was refused.
-#[derive(Clone, Copy, Debug, PartialEq, Eq)]
-pub enum QueueFault {
-    /// The queue was opened for the other kind of wait.
-    OtherWait,
-    /// No tag has this number.
-    NoSuchTag,
-    /// The caller does not hold the tag, or named it twice in one batch.
-    NotHeld,
-    /// The tag was not posted at the moment of the exchange.
-    NotPosted,
-    /// The number of tags is out of range: 1 to the bits of a word for a batch get, 1 to 64 for a batch clear.
-    BadCount,
-    /// The shallow depth is 0 or below the minimum shallow depth.
-    TooShallow,
-    /// The tags requested could exceed the caller's life, the number of tags that it may win in all.
-    Spent,
-    /// The caller is already in a wait group.
-    Waiting,
-    /// The caller is not in a wait group.
-    NotWaiting,
-}
-
-impl fmt::Display for QueueFault {
-    fn fmt(&self, f: &mut fmt::Formatter<'_>) -> fmt::Result {
-        match self {
-            Self::OtherWait => f.write_str("the queue was opened for the other kind of wait"),
-            Self::NoSuchTag => f.write_str("no tag has this number"),
-            Self::NotHeld => f.write_str("the caller does not hold the tag, or named it twice"),
-            Self::NotPosted => f.write_str("the tag is not posted"),
-            Self::BadCount => f.write_str("the number of tags is out of range"),
-            Self::TooShallow => f.write_str("the depth is 0, or below the minimum shallow depth"),
-            Self::Spent => f.write_str("the caller could win more tags than its life allows"),
-            Self::Waiting => f.write_str("the caller waits already"),
-            Self::NotWaiting => f.write_str("the caller does not wait"),
+impl From<OpenFault> for QueueOpenFault {
+    fn from(fault: OpenFault) -> QueueOpenFault {
+        match fault {
+            OpenFault::Memory => QueueOpenFault::Memory,
+            OpenFault::TotalTooLarge => QueueOpenFault::TotalTooLarge,
+            OpenFault::ReservedTooLarge => QueueOpenFault::ReservedTooLarge,
+            OpenFault::ShiftTooLarge => QueueOpenFault::ShiftTooLarge,
+            OpenFault::CallerCount => QueueOpenFault::CallerCount,
+            OpenFault::LifeTooLong => QueueOpenFault::LifeTooLong,
         }
     }
 }
 
-impl core::error::Error for QueueFault {}
+/// Why a call that waits in a group is refused.
+#[derive(Clone, Copy, Debug, PartialEq, Eq)]
+pub enum WaitFault {
+    /// There is no ordinary tag to wait for.
+    NoSuchTag,
+    /// The caller is already in a wait group.
+    Waiting,
+    /// The caller is not in a wait group.
+    NotWaiting,
+    /// The caller could win more tags than its life allows.
+    Spent,
+}
+
+impl fmt::Display for WaitFault {
+    fn fmt(&self, f: &mut fmt::Formatter<'_>) -> fmt::Result {
+        match self {
+            Self::NoSuchTag => f.write_str("no ordinary tag exists"),
+            Self::Waiting => f.write_str("the caller waits already"),
+            Self::NotWaiting => f.write_str("the caller does not wait"),
+            Self::Spent => f.write_str("the caller could win more tags than its life allows"),
+        }
+    }
+}
+
+impl core::error::Error for WaitFault {}

@@ -1,29 +1,37 @@
 // Made of crates/tag_queue/src/looks.rt, where the contracts are, by rust/generate.
 
-//! Loads of single words.
-
-use crate::proved::tag_queue::agent::Agent;
+use crate::proved::tag_pool::{Kind, Shown};
+use crate::proved::tag_queue::hand::QueueHand;
 use crate::proved::tag_queue::queue::Queue;
 
 impl<R: Copy> Queue<R> {
-    /// Loads the bits of a word: 1 is taken. Each tag of the word that the agent holds is found taken.
-    pub fn look(&self, agent: &mut Agent<R>, word: u32) -> u64 {
-        self.map.look(&mut agent.caller, word)
+    /// Lists the busy tags as `Pool::busy` does, and returns how many there are.
+    pub fn busy(&self, hand: &mut QueueHand<R>, into: &mut [u64]) -> u32 {
+        self.pool.busy(&mut hand.inner, into)
     }
 
-    /// Loads the cleared set of a word: 1 is set aside, that is, cleared but not free yet. No tag that the agent holds
-    /// is found set aside.
-    pub fn look_aside(&self, agent: &mut Agent<R>, word: u32) -> u64 {
-        self.map.look_aside(&mut agent.caller, word)
+    /// Returns the sizes of a set and the counts of its busy tags, as `Pool::show` does.
+    pub fn show(&self, hand: &mut QueueHand<R>, kind: Kind) -> Shown {
+        self.pool.show(&mut hand.inner, kind)
     }
 
-    /// Loads the bits of a word without an agent.
-    pub fn peek(&self, word: u32) -> u64 {
-        self.map.peek(word)
+    /// Writes the busy tags of a set as bytes, and returns how many, as `Pool::dump` does.
+    pub fn dump(&self, hand: &mut QueueHand<R>, kind: Kind, into: &mut [u8]) -> u32 {
+        self.pool.dump(&mut hand.inner, kind, into)
     }
 
-    /// Loads the cleared set of a word without an agent.
-    pub fn peek_aside(&self, word: u32) -> u64 {
-        self.map.peek_aside(word)
+    /// Moves the hand's hint in each set to the first tag of its own part, as `Pool::place` does.
+    pub fn place(&self, hand: &mut QueueHand<R>) {
+        self.pool.place(&mut hand.inner);
+    }
+
+    /// It changes nothing.
+    pub fn meet(&self, first: &mut QueueHand<R>, second: &mut QueueHand<R>) {
+        self.pool.meet(&mut first.inner, &mut second.inner);
+    }
+
+    /// Establishes that the second hand does not hold a tag that the first one holds. This makes no step.
+    pub fn apart(&self, first: &mut QueueHand<R>, second: &mut QueueHand<R>, tag: u32) {
+        self.pool.apart(&mut first.inner, &mut second.inner, tag);
     }
 }

@@ -1,107 +1,123 @@
 // Made of crates/tag_queue/src/resizes.rt, where the contracts are, by rust/generate.
 
-//! Resizes a queue to another depth.
+//! Resizes the ordinary set of a queue to another number of tags.
 
 use crate::base::vec::{Global, Vec};
-use crate::proved::step_ledger::{all_there, GatherCause};
-use crate::proved::tag_layout::{Layout, LayoutFault};
-use crate::proved::tag_queue::agent::Agent;
+use crate::proved::step_ledger::least_missing;
+use crate::proved::tag_pool::{Hand, Kind, Pool, PoolResizeFault, ResizeCause};
+use crate::proved::tag_queue::hand::QueueHand;
 use crate::proved::tag_queue::queue::Queue;
+use crate::proved::tag_queue::room::Room;
 use crate::proved::wake_book::Groups;
-use core::fmt;
 
-mod next_map;
-mod reopens;
-mod shells;
-
-/// Why a queue can't be resized. The causes are checked in this order.
-#[derive(Clone, Copy, Debug, PartialEq, Eq)]
-pub enum ResizeCause {
-    /// An agent was not passed in: the least such number.
-    Missing(u32),
-    /// There would be more than 10,240 tags.
-    DepthTooLarge,
-    /// Tags are in use: how many are held, and how many posted.
-    InUse(u64, u64),
-    /// Agents are in a wait group: how many.
-    Waiting(u32),
-    /// Out of memory.
-    Memory,
-}
-
-impl fmt::Display for ResizeCause {
-    fn fmt(&self, f: &mut fmt::Formatter<'_>) -> fmt::Result {
-        match self {
-            Self::Missing(first) => write!(f, "caller {first} is missing"),
-            Self::DepthTooLarge => f.write_str("the number of tags is out of range"),
-            Self::InUse(first, second) => write!(f, "{first} tags are held and {second} are posted"),
-            Self::Waiting(first) => write!(f, "{first} callers wait"),
-            Self::Memory => f.write_str("out of memory"),
-        }
-    }
-}
-
-impl core::error::Error for ResizeCause {}
-
-/// The reason why `resize` failed, with the queue and the agents that were passed in.
-pub struct ResizeFault<R> {
+/// The reason why `resize` failed, with the queue and the hands that were passed in.
+pub struct QueueResizeFault<R> {
+    /// `Waiting` counts the hands that are in a wait group.
     pub cause: ResizeCause,
     pub queue: Queue<R>,
     /// In the order in which they were passed in.
-    pub agents: Vec<Agent<R>>,
+    pub hands: Vec<QueueHand<R>>,
 }
 
 impl<R: Copy> Queue<R> {
-    /// Replaces the map by one of `depth` free tags and moves all agents to it. All agents must be passed in, in any
-    /// order; no tag may be held or posted, and no agent may be in a wait group. A refusal hands everything back. Slots
-    /// start again with the queue's initial value.
+    /// Resizes the ordinary set so that there are `depth` tags in both sets, and moves all hands to it, as
+    /// `Pool::resize` does; the batch is that of the new ordinary set. All hands must be passed in, in any order; no tag
+    /// of either set may be held or posted, and no hand may be in a wait group. A refusal hands everything back.
     pub fn resize(
         alloc: Global,
         queue: Queue<R>,
-        mut agents: Vec<Agent<R>>,
+        hands: Vec<QueueHand<R>>,
         depth: u32,
-    ) -> Result<(Queue<R>, Vec<Agent<R>>), ResizeFault<R>> {
-        match queue.next_layout(&mut agents, depth) {
-            Ok(layout) => queue.reopen(alloc, layout, agents),
-            Err(cause) => Err(ResizeFault { cause, queue, agents }),
+    ) -> Result<(Queue<R>, Vec<QueueHand<R>>), QueueResizeFault<R>> {
+        let hands = queue.assert_hand_count(hands);
+        if let Some(number) = least_missing(hands.as_slice(), queue.hand_count()) {
+            return Err(QueueResizeFault {
+                cause: ResizeCause::Missing(number),
+                queue,
+                hands,
+            });
+        }
+        queue.go_on(alloc, hands, depth)
+    }
+
+    /// Resizes the queue while all its hands are present.
+    fn go_on(
+        self,
+        alloc: Global,
+        mut hands: Vec<QueueHand<R>>,
+        depth: u32,
+    ) -> Result<(Queue<R>, Vec<QueueHand<R>>), QueueResizeFault<R>> {
+        let standing = count_standing(hands.as_slice()) as u32;
+        let Queue {
+            pool,
+            mut book,
+            groups,
+            batch,
+            min_shallow,
+            room,
+        } = self;
+        let count = room.count;
+        let (inners, shells) = room.part(&mut hands);
+        match resize_pool(alloc, pool, inners, depth, standing) {
+            Ok((pool, inners)) => {
+                let batch = pool.layout(Kind::Ordinary).wake_batch(min_shallow);
+                book.rebatch(batch);
+                let queue = Queue {
+                    pool,
+                    book,
+                    groups,
+                    batch,
+                    min_shallow,
+                    room: Room::unite(inners, shells, &mut hands, count),
+                };
+                Ok((queue, hands))
+            }
+            Err(fault) => {
+                let PoolResizeFault {
+                    cause,
+                    pool,
+                    hands: inners,
+                } = fault;
+                let queue = Queue {
+                    pool,
+                    book,
+                    groups,
+                    batch,
+                    min_shallow,
+                    room: Room::unite(inners, shells, &mut hands, count),
+                };
+                Err(QueueResizeFault { cause, queue, hands })
+            }
         }
     }
 }
 
-fn count_standing<R>(agents: &[Agent<R>]) -> usize {
-    agents
+/// Resizes the pool, unless hands stand in wait groups: that many of them refuse it, after tags in use.
+fn resize_pool<R: Copy>(
+    alloc: Global,
+    pool: Pool<R>,
+    mut hands: Vec<Hand<R>>,
+    depth: u32,
+    standing: u32,
+) -> Result<(Pool<R>, Vec<Hand<R>>), PoolResizeFault<R>> {
+    if standing == 0 {
+        return Pool::resize(alloc, pool, hands, depth);
+    }
+    let cause = match pool.check_resize(&mut hands, depth) {
+        Err(ResizeCause::Missing(number)) => ResizeCause::Missing(number),
+        Err(ResizeCause::DepthTooLarge) => ResizeCause::DepthTooLarge,
+        Err(ResizeCause::InUse(held, posted)) => ResizeCause::InUse(held, posted),
+        Err(ResizeCause::Waiting(_)) => ResizeCause::Waiting(standing),
+        Err(ResizeCause::Memory) => ResizeCause::Waiting(standing),
+        Ok(()) => ResizeCause::Waiting(standing),
+    };
+    Err(PoolResizeFault { cause, pool, hands })
+}
+
+/// Returns how many of these hands are in a wait group.
+fn count_standing<R>(hands: &[QueueHand<R>]) -> usize {
+    hands
         .iter()
-        .filter(|agent| Groups::standing(&agent.waiter).is_some())
+        .filter(|hand| Groups::standing(&hand.waiter).is_some())
         .count()
-}
-
-impl<R> Queue<R> {
-    /// Returns the layout for this depth, if nothing but memory can prevent the resize.
-    fn next_layout(&self, agents: &mut Vec<Agent<R>>, depth: u32) -> Result<Layout, ResizeCause> {
-        if let Err(GatherCause::Missing(number)) = all_there(agents, self.map.callers()) {
-            return Err(ResizeCause::Missing(number));
-        }
-        let layout = match Layout::new(depth, Some(self.map.layout().shift())) {
-            Ok(layout) => layout,
-            Err(LayoutFault::ShiftTooLarge) => unreachable!(),
-            Err(LayoutFault::DepthTooLarge) => return Err(ResizeCause::DepthTooLarge),
-        };
-        match self.busy(agents) {
-            Some(cause) => Err(cause),
-            None => Ok(layout),
-        }
-    }
-
-    /// Returns what prevents the resize while all agents are present: tags in use, or agents that wait.
-    fn busy(&self, agents: &mut Vec<Agent<R>>) -> Option<ResizeCause> {
-        let totals = self.settle(agents);
-        if totals.held != 0 || totals.posted != 0 {
-            return Some(ResizeCause::InUse(totals.held, totals.posted));
-        }
-        let waiting = count_standing(agents.as_slice());
-        if waiting != 0 {
-            return Some(ResizeCause::Waiting(waiting as u32));
-        }
-        None
-    }
 }

@@ -1,60 +1,45 @@
 // Made of crates/tag_queue/src/slots.rt, where the contracts are, by rust/generate.
 
-//! The slots of held tags, and how tags pass from agent to agent.
+//! The slots of held tags, and how tags pass from hand to hand: calls of the pool, by which nothing is counted.
 
-use crate::proved::tag_queue::agent::Agent;
-use crate::proved::tag_queue::fault::QueueFault;
+use crate::proved::tag_pool::TagFault;
+use crate::proved::tag_queue::hand::QueueHand;
 use crate::proved::tag_queue::queue::Queue;
 
 impl<R: Copy> Queue<R> {
-    /// Returns the value in the slot of a held tag. `NoSuchTag` means that the number is not below the depth, `NotHeld`
-    /// that the agent does not hold the tag; nothing changes then.
+    /// Returns the value in the slot of a held tag, and is refused, as `Pool::read`.
     #[inline]
-    pub fn read(&self, agent: &mut Agent<R>, tag: u32) -> Result<R, QueueFault> {
-        self.find_held(agent, tag)?;
-        Ok(self.map.read(&mut agent.caller, tag))
+    pub fn read(&self, hand: &mut QueueHand<R>, tag: u32) -> Result<R, TagFault> {
+        self.pool.read(&mut hand.inner, tag)
     }
 
-    /// Writes the slot of a held tag, and returns its former value. `NoSuchTag` means that the number is not below the
-    /// depth, `NotHeld` that the agent does not hold the tag; nothing changes then.
+    /// Returns the value in the slot of a tag that the hand holds, without the checks.
     #[inline]
-    pub fn write(&self, agent: &mut Agent<R>, tag: u32, value: R) -> Result<R, QueueFault> {
-        self.find_held(agent, tag)?;
-        Ok(self.map.slot(&mut agent.caller, tag, value))
+    pub fn read_held(&self, hand: &mut QueueHand<R>, tag: u32) -> R {
+        self.pool.read_held(&mut hand.inner, tag)
     }
 
-    /// Gives up a held tag with its slot, so that another agent can `take` it. Whichever agent takes it first gets it.
-    /// `NoSuchTag` means that the number is not below the depth, `NotHeld` that the agent does not hold the tag;
-    /// nothing changes then.
+    /// Writes the slot of a held tag, and returns its former value, and is refused, as `Pool::write`.
     #[inline]
-    pub fn post(&self, agent: &mut Agent<R>, tag: u32) -> Result<(), QueueFault> {
-        self.find_held(agent, tag)?;
-        self.map.post(&mut agent.caller, tag);
-        Ok(())
+    pub fn write(&self, hand: &mut QueueHand<R>, tag: u32, value: R) -> Result<R, TagFault> {
+        self.pool.write(&mut hand.inner, tag, value)
     }
 
-    /// Takes a posted tag with its slot. `NotPosted` leaves the agent unchanged except for one step in its list.
-    /// `NoSuchTag` means that the number is not below the depth.
+    /// Writes the slot of a tag that the hand holds, without the checks, and returns its former value.
     #[inline]
-    pub fn take(&self, agent: &mut Agent<R>, tag: u32) -> Result<(), QueueFault> {
-        if tag >= self.map.layout().depth() {
-            return Err(QueueFault::NoSuchTag);
-        }
-        if !self.map.take(&mut agent.caller, tag) {
-            return Err(QueueFault::NotPosted);
-        }
-        Ok(())
+    pub fn write_held(&self, hand: &mut QueueHand<R>, tag: u32, value: R) -> R {
+        self.pool.write_held(&mut hand.inner, tag, value)
     }
 
-    /// Returns the value in the slot of a tag that the agent holds.
+    /// Gives up a held tag with its slot, so that another hand can take it, and is refused, as `Pool::post`.
     #[inline]
-    pub fn read_held(&self, agent: &mut Agent<R>, tag: u32) -> R {
-        self.map.read(&mut agent.caller, tag)
+    pub fn post(&self, hand: &mut QueueHand<R>, tag: u32) -> Result<(), TagFault> {
+        self.pool.post(&mut hand.inner, tag)
     }
 
-    /// Writes the slot of a tag that the agent holds, and returns its former value.
+    /// Takes a posted tag with its slot, and is refused, as `Pool::take`.
     #[inline]
-    pub fn write_held(&self, agent: &mut Agent<R>, tag: u32, value: R) -> R {
-        self.map.slot(&mut agent.caller, tag, value)
+    pub fn take(&self, hand: &mut QueueHand<R>, tag: u32) -> Result<(), TagFault> {
+        self.pool.take(&mut hand.inner, tag)
     }
 }

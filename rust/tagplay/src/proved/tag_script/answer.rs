@@ -3,8 +3,7 @@
 //! The answers of commands.
 
 use crate::base::vec::{AllocError, Global, Vec};
-use crate::proved::tag_queue::ResizeCause;
-use crate::proved::tag_sets::{Left, Shown, TagFault, Wakes};
+use crate::proved::tag_queue::{Left, ResizeCause, Shown, TagFault, WaitFault, Wakes};
 
 /// The answer of a command.
 #[derive(Debug)]
@@ -29,6 +28,8 @@ pub enum Answer {
     Dump(DumpBytes),
     /// The command was refused.
     Refused(TagFault),
+    /// A wait was refused, or the end of one.
+    NotWaited(WaitFault),
     /// A resize was refused.
     NotResized(ResizeCause),
 }

@@ -7,9 +7,9 @@ use crate::base::vec::{AllocError, Global};
 use crate::proved::tag_board::Board;
 use crate::proved::tag_lines::{Command, Order};
 use crate::proved::tag_model::Totals;
+use crate::proved::tag_queue::Kind;
 use crate::proved::tag_script::answer::{Answer, BusyTags, DumpBytes};
 use crate::proved::tag_script::world::World;
-use crate::proved::tag_sets::Kind;
 
 /// Callers that share tags.
 pub(crate) struct Callers<'a, W> {

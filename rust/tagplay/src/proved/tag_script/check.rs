@@ -6,12 +6,12 @@ use crate::base::vec::{AllocError, Global, Vec};
 use crate::proved::tag_layout::{Layout, LayoutFault};
 use crate::proved::tag_lines::{events, FaultyLine, ListFault, Place, Refusal};
 use crate::proved::tag_model::{Event, EventFault, ModelFault, Totals, World};
+use crate::proved::tag_queue::QueueOpenFault;
 use crate::proved::tag_script::ending::Ending;
 use crate::proved::tag_script::fault::OpenFault;
 use crate::proved::tag_script::options::CheckOptions;
 use crate::proved::tag_script::refused::{event_words, setup_refusal, wrong_word};
 use crate::proved::tag_script::text::{end_line, push_faulty, push_field, push_setup, push_totals};
-use crate::proved::tag_sets::SetFault;
 
 /// What is said of a word by which no event goes.
 const UNKNOWN_EVENT: &str = "no such event with this many words";
@@ -22,7 +22,7 @@ pub enum Verdict {
     /// The first malformed line.
     Faulty(FaultyLine),
     /// The options describe no world. Every line is an event.
-    Setup(SetFault),
+    Setup(QueueOpenFault),
     /// The line of the first event that cannot happen, and the word of it that is wrong, both counted from 1, and the
     /// reason.
     Stopped(u64, u64, EventFault),
@@ -49,13 +49,13 @@ pub fn verdict_on(alloc: Global, options: &CheckOptions, text: &[u8]) -> Result<
 fn open(alloc: Global, options: &CheckOptions) -> Result<(Layout, World), OpenFault> {
     let layout = match Layout::new(options.tags, options.shift) {
         Ok(layout) => layout,
-        Err(LayoutFault::DepthTooLarge) => return Err(OpenFault::Setup(SetFault::TotalTooLarge)),
-        Err(LayoutFault::ShiftTooLarge) => return Err(OpenFault::Setup(SetFault::ShiftTooLarge)),
+        Err(LayoutFault::DepthTooLarge) => return Err(OpenFault::Setup(QueueOpenFault::TotalTooLarge)),
+        Err(LayoutFault::ShiftTooLarge) => return Err(OpenFault::Setup(QueueOpenFault::ShiftTooLarge)),
     };
     match World::open(alloc, layout, options.callers) {
         Ok(world) => Ok((layout, world)),
         Err(ModelFault::Memory) => Err(OpenFault::Memory),
-        Err(ModelFault::CallerCount) => Err(OpenFault::Setup(SetFault::CallerCount)),
+        Err(ModelFault::CallerCount) => Err(OpenFault::Setup(QueueOpenFault::CallerCount)),
     }
 }
 

@@ -2,7 +2,7 @@
 
 //! Lists of tags that are given back at once.
 
-use crate::proved::tag_queue::are_distinct;
+use crate::proved::tag_pool::are_distinct;
 use crate::proved::tag_search::{PlainPort, Port};
 
 /// Returns whether each tag of the list is held, and the tags are distinct.

@@ -2,7 +2,7 @@
 
 //! Why a world was not opened.
 
-use crate::proved::tag_sets::SetFault;
+use crate::proved::tag_queue::QueueOpenFault;
 
 /// Why a world was not opened.
 #[derive(Clone, Copy, Debug, PartialEq, Eq)]
@@ -10,5 +10,5 @@ pub(crate) enum OpenFault {
     /// Out of memory.
     Memory,
     /// The options are not legal.
-    Setup(SetFault),
+    Setup(QueueOpenFault),
 }

@@ -3,10 +3,10 @@
 //! The lines of answers.
 
 use crate::base::vec::{AllocError, Vec};
-use crate::proved::tag_queue::ResizeCause;
+use crate::proved::tag_pool::{write_dump, write_show};
+use crate::proved::tag_queue::{Left, ResizeCause, Shown, TagFault, WaitFault, Wakes};
 use crate::proved::tag_script::answer::Answer;
 use crate::proved::tag_script::text::{end_line, push_field};
-use crate::proved::tag_sets::{write_dump, write_show, Left, Shown, TagFault, Wakes};
 
 impl Answer {
     /// Appends the line of this answer. A show has five lines, and a dump one for every sixteen bytes, rounded up.
@@ -22,6 +22,7 @@ impl Answer {
             Answer::Shown(shown) => push_shown(text, shown),
             Answer::Dump(bytes) => push_dump(text, bytes.as_slice()),
             Answer::Refused(fault) => push_line(text, b"refused ", number_of(*fault)),
+            Answer::NotWaited(fault) => push_line(text, b"refused ", number_of_wait(*fault)),
             Answer::NotResized(cause) => push_not_resized(text, *cause),
         }
     }
@@ -140,8 +141,15 @@ fn number_of(fault: TagFault) -> u64 {
         TagFault::BadCount => 5,
         TagFault::TooShallow => 6,
         TagFault::Spent => 7,
-        TagFault::Waiting => 8,
-        TagFault::NotWaiting => 9,
-        TagFault::OtherWait => 10,
+    }
+}
+
+/// The number of a refused wait in the output, or of the refused end of one.
+fn number_of_wait(fault: WaitFault) -> u64 {
+    match fault {
+        WaitFault::NoSuchTag => 1,
+        WaitFault::Spent => 7,
+        WaitFault::Waiting => 8,
+        WaitFault::NotWaiting => 9,
     }
 }

@@ -3,10 +3,7 @@
 //! Options of a run.
 
 use crate::proved::tag_lines::Dialect;
-use crate::proved::tag_sets::{Options, Waits};
-
-/// Most completions that a caller may count: 2^56.
-const CAP: u64 = 72_057_594_037_927_936;
+use crate::proved::tag_queue::Options;
 
 /// The world of a script.
 #[derive(Clone, Copy, Debug, PartialEq, Eq)]
@@ -42,13 +39,14 @@ impl ScriptOptions {
     /// Returns the options with which shared tags are opened.
     pub(crate) fn tag_options(&self) -> Options {
         Options {
+            depth: self.tags,
+            reserved: self.reserved,
+            hands: self.callers,
             shift: self.shift,
+            by_hands: false,
             round_robin: self.round_robin,
             min_shallow: self.min_shallow,
-            callers: self.callers,
             life: self.life,
-            cap: CAP,
-            waits: Waits::InGroups,
         }
     }
 }

@@ -2,9 +2,8 @@
 
 //! The outcomes of calls, as answers.
 
-use crate::proved::tag_queue::ResizeCause;
+use crate::proved::tag_queue::{Left, ResizeCause, TagFault, WaitFault};
 use crate::proved::tag_script::answer::Answer;
-use crate::proved::tag_sets::{Left, TagFault};
 
 impl Answer {
     /// The answer of a get.
@@ -28,13 +27,13 @@ impl Answer {
     }
 
     /// The answer of a wait.
-    pub(crate) fn to_wait(outcome: Result<u32, TagFault>) -> Answer {
-        outcome.map_or_else(Answer::Refused, Answer::Group)
+    pub(crate) fn to_wait(outcome: Result<u32, WaitFault>) -> Answer {
+        outcome.map_or_else(Answer::NotWaited, Answer::Group)
     }
 
     /// The answer of the end of a wait.
-    pub(crate) fn to_leave(outcome: Result<Left, TagFault>) -> Answer {
-        outcome.map_or_else(Answer::Refused, Answer::Left)
+    pub(crate) fn to_leave(outcome: Result<Left, WaitFault>) -> Answer {
+        outcome.map_or_else(Answer::NotWaited, Answer::Left)
     }
 
     /// The answer of a resize.

@@ -4,10 +4,9 @@
 
 use crate::base::vec::{AllocError, Global};
 use crate::proved::tag_layout::Layout;
-use crate::proved::tag_queue::are_below;
+use crate::proved::tag_pool::{are_below, Shown, TagFault, MAX_BATCH};
 use crate::proved::tag_script::clearing::{are_held_once, give_all};
 use crate::proved::tag_search::{after_clear, Hint, PlainPort, Port};
-use crate::proved::tag_sets::{Shown, TagFault, MAX_BATCH};
 
 /// A map, its only caller, and the caller's counts.
 pub(crate) struct PlainCaller {

@@ -5,18 +5,18 @@
 use crate::proved::tag_layout::Layout;
 use crate::proved::tag_lines::{Place, Refusal};
 use crate::proved::tag_model::{Event, EventFault};
-use crate::proved::tag_sets::SetFault;
+use crate::proved::tag_queue::QueueOpenFault;
 
 /// What is wrong with the options of a script or of a list.
-pub(crate) fn setup_refusal(fault: SetFault) -> Refusal {
+pub(crate) fn setup_refusal(fault: QueueOpenFault) -> Refusal {
     let what = match fault {
-        SetFault::Memory => "out of memory",
-        SetFault::TotalTooLarge => "--tags: more than 10240",
-        SetFault::ReservedTooLarge => "--reserved: more than --tags, or any at all under --plain",
-        SetFault::ShiftTooLarge => "--shift: above 6",
-        SetFault::CallerCount => "--callers: not from 1 to 64, or not 1 under --plain",
-        SetFault::LifeTooLong => "--life: above 281474976710656",
-        SetFault::CapTooLarge => "a cap above 2^56 completions",
+        QueueOpenFault::Memory => "out of memory",
+        QueueOpenFault::TotalTooLarge => "--tags: more than 10240",
+        QueueOpenFault::ReservedTooLarge => "--reserved: more than --tags, or any at all under --plain",
+        QueueOpenFault::ShiftTooLarge => "--shift: above 6",
+        QueueOpenFault::CallerCount => "--callers: not from 1 to 64, or not 1 under --plain",
+        QueueOpenFault::LifeTooLong => "--life: above 281474976710656",
+        QueueOpenFault::CapTooLarge => "a cap above 2^56 completions",
     };
     Refusal {
         place: Place::Whole,

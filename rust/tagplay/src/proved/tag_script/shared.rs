@@ -6,11 +6,11 @@ use crate::base::sleep::Wait;
 use crate::base::vec::{Global, Vec};
 use crate::proved::tag_board::Board;
 use crate::proved::tag_lines::Order;
+use crate::proved::tag_queue::{QueueOpenFault, MAX_CAP};
 use crate::proved::tag_script::callers::Callers;
 use crate::proved::tag_script::fault::OpenFault;
 use crate::proved::tag_script::options::ScriptOptions;
 use crate::proved::tag_script::running::run_orders;
-use crate::proved::tag_sets::SetFault;
 
 /// Runs the orders of callers that share tags, and returns the output.
 pub(crate) fn run_shared<W: Wait>(
@@ -28,9 +28,9 @@ pub(crate) fn run_shared<W: Wait>(
 
 /// Opens the board that the options describe.
 fn open(alloc: Global, options: &ScriptOptions) -> Result<Board, OpenFault> {
-    match Board::open(alloc, options.tags, options.reserved, options.tag_options()) {
+    match Board::open(alloc, options.tag_options(), MAX_CAP) {
         Ok(board) => Ok(board),
-        Err(SetFault::Memory) => Err(OpenFault::Memory),
+        Err(QueueOpenFault::Memory) => Err(OpenFault::Memory),
         Err(fault) => Err(OpenFault::Setup(fault)),
     }
 }

@@ -6,7 +6,7 @@ use crate::base::digits::Buffer;
 use crate::base::vec::{AllocError, Global, Vec};
 use crate::proved::tag_lines::{FaultyLine, LINE_FEED};
 use crate::proved::tag_model::Totals;
-use crate::proved::tag_sets::SetFault;
+use crate::proved::tag_queue::QueueOpenFault;
 
 /// Appends words and a number.
 pub(crate) fn push_field(text: &mut Vec<u8>, words: &[u8], number: u64) -> Result<(), AllocError> {
@@ -40,28 +40,28 @@ pub(crate) fn push_faulty(text: &mut Vec<u8>, fault: FaultyLine) -> Result<(), A
 }
 
 /// Returns the line that reports a refused setup.
-pub fn setup_text(alloc: Global, fault: SetFault) -> Result<Vec<u8>, AllocError> {
+pub fn setup_text(alloc: Global, fault: QueueOpenFault) -> Result<Vec<u8>, AllocError> {
     let mut text = Vec::new(alloc);
     push_setup(&mut text, fault)?;
     Ok(text)
 }
 
 /// Appends the line that reports a refused setup.
-pub(crate) fn push_setup(text: &mut Vec<u8>, fault: SetFault) -> Result<(), AllocError> {
+pub(crate) fn push_setup(text: &mut Vec<u8>, fault: QueueOpenFault) -> Result<(), AllocError> {
     push_field(text, b"setup refused ", number_of_setup(fault))?;
     end_line(text)
 }
 
 /// The number of a refused setup in the output.
-fn number_of_setup(fault: SetFault) -> u64 {
+fn number_of_setup(fault: QueueOpenFault) -> u64 {
     match fault {
-        SetFault::Memory => 1,
-        SetFault::TotalTooLarge => 2,
-        SetFault::ReservedTooLarge => 3,
-        SetFault::ShiftTooLarge => 4,
-        SetFault::CallerCount => 5,
-        SetFault::LifeTooLong => 6,
-        SetFault::CapTooLarge => 7,
+        QueueOpenFault::Memory => 1,
+        QueueOpenFault::TotalTooLarge => 2,
+        QueueOpenFault::ReservedTooLarge => 3,
+        QueueOpenFault::ShiftTooLarge => 4,
+        QueueOpenFault::CallerCount => 5,
+        QueueOpenFault::LifeTooLong => 6,
+        QueueOpenFault::CapTooLarge => 7,
     }
 }
 

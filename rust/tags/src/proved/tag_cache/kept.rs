@@ -38,11 +38,24 @@ impl<R> Cache<R> {
     #[inline(always)]
     pub(crate) fn reuse(&mut self) -> u32 {
         let place = self.kept.trailing_zeros();
-        self.kept &= !(1 << place);
-        self.known |= 1 << place;
+        let tag = self.first + place;
+        self.hand_out_at(tag, place);
+        tag
+    }
+
+    /// Hands a kept tag to the user.
+    pub(crate) fn hand_out(&mut self, tag: u32) {
+        let offset = self.offset(tag);
+        self.hand_out_at(tag, offset);
+    }
+
+    /// Hands a kept tag to the user, this far behind the first tag of the window.
+    #[inline(always)]
+    fn hand_out_at(&mut self, _tag: u32, offset: u32) {
+        self.kept &= !(1 << offset);
+        self.known |= 1 << offset;
         self.room += 1;
         self.reused += 1;
-        self.first + place
     }
 
     /// Returns whether the tag may be kept where no other is.

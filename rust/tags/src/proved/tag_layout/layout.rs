@@ -31,12 +31,17 @@ impl Layout {
     /// Lays out `depth` tags in words of `2^shift` tags, or, without a shift, of the number that `default_shift` gives.
     /// `DepthTooLarge` means more than 10,240 tags, `ShiftTooLarge` a shift above 6.
     pub fn new(depth: u32, shift: Option<u32>) -> Result<Layout, LayoutFault> {
+        Layout::by_hands(depth, 4, shift)
+    }
+
+    /// As `new`, but without a shift the words are of the number that `shift_by_hands` gives.
+    pub fn by_hands(depth: u32, hands: u32, shift: Option<u32>) -> Result<Layout, LayoutFault> {
         if depth > MAX_DEPTH {
             return Err(LayoutFault::DepthTooLarge);
         }
         let shift = match shift {
             Some(wanted) => wanted,
-            None => Layout::default_shift(depth),
+            None => Layout::shift_by_hands(depth, hands),
         };
         if shift > MAX_SHIFT {
             return Err(LayoutFault::ShiftTooLarge);
@@ -44,13 +49,21 @@ impl Layout {
         Ok(Layout { depth, shift })
     }
 
-    /// The default shift: the greatest one, up to 6, with which the map has at least four whole words, and 6 below four
-    /// tags, as `sbitmap_calculate_shift` (lib/sbitmap.c) computes it.
+    /// The default shift by the kernel's rule: the greatest one, up to 6, with which the map has at least four whole
+    /// words, and 6 below four tags, as `sbitmap_calculate_shift` (lib/sbitmap.c) computes it.
     pub fn default_shift(depth: u32) -> u32 {
+        Layout::shift_by_hands(depth, 4)
+    }
+
+    /// The default shift for so many hands: the greatest one, up to 6, with which the map has as many whole words as hands,
+    /// and at least four. It is 0 with fewer tags than hands, and 6 below four tags. So threads seldom share a word,
+    /// and it is `default_shift` while there are 64 tags for each hand.
+    pub fn shift_by_hands(depth: u32, hands: u32) -> u32 {
         if depth < 4 {
             return MAX_SHIFT;
         }
-        (depth >> 2).ilog2().min(MAX_SHIFT)
+        let tags = (depth / hands.max(4)).max(1);
+        tags.ilog2().min(MAX_SHIFT)
     }
 
     /// Number of tags.

@@ -9,6 +9,7 @@ use crate::proved::tag_pool::pool::Pool;
 use crate::proved::tag_search::Found;
 
 mod blocking;
+mod exact;
 mod quietly;
 pub(crate) mod rounds;
 

@@ -27,10 +27,12 @@ impl<R: Copy> Pool<R> {
         if options.reserved > options.depth {
             return Err(OpenFault::ReservedTooLarge);
         }
-        let Ok(rest) = Layout::new(options.depth - options.reserved, options.shift) else {
+        let counted = options.counted_hands();
+        let ordinary = options.depth - options.reserved;
+        let Ok(rest) = Layout::by_hands(ordinary, counted, options.shift) else {
             return Err(OpenFault::ShiftTooLarge);
         };
-        let Ok(first) = Layout::new(options.reserved, options.shift) else {
+        let Ok(first) = Layout::by_hands(options.reserved, counted, options.shift) else {
             return Err(OpenFault::ShiftTooLarge);
         };
         if options.hands == 0 || options.hands > MAX_CALLERS {

@@ -15,6 +15,9 @@ pub struct Options {
     pub hands: u32,
     /// Binary logarithm of the bits in a whole word, 0 to 6. With `None` each set has the default for its own depth.
     pub shift: Option<u32>,
+    /// Whether that default is the one for the number of hands, `Layout::shift_by_hands`, or else the kernel's,
+    /// `Layout::default_shift`.
+    pub by_hands: bool,
     /// Whether each get starts after the last tag won, so that tags are reused late.
     pub round_robin: bool,
     /// The minimum shallow depth, below which a shallow get is refused. With `None` only the shallow depth 0 is refused.
@@ -25,16 +28,27 @@ pub struct Options {
 
 impl Options {
     /// Returns the options for this many tags, at most 10,240, and hands, 1 to 64, and otherwise the defaults: no reserved
-    /// tags, the shift that fits the depth, no round robin, no minimum shallow depth, and the greatest life.
+    /// tags, the shift that fits the depth by the kernel's rule, no round robin, no minimum shallow depth, and the
+    /// greatest life.
     pub fn new(depth: u32, hands: u32) -> Options {
         Options {
             depth,
             reserved: 0,
             hands,
             shift: None,
+            by_hands: false,
             round_robin: false,
             min_shallow: None,
             life: MOST_WON,
+        }
+    }
+
+    /// Returns the number of hands that the words are for: all of them, or four by the kernel's rule.
+    pub(crate) fn counted_hands(&self) -> u32 {
+        if self.by_hands {
+            self.hands
+        } else {
+            4
         }
     }
 
@@ -49,6 +63,12 @@ impl Options {
             shift: Some(shift),
             ..self
         }
+    }
+
+    /// Returns these options with words for their number of hands, where they name no shift: each set has as many whole
+    /// words as hands, if it has the tags, and at least four.
+    pub fn with_words_by_hands(self) -> Options {
+        Options { by_hands: true, ..self }
     }
 
     /// Returns these options with round robin gets.

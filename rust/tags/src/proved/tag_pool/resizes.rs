@@ -9,6 +9,7 @@ use crate::proved::tag_pool::hand::Hand;
 use crate::proved::tag_pool::pool::Pool;
 use core::fmt;
 
+mod checks;
 mod next_map;
 mod reopens;
 mod shells;

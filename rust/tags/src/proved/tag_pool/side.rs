@@ -90,6 +90,12 @@ impl<R: Copy> Side<R> {
         on_map::get_shallow(map, &mut self.caller, &mut self.hint, depth)
     }
 
+    /// Takes the tag with this number, if it is free, and no other.
+    #[inline(always)]
+    pub(crate) fn get_exactly(&mut self, map: &Map<R>, tag: u32) -> Result<Found<u32>, Spent> {
+        on_map::get_exactly(map, &mut self.caller, tag)
+    }
+
     /// Takes up to `n` free tags of a run, of which it returns the first and the mask of those won. Under round robin it
     /// returns `None` without a step.
     #[inline(always)]

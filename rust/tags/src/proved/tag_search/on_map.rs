@@ -5,7 +5,9 @@
 use crate::proved::tag_core::{Caller, Map, Spent};
 use crate::proved::tag_search::found::Found;
 use crate::proved::tag_search::hint::{after_clear, Hint};
+use crate::proved::tag_search::pass::{visit, TURNS};
 use crate::proved::tag_search::place::bit_of;
+use crate::proved::tag_search::rank::Rank;
 use crate::proved::tag_search::search;
 use crate::proved::tag_search::search::Unfinished;
 use crate::proved::tag_search::shared::Shared;
@@ -59,6 +61,31 @@ pub fn get_batch<R>(map: &Map<R>, caller: &mut Caller<R>, hint: &mut Hint, n: u3
     let mut port = Shared::new(map, caller);
     let answer = search::get_batch(&mut port, hint, n)?;
     let left = port.left();
+    Ok(Found { answer, left })
+}
+
+/// Takes this tag for the caller if it is free, and no other. `None` means that its bit was found set at some moment of the
+/// call: some caller held the tag, it was posted, or another caller's sweep was about to free it. A tag that is set aside
+/// counts as free: its word is swept, which frees the other tags set aside there too. `Spent` as in `get`.
+#[inline]
+pub fn get_exactly<R>(map: &Map<R>, caller: &mut Caller<R>, tag: u32) -> Result<Found<u32>, Spent> {
+    if !caller.room(1) {
+        return Err(Spent);
+    }
+    let layout = map.layout();
+    let place = layout.place_of(tag);
+    let only = Rank {
+        from: place,
+        limit: place + 1,
+        then: 0,
+    };
+    let mut port = Shared::new(map, caller);
+    let won = visit(&mut port, layout.word_of(tag), only, TURNS);
+    let left = port.left();
+    let answer = match won {
+        Some(_) => Some(tag),
+        None => None,
+    };
     Ok(Found { answer, left })
 }
 

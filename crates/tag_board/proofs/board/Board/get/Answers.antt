@@ -1,32 +1,29 @@
 -- The hand did not hold the tag before, and no other caller holds it now, so no caller held it.
 use Rattle.std.proofs.Common.{ℕ, Ok, Option, subst, sym, arith}
 use Rattle.tag_board.proofs.Uses.{Board, Gets, is_answer, Ordinary, state_of}
-use Rattle.tag_board.proofs.Commands.{holds_gained, kept, seated, wins, get_gains, ok_map, own_here, sits, room_here}
+use Rattle.tag_board.proofs.Commands.{holds_gained, seated, wins, get_gains, own_here, sits, room_here}
 use Rattle.tag_board.proofs.board.Board.get.Goals as goal
 
 pub invariant_of-self : goal.invariant_of-self
 invariant_of-self c =
-    let b = c.args.self.now in let at = sits (omega arith) c.index_mut.ensures.value in let old = c.index_mut.result.now in
-    let new = c.get_and_report.new.hand in let e = c.get_and_report.ensures.does in let r = c.get_and_report.result in
-    seated b at new c.get_and_report.ensures.hand (kept old new r (ok_map r e.gets
-    (λ found g. (get_gains b.tags old new b.hands.items found.answer g).effect.number))
-    e.refusals.same)
+    let b = c.args.self.now in let at = sits (omega arith) c.index_mut.ensures.value in
+    seated b at c.get_quietly.new.hand c.get_quietly.ensures.hand
 
 pub tell_free-requires-clause-held : goal.tell_free-requires-clause-held
 tell_free-requires-clause-held c =
     let b = c.args.self.now in let at = sits c.requires c.index_mut.ensures.value in let old = c.index_mut.result.now in
-    let new = c.get_and_report.new.hand in let a : Option ℕ = c.in_ok-answer.field-0.answer in
-    let g = get_gains b.tags old new b.hands.items a c.in_ok-answer.ensures.does.gets in
+    let new = c.get_quietly.new.hand in let a : Option ℕ = c.in_ok-answer.field-0.answer in
+    let e = c.in_ok-answer.ensures in
+    let g = get_gains b.queue old new b.hands.items Ordinary a e.does.gets e.counts in
     holds_gained b at new (is_answer a) _ g.names g.more
 
 pub returns : goal.returns
 returns c =
     let b = c.args.self.now in let at = sits c.requires c.index_mut.ensures.value in let old = c.index_mut.result.now in
-    let new = c.get_and_report.new.hand in let a : Option ℕ = c.in_ok-answer.field-0.answer in
-    let e = c.in_ok-answer.ensures.does in
-    let i : ℕ = c.args.caller in
+    let new = c.get_quietly.new.hand in let a : Option ℕ = c.in_ok-answer.field-0.answer in
+    let e = c.in_ok-answer.ensures in let i : ℕ = c.args.caller in
     subst (λ (x : Board). Gets Ordinary i (state_of b) (Ok a) (state_of x)) (sym c.tell_free.ensures.same) (
-      (room_here b.tags at (own_here b.tags at b.own) Ordinary 1 e.refusals.passes.0, tt),
-      wins b at new c.get_and_report.ensures.hand (get_gains b.tags old new b.hands.items a e.gets)
+      (room_here b.queue at (own_here b.queue at b.own) Ordinary 1 e.does.refusals.passes.0, tt),
+      wins b at new e.hand.0 (get_gains b.queue old new b.hands.items Ordinary a e.does.gets e.counts)
           c.tell_free.ensures.alone,
     )

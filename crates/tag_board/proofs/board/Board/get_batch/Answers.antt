@@ -1,38 +1,35 @@
 -- The hand did not hold the tags before, and no other caller holds one now, so no caller held one.
 use Rattle.std.proofs.Common.{ℕ, Ok, Option, subst, sym, ◌∙◌, arith}
 use Rattle.tag_board.proofs.Uses.{Board, GetsBatch, is_in_run, Ordinary, state_of}
-use Rattle.tag_board.proofs.Commands.{holds_gained, kept, seated, wins, batch_gains, batch_number, own_here, round_here, sits, room_here}
+use Rattle.tag_board.proofs.Commands.{holds_gained, seated, wins, batch_gains, own_here, round_here, sits, room_here}
 use Rattle.tag_board.proofs.board.Board.get_batch.Goals as goal
 
 pub invariant_of-self : goal.invariant_of-self
 invariant_of-self c =
-    let b = c.args.self.now in let at = sits (omega arith) c.index_mut.ensures.value in let old = c.index_mut.result.now in
-    let new = c.get_batch_and_report.new.hand in let e = c.get_batch_and_report.ensures.does in
-    let r = c.get_batch_and_report.result in
-    seated b at new c.get_batch_and_report.ensures.hand (kept old new r
-    (batch_number b.tags old new _ r e) e.refusals.same)
+    let b = c.args.self.now in let at = sits (omega arith) c.index_mut.ensures.value in
+    seated b at c.get_batch_quietly.new.hand c.get_batch_quietly.ensures.hand
 
 pub tell_run_free-requires-clause-held : goal.tell_run_free-requires-clause-held
 tell_run_free-requires-clause-held c =
     let b = c.args.self.now in let at = sits c.requires c.index_mut.ensures.value in let old = c.index_mut.result.now in
-    let new = c.get_batch_and_report.new.hand in let a : Option (ℕ × ℕ) = c.in_ok-answer.field-0.answer in
-    let e = c.in_ok-answer.ensures.does in
-    let g = batch_gains b.tags old new b.hands.items _ a
-    (e.round_robin e.refusals.passes.0) e.gets in
+    let new = c.get_batch_quietly.new.hand in let a : Option (ℕ × ℕ) = c.in_ok-answer.field-0.answer in
+    let e = c.in_ok-answer.ensures in
+    let g = batch_gains b.queue old new b.hands.items _ a (e.does.round_robin e.does.refusals.passes.0) e.does.gets
+    e.counts in
     holds_gained b at new (is_in_run a) _ g.names g.more
 
 pub returns : goal.returns
 returns c =
     let b = c.args.self.now in let at = sits c.requires c.index_mut.ensures.value in let old = c.index_mut.result.now in
-    let new = c.get_batch_and_report.new.hand in let a : Option (ℕ × ℕ) = c.in_ok-answer.field-0.answer in
-    let e = c.in_ok-answer.ensures.does in let i : ℕ = c.args.caller in let n : ℕ = c.args.n in
-    let own = own_here b.tags at b.own in let round = round_here b.tags at own in let may = e.refusals.passes in
-    let around = e.round_robin may.0 in
+    let new = c.get_batch_quietly.new.hand in let a : Option (ℕ × ℕ) = c.in_ok-answer.field-0.answer in
+    let e = c.in_ok-answer.ensures in let i : ℕ = c.args.caller in let n : ℕ = c.args.n in
+    let own = own_here b.queue at b.own in let round = round_here b.queue at own in let may = e.does.refusals.passes in
+    let around = e.does.round_robin may.0 in
     subst (λ (x : Board). GetsBatch n i (state_of b) (Ok a) (state_of x)) (sym c.tell_run_free.ensures.same) (
-      (may.0, ((λ straight. room_here b.tags at own Ordinary n (may.1.0 (sym round ∙ straight))), tt)),
+      (may.0, ((λ straight. room_here b.queue at own Ordinary n (may.1.0 (sym round ∙ straight))), tt)),
       (
         (λ t. (around (sym round ∙ t)).0),
-        wins b at new c.get_batch_and_report.ensures.hand (batch_gains b.tags old new b.hands.items n a around e.gets)
+        wins b at new e.hand.0 (batch_gains b.queue old new b.hands.items n a around e.does.gets e.counts)
             c.tell_run_free.ensures.alone,
       ),
     )

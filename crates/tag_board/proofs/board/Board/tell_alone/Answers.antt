@@ -13,11 +13,11 @@ apart-requires c =
     let first : earlier ≡ get_or hands (min i c.in-Some.other) earlier = c.remove-earlier.ensures.value
     ∙ c.remove-later.ensures.by_index.0 c.min.result earlier (omega arith)
     ∙ ap (λ (n : ℕ). get_or hands n earlier) low in
-    let one = earlier_holds b.tags hands b.own c.args.tag i c.in-Some.other (c.requires.caller, c.requires.held)
+    let one = earlier_holds b.queue hands b.own c.args.tag i c.in-Some.other (c.requires.caller, c.requires.held)
     (o.0, o.2) earlier first in record {
       hands = (
         one.0,
-        (later_holds b.tags hands b.own c.args.tag i c.in-Some.other (c.requires.caller, c.requires.held) (o.0, o.2)
+        (later_holds b.queue hands b.own c.args.tag i c.in-Some.other (c.requires.caller, c.requires.held) (o.0, o.2)
             later last).0,
       );
       held = one.1;
@@ -30,5 +30,5 @@ unreachable-requires c =
     let last : later ≡ get_or hands (max i c.in-Some.other) later =
     c.remove-later.ensures.value ∙ ap (λ (n : ℕ). get_or hands n later) c.max.ensures in
     c.apart.ensures.apart
-    (later_holds b.tags hands b.own c.args.tag i c.in-Some.other (c.requires.caller, c.requires.held) (o.0, o.2) later
+    (later_holds b.queue hands b.own c.args.tag i c.in-Some.other (c.requires.caller, c.requires.held) (o.0, o.2) later
     last).1

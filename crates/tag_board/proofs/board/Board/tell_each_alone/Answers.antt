@@ -1,6 +1,6 @@
 -- Each bit of the mask is a tag that the caller holds, so `tell_alone` applies to each, and together they are the run.
 use Rattle.std.proofs.Common.{◌≡◌, ◌≢◌, ℕ, ◌+◌, ◌*◌, ◌%◌, ◌^◌, ◌<◌, nat_eq, bit_and, sym, ap, ◌∙◌, subst, arith}
-use Rattle.tag_board.proofs.Uses.{one_shl, bit_at, dite, ℕ_discrete, Board, state_of, NobodyElseHolds}
+use Rattle.tag_board.proofs.Uses.{one_shl, bit_at, dite, ℕ_discrete, Board, in_pool, pool_of, state_of, NobodyElseHolds}
 use Rattle.tag_search.proofs.PlainFacts.{clear_of_mask, taken_of_mask}
 use Rattle.tag_board.proofs.Batching.{in_run, all_in_run}
 use Rattle.tag_board.proofs.Holders.{holder}
@@ -24,9 +24,9 @@ overflow_add-first c =
     let one = bit_there c.args.mask place c.loop-place-test.true c.if-mask-place-ne0.true in
     let h = holder hands c.args.caller (first + place)
     (c.requires.held (first + place) (in_run first c.args.mask place one)) in
-    let low = tag_low b.tags h.hand (own_here b.tags (sits h.within h.here) b.own) (first + place)
+    let low = tag_low (pool_of b.queue) (in_pool h.hand) (own_here b.queue (sits h.within h.here) b.own).0 (first + place)
     h.holds in
-    let fits = b.tags.fits in omega arith
+    let fits = (pool_of b.queue).fits in let all = (pool_of b.queue).total_is in omega arith
 
 pub tell_alone-requires-clause-held : goal.tell_alone-requires-clause-held
 tell_alone-requires-clause-held c =

@@ -6,21 +6,20 @@ use Rattle.tag_board.proofs.board.Board.wakes.Goals as goal
 
 pub invariant_of-self : goal.invariant_of-self
 invariant_of-self c =
-    let b = c.args.self.now in let at = sits (omega arith) c.index_mut.ensures.value in let old = c.index_mut.result.now in
-    let new = c.wakes.new.hand in let e = c.wakes.ensures in
-    seated b at new e.hand (stay_does b.tags old new (λ x y. Unit {0}) e.same tt).number
+    let b = c.args.self.now in let at = sits (omega arith) c.index_mut.ensures.value in
+    seated b at c.wakes.new.hand c.wakes.ensures.hand
 
 pub returns : goal.returns
 returns c =
     let b = c.args.self.now in let at = sits c.requires c.index_mut.ensures.value in let old = c.index_mut.result.now in
-    let new = c.wakes.new.hand in let e = c.wakes.ensures in let stands = e.same.set.changed.2 in
-    let k = effect_on b at new e.hand (stay_does b.tags old new (Finds c.wakes.result) e.same record {
+    let new = c.wakes.new.hand in let e = c.wakes.ensures in let stands = e.same.1 in
+    let k = effect_on b at new e.hand.0 (stay_does b.queue old new (Finds c.wakes.result) e.same.0 stands.1 record {
       counts = e.counts;
       looks = e.looks;
       within = e.within;
       stays = (stands.1, stands.2);
     }) in record {
       ordered = e.ordered;
-      active = λ t. e.active ((standing_here b.tags at).1 t);
+      active = λ t. e.active ((standing_here b.queue at).1 t);
       change = k;
     }

@@ -1,7 +1,7 @@
 -- The hand's refusals are the user's, and a tag that is kept is one that the user does not hold.
 use Rattle.tag_cache.proofs.Uses.{AreHeldOnce, AreOrdinary, BadCount, CountsTags, inl, inr, NoSuchTag, NotHeld, refl, rules}
 use Rattle.tag_pool.specs.Lists as hand_lists
-use Rattle.tag_cache.proofs.Listing.{hand_holds, user_holds, none_is_kept, list_less, list_tallies}
+use Rattle.tag_cache.proofs.ClearedLists.{hand_holds, user_holds, none_is_kept, list_less, list_tallies}
 use Rattle.tag_cache.proofs.Refused.{refused_user}
 use Rattle.tag_cache.proofs.cache.Cache.clear_batch_quietly.Goals as goal
 

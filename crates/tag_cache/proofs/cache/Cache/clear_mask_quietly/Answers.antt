@@ -1,7 +1,7 @@
 -- What is said of the list of the mask's tags is said of the mask.
 use Rattle.std.specs.Prelude.{◌≤◌}
 use Rattle.tag_cache.proofs.Uses.{All, AreOrdinary, BadCount, Holds, NoSuchTag, NotHeld, rules, subst, tags_in, tags_in-length, Tallies, ℕ}
-use Rattle.tag_cache.proofs.Listing.{list_less, list_tallies}
+use Rattle.tag_cache.proofs.ClearedLists.{list_less, list_tallies}
 use Rattle.tag_cache.proofs.Refused.{refused_user}
 use Rattle.tag_cache.proofs.cache.Cache.clear_mask_quietly.Goals as goal
 

@@ -1,7 +1,7 @@
 -- The kept tags went back, and what the hand then sees to changes nothing that the user holds.
 use Rattle.tag_model.proofs.HoldingFacts.{same_then_same}
 use Rattle.tag_cache.proofs.Carrying.{terms_twice}
-use Rattle.tag_cache.proofs.Looking.{window_twice}
+use Rattle.tag_cache.proofs.SameWindows.{window_twice}
 use Rattle.tag_cache.proofs.Tallying.{tallies_on}
 use Rattle.tag_cache.proofs.Rested.{none_left, woke}
 use Rattle.tag_cache.proofs.Uses.{subst, WakesFor, ℕ, ◌∙◌}

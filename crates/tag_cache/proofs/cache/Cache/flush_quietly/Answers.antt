@@ -1,6 +1,6 @@
 -- Exactly the kept tags went back, so the user's stay.
 use Rattle.tag_cache.proofs.Giving.{flushed, flush_tallies}
-use Rattle.tag_cache.proofs.Looking.{same_window}
+use Rattle.tag_cache.proofs.SameWindows.{same_window}
 use Rattle.tag_cache.proofs.cache.Cache.flush_quietly.Goals as goal
 
 pub returns-clause-does : goal.returns-clause-does

@@ -2,7 +2,7 @@
 use Rattle.tag_cache.proofs.Uses.{Ordinary, rules}
 use Rattle.std.specs.Prelude.{Some}
 use Rattle.tag_pool.specs.Gets as hand_gets
-use Rattle.tag_cache.proofs.Getting.{gets_after, gets_kept}
+use Rattle.tag_cache.proofs.HandGets.{gets_after, gets_kept}
 use Rattle.tag_cache.proofs.cache.Cache.get.Goals as goal
 
 pub returns-then-keeps_none : goal.returns-then-keeps_none

@@ -3,7 +3,7 @@ use Rattle.std.proofs.Common.{rules}
 use Rattle.std.specs.Prelude.{Some}
 use Rattle.tag_cache.proofs.Uses.{Ordinary}
 use Rattle.tag_pool.specs.Gets as hand_gets
-use Rattle.tag_cache.proofs.Getting.{gets_kept}
+use Rattle.tag_cache.proofs.HandGets.{gets_kept}
 use Rattle.tag_cache.proofs.cache.Cache.get_kept.Goals as goal
 
 pub returns-clause-does : goal.returns-clause-does

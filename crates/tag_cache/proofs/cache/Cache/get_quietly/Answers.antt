@@ -1,6 +1,6 @@
 -- A tag that the hand gains; a kept one is got as `get_kept` does.
 use Rattle.std.proofs.Common.{rules}
-use Rattle.tag_cache.proofs.Getting.{gets_quietly_after}
+use Rattle.tag_cache.proofs.HandGets.{gets_quietly_after}
 use Rattle.tag_cache.proofs.cache.Cache.get_quietly.Goals as goal
 
 pub returns-then-keeps_none-clause-does : goal.returns-then-keeps_none-clause-does

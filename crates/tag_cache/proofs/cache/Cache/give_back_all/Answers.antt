@@ -4,7 +4,7 @@ use Rattle.tag_cache.proofs.Uses.{arith, inl, refl, subst, sym, ℕ, ◌∙◌}
 use Rattle.tag_cache.proofs.Carrying.{none_after, terms_twice}
 use Rattle.tag_cache.proofs.Giving.{flushed, kept_back}
 use Rattle.tag_cache.proofs.Going.{ordinary_back}
-use Rattle.tag_cache.proofs.Looking.{same_known, same_then_knows_less}
+use Rattle.tag_cache.proofs.SameWindows.{same_known, same_then_knows_less}
 use Rattle.tag_cache.proofs.cache.Cache.give_back_all.Goals as goal
 
 pub give_back-requires-clause-other : goal.give_back-requires-clause-other

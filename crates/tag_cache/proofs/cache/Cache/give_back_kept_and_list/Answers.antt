@@ -2,7 +2,7 @@
 use Rattle.tag_cache.proofs.Uses.{arith}
 use Rattle.tag_cache.proofs.Carrying.{own_after}
 use Rattle.tag_cache.proofs.Giving.{flushed, kept_back}
-use Rattle.tag_cache.proofs.Listing.{all_still}
+use Rattle.tag_cache.proofs.ClearedLists.{all_still}
 use Rattle.tag_cache.proofs.cache.Cache.give_back_kept_and_list.Goals as goal
 
 pub clear_batch_held_quietly-requires-clause-held : goal.clear_batch_held_quietly-requires-clause-held

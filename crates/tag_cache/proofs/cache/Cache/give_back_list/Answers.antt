@@ -3,7 +3,7 @@ use Rattle.std.specs.Prelude.{◌↔◌}
 use Rattle.tag_cache.specs.Calls.{GivesBack}
 use Rattle.tag_cache.proofs.Uses.{AreHeldOnce, ap, arith, back_of, Cache, Contains, GivesKeptAndList, Hand, inr, IsHandOf, IsIn, IsKnown, KnowsNoneOf, Ordinary, refl, subst, sym}
 use Rattle.tag_cache.proofs.Carrying.{own_after, same_fields, same_user}
-use Rattle.tag_cache.proofs.Listing.{all_still, goes_alone, hand_holds, last_one, learns_alone, not_listed}
+use Rattle.tag_cache.proofs.ClearedLists.{all_still, goes_alone, hand_holds, last_one, learns_alone, not_listed}
 use Rattle.tag_cache.proofs.cache.Cache.give_back_list.Goals as goal
 
 pub clear_batch_held_quietly-requires-clause-hand : goal.clear_batch_held_quietly-requires-clause-hand

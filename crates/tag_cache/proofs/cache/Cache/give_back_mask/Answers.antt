@@ -4,7 +4,7 @@ use Rattle.tag_cache.specs.Calls.{GivesBack}
 use Rattle.tag_cache.proofs.Uses.{All, ap, arith, back_of, Cache, Contains, GivesKeptAndList, Hand, Holds, inr, IsHandOf, IsIn, IsKnown, KnowsNoneOf, Ordinary, refl, subst, sym, tags_in}
 use Rattle.tag_cache.proofs.Carrying.{own_after, same_fields, same_user}
 use Rattle.tag_cache.proofs.Giving.{mask_gives}
-use Rattle.tag_cache.proofs.Listing.{all_still, goes_alone, last_one, learns_alone, not_listed}
+use Rattle.tag_cache.proofs.ClearedLists.{all_still, goes_alone, last_one, learns_alone, not_listed}
 use Rattle.tag_cache.proofs.cache.Cache.give_back_mask.Goals as goal
 
 pub clear_mask_held_quietly-requires-clause-hand : goal.clear_mask_held_quietly-requires-clause-hand

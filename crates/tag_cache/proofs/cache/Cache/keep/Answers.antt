@@ -2,7 +2,7 @@
 use Rattle.std.specs.Prelude.{◌≤◌}
 use Rattle.tag_cache.proofs.Uses.{Cache, Hand, inr, IsLast, KnowsLess, subst, sym, ◌∙◌}
 use Rattle.tag_pool.specs.Hands as hands
-use Rattle.tag_cache.proofs.Moving.{also_from, can_there, place_there, within}
+use Rattle.tag_cache.proofs.KeptInWindow.{also_from, can_there, place_there, within}
 use Rattle.tag_cache.proofs.Reusing.{held_still}
 use Rattle.tag_cache.proofs.cache.Cache.keep.Goals as goal
 

@@ -3,7 +3,7 @@ use Rattle.std.specs.Prelude.{◌≤◌}
 use Rattle.tag_cache.proofs.Uses.{GivesKept, Hand, subst, sym, ℕ, ◌∙◌}
 use Rattle.tag_cache.proofs.Cautious.{can_still, has_place, last_back, only_after}
 use Rattle.tag_cache.proofs.Giving.{flushed}
-use Rattle.tag_cache.proofs.Looking.{leaves_still, same_known, same_then_knows_less}
+use Rattle.tag_cache.proofs.SameWindows.{leaves_still, same_known, same_then_knows_less}
 use Rattle.tag_cache.proofs.cache.Cache.keep_instead.Goals as goal
 
 pub keep-requires-clause-held : goal.keep-requires-clause-held

@@ -1,6 +1,6 @@
 -- Nothing is kept any more, so any of the tags that were known may be said to be.
 use Rattle.tag_cache.proofs.Uses.{arith, IsIn, subst, ℕ}
-use Rattle.tag_cache.proofs.Looking.{same_known}
+use Rattle.tag_cache.proofs.SameWindows.{same_known}
 use Rattle.tag_cache.proofs.Reusing.{none_kept}
 use Rattle.tag_cache.proofs.cache.Cache.leave.Goals as goal
 

@@ -1,6 +1,6 @@
 -- What the hand sees to after the post changes nothing that the user holds.
 use Rattle.tag_model.proofs.HoldingFacts.{less_then_same}
-use Rattle.tag_cache.proofs.Looking.{knows_less_then_same}
+use Rattle.tag_cache.proofs.SameWindows.{knows_less_then_same}
 use Rattle.tag_cache.proofs.Tallying.{tallies_on}
 use Rattle.tag_cache.proofs.Rested.{woke}
 use Rattle.tag_cache.proofs.cache.Cache.post.Goals as goal

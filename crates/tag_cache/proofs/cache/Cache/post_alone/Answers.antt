@@ -1,7 +1,7 @@
 -- The tag is forgotten, and then the hand gives it up.
 use Rattle.tag_cache.proofs.Uses.{Hand, IsHandOf, refl, rules, subst, sym}
 use Rattle.tag_cache.proofs.Carrying.{owns_but, post_still}
-use Rattle.tag_cache.proofs.Passing.{forgotten_passes, posts_moves}
+use Rattle.tag_cache.proofs.Posting.{forgotten_passes, posts_moves}
 use Rattle.tag_cache.proofs.Reusing.{held_still, known_held}
 use Rattle.tag_cache.proofs.Tallying.{moves_tallies, tallies_on, unchanged_tallies}
 use Rattle.tag_cache.proofs.Below.{held_passes}

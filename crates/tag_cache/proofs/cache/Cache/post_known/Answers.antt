@@ -2,7 +2,7 @@
 use Rattle.tag_cache.proofs.Uses.{arith, IsLast}
 use Rattle.tag_cache.proofs.Carrying.{not_true}
 use Rattle.tag_cache.proofs.Giving.{kept_back}
-use Rattle.tag_cache.proofs.Passing.{passes, passes_last, posts_back}
+use Rattle.tag_cache.proofs.Posting.{passes, passes_last, posts_back}
 use Rattle.tag_cache.proofs.Tallying.{tallies_on}
 use Rattle.tag_cache.proofs.cache.Cache.post_known.Goals as goal
 

@@ -1,7 +1,7 @@
 -- The hand no longer holds the tag, which was neither kept nor known.
 use Rattle.tag_cache.proofs.Uses.{IsKept, rules}
 use Rattle.tag_cache.proofs.Carrying.{not_true, owns_but, post_still}
-use Rattle.tag_cache.proofs.Passing.{last_on, posted_tallies, posts_none_back, unknown_passes}
+use Rattle.tag_cache.proofs.Posting.{last_on, posted_tallies, posts_none_back, unknown_passes}
 use Rattle.tag_cache.proofs.Reusing.{last_unknown}
 use Rattle.tag_cache.proofs.Below.{unkept_refuses}
 use Rattle.tag_cache.proofs.cache.Cache.post_other.Goals as goal

@@ -2,7 +2,7 @@
 use Rattle.tag_cache.proofs.Uses.{Bool, inl, inr, LooksForWaiters, rules, subst, ◌∙◌}
 use Rattle.tag_model.proofs.HoldingFacts.{same_then_same}
 use Rattle.tag_cache.proofs.Carrying.{terms_twice}
-use Rattle.tag_cache.proofs.Looking.{window_twice}
+use Rattle.tag_cache.proofs.SameWindows.{window_twice}
 use Rattle.tag_cache.proofs.Ringing.{looks_rests}
 use Rattle.tag_cache.proofs.Steady.{owns_rests, same_tags}
 use Rattle.tag_cache.proofs.Tallying.{tallies_on}

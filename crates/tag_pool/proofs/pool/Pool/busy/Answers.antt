@@ -3,7 +3,7 @@ use Rattle.std.proofs.Common.{List, ap, arith, get_or, length, ℕ, ◌∙◌}
 use Rattle.tag_pool.specs.declared.kind.Kind.TheVariants.{Ordinary, Reserved}
 use Rattle.tag_core.proofs.Passing.{zeros}
 use Rattle.tag_pool.proofs.Around.{few_looks}
-use Rattle.tag_pool.proofs.Listing.{no_bit, lists, held_bit}
+use Rattle.tag_pool.proofs.BusyBits.{no_bit, lists, held_bit}
 use Rattle.tag_pool.proofs.pool.Pool.busy.Goals as goal
 
 pub returns-clause-lists : goal.returns-clause-lists

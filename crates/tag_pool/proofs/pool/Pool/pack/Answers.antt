@@ -13,7 +13,7 @@ use Rattle.tag_layout.proofs.PlaceFacts.{word_depth-pos}
 use Rattle.tag_core.proofs.Passing.{zeros}
 use Rattle.tag_pool.specs.Dumps.{Packs}
 use Rattle.tag_pool.proofs.Around.{starts, goes_on}
-use Rattle.tag_pool.proofs.Listing.{no_bit}
+use Rattle.tag_pool.proofs.BusyBits.{no_bit}
 use Rattle.tag_pool.proofs.Marking.{marks-none}
 use Rattle.tag_pool.proofs.Tallies.{marks_word, all_words}
 use Rattle.tag_pool.proofs.pool.Pool.pack.Goals as goal

@@ -1,7 +1,7 @@
 -- All bits are 0 at first; then each set marks its own busy tags, in bits that the other set leaves alone.
 use Rattle.std.proofs.Common.{List, ap, get_or, length, ℕ, ◌∙◌}
 use Rattle.tag_core.proofs.Passing.{zeros}
-use Rattle.tag_pool.proofs.Listing.{no_bit, peeks}
+use Rattle.tag_pool.proofs.BusyBits.{no_bit, peeks}
 use Rattle.tag_pool.proofs.pool.Pool.peek_busy.Goals as goal
 
 pub returns-clause-lists : goal.returns-clause-lists

@@ -1,11 +1,19 @@
--- The look that follows is for as many tags as the get left free.
-use Rattle.tag_queue.proofs.Uses.{LooksAfter, subst, ℕ}
+-- What the get left free is what the look is for.
+use Rattle.tag_queue.proofs.Uses.{LooksAfter, rules, subst, ℕ}
 use Rattle.tag_queue.proofs.queue.Queue.get.Goals as goal
 
+pub returns-in_err-answer-clause-refusals : goal.returns-in_err-answer-clause-refusals
+returns-in_err-answer-clause-refusals g c = record {
+  first = search rules;
+  passes = search rules;
+  same = search rules;
+}
+
 pub returns-clause-gets : goal.returns-clause-gets
-returns-clause-gets g c = record {
-  searched = c.get_and_report.new.agent;
-  gets = c.in_ok-answer.ensures.gets;
-  looks = subst (λ (n : ℕ). LooksAfter n c.get_and_report.new.agent c.look_after.new.agent) c.in_ok-answer.ensures.left
+returns-clause-gets g c = let quiet = c.in_ok-answer.ensures in record {
+  searched = c.get_quietly.new.hand;
+  gets = quiet.does.gets;
+  counts = quiet.counts;
+  looks = subst (λ (n : ℕ). LooksAfter n c.get_quietly.new.hand c.look_after.new.hand) quiet.does.left
       c.look_after.ensures.looks;
 }

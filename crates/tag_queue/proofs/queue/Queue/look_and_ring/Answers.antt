@@ -9,13 +9,13 @@ returns-then-active-ne0-clause-looks g c = let ring = c.nudge.ensures.rung in
       some = λ some. record {
         active = c.sight-active.result.0;
         step = ring.1 ∙ c.sight-active.ensures.step;
-        after_map = c.sight-active.ensures.beside;
+        after_pool = c.sight-active.ensures.beside;
         last_step = c.sight-active.ensures.steps ∙ sym ring.1;
         rings = λ found. ring.2
             ∙ (λ j. (Nudged (c.min.ensures j), (look.groups.1.3 j).0));
         silent = λ none. absurd (let some = c.if-active-ne0.true in omega arith);
       };
-      same = (refl, refl, refl);
+      same = (refl, refl);
       stands = search rules;
     }
 
@@ -25,11 +25,11 @@ returns-else-active-ne0-clause-looks g c = record {
   some = λ some. record {
     active = c.sight-active.result.0;
     step = c.sight-active.ensures.step;
-    after_map = c.sight-active.ensures.beside;
+    after_pool = c.sight-active.ensures.beside;
     last_step = c.sight-active.ensures.steps;
     rings = λ found. absurd (let none = c.if-active-ne0.false in omega (arith, found));
     silent = λ none. c.sight-active.ensures.groups.1.3;
   };
-  same = (refl, refl, refl);
+  same = (refl, refl);
   stands = search rules;
 }

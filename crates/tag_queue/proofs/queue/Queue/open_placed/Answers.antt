@@ -1,12 +1,41 @@
--- The agents that `open` returns are placed, and are otherwise unchanged.
-use Rattle.tag_queue.proofs.Uses.{Agent, AllZip, IsOpenPlaced, IsPlaced, List, subst, sym, with_items_is, ◌∙◌}
-use Rattle.tag_queue.proofs.Placed.{opens_placed}
+-- The pool refuses in its own order, and then the queue does; otherwise its hands are those of the new pool.
+use Rattle.std.specs.Prelude.{◌≡◌}
+use Rattle.tag_queue.proofs.Uses.{ap, Pool, ◌∙◌}
+use Rattle.std.proofs.lemmas.Result.{IfOk-weaker}
+use Rattle.tag_pool.specs.Hands.{fill_of}
+use Rattle.tag_pool.specs.Opening as pool
+use Rattle.tag_queue.specs.Hands.{all_in_pool, pool_of}
+use Rattle.tag_queue.specs.Opening.{HasCounts, IsOpenPlaced}
+use Rattle.tag_queue.proofs.Opened.{both_ok, fresh_hands, opens}
+use Rattle.tag_queue.proofs.OpenRefusals.{refuses_early, refuses_late}
 use Rattle.tag_queue.proofs.queue.Queue.open_placed.Goals as goal
 
-pub returns-clause-ok : goal.returns-clause-ok
-returns-clause-ok g c = let queue = c.in_ok-queue.queue in let agents = c.in_ok-queue.agents in
-    let placed = c.place_all.new.agents in let lent = c.as_mut_slice.ensures in
-    subst (λ (l : List (Agent g.row.R.Denot)). IsOpenPlaced c.args.options queue l)
-    (sym (with_items_is agents placed (c.place_all.auto.agents ∙ lent.len)))
-    (opens_placed c.args.options queue agents.items placed c.in_ok-queue.ensures.ok
-    (subst (λ (l : List (Agent g.row.R.Denot)). AllZip (IsPlaced queue) l placed) lent.value c.place_all.ensures))
+pub over-requires : goal.over-requires
+over-requires g c = record {
+  fresh = fresh_hands pool.HasPlacedHints c.args.options c.in-Ok.pool c.in-Ok.hands.items c.in-Ok.ensures.ok;
+}
+
+pub returns-in-Ok-clause-ok : goal.returns-in-Ok-clause-ok
+returns-in-Ok-clause-ok g c = let made = c.over.ensures in let new = c.in-Ok in
+    both_ok c.over.result (λ q. (pool_of q.0 ≡ new.pool) × (all_in_pool q.1.items ≡ new.hands.items))
+    (λ q. HasCounts c.args.options c.args.cap q.0 q.1.items)
+    (λ q. IsOpenPlaced c.args.options c.args.cap q.0 q.1.items)
+    (λ q parts counts. opens pool.HasPlacedHints c.args.options new.pool new.hands.items new.ensures.ok c.args.cap q.0
+    q.1.items parts.0 parts.1 counts) made.pool made.counts
+
+pub returns-in-Ok-clause-fill : goal.returns-in-Ok-clause-fill
+returns-in-Ok-clause-fill g c = let new = c.in-Ok in
+    IfOk-weaker c.over.result (λ q. (pool_of q.0 ≡ new.pool) × (all_in_pool q.1.items ≡ new.hands.items))
+    (λ q. fill_of (pool_of q.0) ≡ c.args.fill)
+    (λ q parts. ap (λ (p : Pool g.row.R.Denot). fill_of p) parts.0 ∙ new.ensures.fill) c.over.ensures.pool
+
+pub returns-in-Ok-clause-refusals : goal.returns-in-Ok-clause-refusals
+returns-in-Ok-clause-refusals g c = refuses_late c.args.options c.args.cap c.over.result c.in-Ok.ensures.refusals.passes
+    c.over.ensures.cap c.over.ensures.refusals
+
+pub returns-in-Err-clause-refusals : goal.returns-in-Err-clause-refusals
+returns-in-Err-clause-refusals g c = record {
+  first = refuses_early c.args.options c.args.cap c.in-Err.fault c.refusal.result c.in-Err.ensures.refusals.first
+      c.refusal.ensures;
+  passes = tt;
+}

@@ -1,12 +1,12 @@
--- The post of the agent's caller is the agent's post, since nothing else of the agent changes.
-use Rattle.std.proofs.Common.{refl}
+-- A refusal by the pool leaves the hand as it was.
+use Rattle.tag_queue.proofs.SameParts.{same_on_err}
+use Rattle.tag_queue.proofs.StillUp.{posts_up}
 use Rattle.tag_queue.proofs.queue.Queue.post.Goals as goal
 
-pub returns-clause-posts : goal.returns-clause-posts
-returns-clause-posts g c = record {
-  value = c.post.ensures.step.0;
-  slot = c.post.ensures.step.1;
-  step = c.post.ensures.step.2;
-  less = c.post.ensures.released;
-  same_else = (refl, (refl, refl));
-}
+pub invariant_of-hand-clause-up : goal.invariant_of-hand-clause-up
+invariant_of-hand-clause-up g c = let hand = c.args.hand.now in let call = c.post in
+    posts_up c.args.self.now.pool hand.inner call.new.hand c.args.tag call.result call.ensures.does hand.up
+
+pub returns-clause-err : goal.returns-clause-err
+returns-clause-err g c = let call = c.post in
+    same_on_err c.args.hand.now call.result call.new.hand call.ensures.does.refusals.same _ _ _ _

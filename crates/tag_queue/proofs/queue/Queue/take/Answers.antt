@@ -1,13 +1,12 @@
--- The take of the agent's caller is the agent's take, since nothing else of the agent changes.
-use Rattle.std.proofs.Common.{rules, IsTrue, refl}
+-- No step of it waits, and a number that is no tag's leaves the hand as it was.
+use Rattle.tag_queue.proofs.SameParts.{same_on_no_tag}
+use Rattle.tag_queue.proofs.StillUp.{takes_up}
 use Rattle.tag_queue.proofs.queue.Queue.take.Goals as goal
 
-pub returns-clause-takes : goal.returns-clause-takes
-returns-clause-takes g c = let found : IsTrue c.take.result = search rules in
-    let won = c.take.ensures.won found in record {
-      value = won.0;
-      slot = won.1;
-      step = won.2;
-      more = c.take.ensures.acquired found;
-      same_else = (refl, (refl, refl));
-    }
+pub invariant_of-hand-clause-up : goal.invariant_of-hand-clause-up
+invariant_of-hand-clause-up g c = let hand = c.args.hand.now in let call = c.take in
+    takes_up c.args.self.now.pool hand.inner call.new.hand c.args.tag call.result call.ensures.does hand.up
+
+pub returns-clause-unchanged : goal.returns-clause-unchanged
+returns-clause-unchanged g c = let call = c.take in
+    same_on_no_tag c.args.hand.now c.args.tag call.result call.new.hand call.ensures.does.refuses _ _ _ _

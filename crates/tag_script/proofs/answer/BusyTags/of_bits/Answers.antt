@@ -2,7 +2,7 @@
 use Rattle.tag_script.proofs.Uses.{[], ap, arith, bit_and, bit_at, bit_at-zero, eq-eqb, filter, is_marked, List, nat_eq, one_shl, range, slice_index, sym, ℕ, ◌∙◌}
 use Rattle.std.proofs.Common.{◌≡◌, ◌+◌, ◌*◌, ◌/◌, ◌%◌, ◌^◌, ◌<◌, ◌∷◌, ◌++◌}
 use Rattle.tag_search.proofs.PlainFacts.{clear_of_mask, taken_of_mask}
-use Rattle.tag_sets.specs.Bits.{bit_in}
+use Rattle.tag_pool.specs.Bits.{bit_in}
 use Rattle.tag_script.proofs.TextFacts.{filter_range-pass, filter_range-fail, filter_range-none}
 use Rattle.tag_script.proofs.answer.BusyTags.of_bits.Goals as goal
 use Rattle.tag_script.proofs.answer.BusyTags.of_bits.Goals.{then-word-place-ne0+in_ok-push, else-word-place-ne0}

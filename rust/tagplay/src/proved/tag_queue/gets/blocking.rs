@@ -1,37 +1,35 @@
 // Made of crates/tag_queue/src/gets/blocking.rt, where the contracts are, by rust/generate.
 
-//! Blocking gets: an agent that finds no tag stays in a wait group until it is woken, and searches again.
+//! Blocking gets: a hand that finds no tag stays in a wait group until it is woken, and searches again.
 
 use crate::base::sleep::Wait;
-use crate::proved::tag_core::Caller;
-use crate::proved::tag_queue::agent::Agent;
-use crate::proved::tag_queue::fault::QueueFault;
-use crate::proved::tag_queue::queue::{Queue, Waits};
+use crate::proved::tag_pool::{Hand, Kind};
+use crate::proved::tag_queue::fault::WaitFault;
+use crate::proved::tag_queue::hand::QueueHand;
+use crate::proved::tag_queue::queue::Queue;
 use crate::proved::wake_book::{Groups, Key, Left, Waiter};
 
 impl<R: Copy> Queue<R> {
-    /// Takes a free tag like `get`, and waits as long as it finds none: it enters a wait group, searches once more, and
+    /// Takes a free ordinary tag like `get`, and waits as long as it finds none: it enters a wait group, searches once more, and
     /// sleeps there if it finds none again, until it is granted a wakeup or rung. Nothing promises that it returns.
-    /// `OtherWait` means that the queue's agents wait by the bell, `NoSuchTag` that it has no tags, `Waiting` that the agent
-    /// is already in a wait group, `Spent` that its life is used up.
-    pub fn get_blocking<W: Wait>(&self, rt: &W, agent: &mut Agent<R>) -> Result<u32, QueueFault> {
-        if self.waits != Waits::InGroups {
-            return Err(QueueFault::OtherWait);
+    /// `NoSuchTag` means that there is no ordinary tag, `Waiting` that the hand is already in a wait group, `Spent` that its
+    /// life in the ordinary set is used up.
+    pub fn get_blocking<W: Wait>(&self, rt: &W, hand: &mut QueueHand<R>) -> Result<u32, WaitFault> {
+        if self.pool.layout(Kind::Ordinary).depth() == 0 {
+            return Err(WaitFault::NoSuchTag);
         }
-        if self.map.layout().depth() == 0 {
-            return Err(QueueFault::NoSuchTag);
-        }
-        if Groups::standing(&agent.waiter).is_some() {
-            return Err(QueueFault::Waiting);
-        }
-        if !agent.caller.room(1) {
-            return Err(QueueFault::Spent);
+        if Groups::standing(&hand.waiter).is_some() {
+            return Err(WaitFault::Waiting);
         }
         for _ in rt.forever() {
-            if let Some(tag) = self.try_get(agent) {
+            // Only the first get can be refused: each later one follows a get that won nothing.
+            let Ok(answer) = self.get(hand) else {
+                return Err(WaitFault::Spent);
+            };
+            if let Some(tag) = answer {
                 return Ok(tag);
             }
-            if let Some(tag) = self.stay(rt, agent) {
+            if let Some(tag) = self.stay(rt, hand) {
                 return Ok(tag);
             }
         }
@@ -39,22 +37,22 @@ impl<R: Copy> Queue<R> {
     }
 
     /// Stays in a wait group for one search, and sleeps there if it finds no tag.
-    fn stay<W: Wait>(&self, rt: &W, agent: &mut Agent<R>) -> Option<u32> {
-        self.groups.enter(&mut agent.waiter);
+    fn stay<W: Wait>(&self, rt: &W, hand: &mut QueueHand<R>) -> Option<u32> {
+        self.groups.enter(&mut hand.waiter);
         // Whoever frees a tag after this search has passed it rings, and a ring after this line ends the sleep.
-        let key = self.groups.announce(&agent.waiter, &agent.caller);
-        // A tag given back before the agent entered wakes nobody, so it must be searched for once more.
-        let answer = self.try_get(agent);
-        self.sleep_if_none(rt, agent, key, answer);
-        let left = self.groups.leave(rt, &mut agent.waiter);
-        self.pass_on(&mut agent.waiter, answer, left);
+        let key = self.groups.announce(&hand.waiter, &hand.inner);
+        // A tag given back before the hand entered wakes nobody, so it must be searched for once more.
+        let answer = self.try_get(hand);
+        self.sleep_if_none(rt, hand, key, answer);
+        let left = self.groups.leave(rt, &mut hand.waiter);
+        self.pass_on(&mut hand.waiter, answer, left);
         answer
     }
 
-    /// Sleeps in the agent's group, as the key announced, if the search there found no tag.
-    fn sleep_if_none<W: Wait>(&self, rt: &W, agent: &mut Agent<R>, key: Key<'_, Caller<R>>, answer: Option<u32>) {
+    /// Sleeps in the hand's group, as the key announced, if the search there found no tag.
+    fn sleep_if_none<W: Wait>(&self, rt: &W, hand: &mut QueueHand<R>, key: Key<'_, Hand<R>>, answer: Option<u32>) {
         if answer.is_none() {
-            agent.announcement = self.groups.sleep(rt, &mut agent.waiter, key);
+            hand.announcement = self.groups.sleep(rt, &mut hand.waiter, key);
         }
     }
 
@@ -66,9 +64,9 @@ impl<R: Copy> Queue<R> {
         }
     }
 
-    /// Makes a get for an agent that may win one more tag.
-    pub(super) fn try_get(&self, agent: &mut Agent<R>) -> Option<u32> {
-        let Ok(answer) = self.get(agent) else { unreachable!() };
+    /// Makes a get for a hand that may win one more tag.
+    fn try_get(&self, hand: &mut QueueHand<R>) -> Option<u32> {
+        let Ok(answer) = self.get(hand) else { unreachable!() };
         answer
     }
 }

@@ -1,6 +1,0 @@
--- Of the tags so far, all are freed except those of the last run, whose bits are in the mask.
-use Rattle.tag_queue.proofs.SoFar.{SoFar}
-use Rattle.tag_queue.proofs.clears.batches.give_all.Given as goal
-
-abbrev pub invariant-loop-tag : goal.invariant-loop-tag
-invariant-loop-tag g l = SoFar l.map l.tags l.tag-index l.fn.caller l.caller l.word l.mask

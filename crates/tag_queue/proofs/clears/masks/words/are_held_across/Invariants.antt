@@ -1,8 +1,0 @@
--- The tags in the words so far are held.
-use Rattle.std.specs.Prelude.{◌*◌, ◌<◌, ◌≡◌}
-use Rattle.tag_queue.proofs.Uses.{Holds, word_bits, ℕ}
-use Rattle.tag_queue.specs.Masks.{mask_bit}
-use Rattle.tag_queue.proofs.clears.masks.words.are_held_across.Given as goal
-
-abbrev pub invariant-loop-word : goal.invariant-loop-word
-invariant-loop-word g l = (t : ℕ) → mask_bit l.first l.mask t ≡ 1 → t < l.word * word_bits l.map.shape.layout → Holds l.caller t

@@ -1,9 +1,0 @@
--- An agent may sleep as its caller may.
-use Rattle.tag_bell.specs.declared.told.TheConstants.{SLEEPERS}
-use Rattle.tag_queue.proofs.queue.Queue.sleep.Goals as goal
-
-pub sleep-requires-clause-in_vain : goal.sleep-requires-clause-in_vain
-sleep-requires-clause-in_vain g c = (c.requires.may SLEEPERS).0
-
-pub sleep-requires-clause-done : goal.sleep-requires-clause-done
-sleep-requires-clause-done g c = λ list low. (c.requires.may list).1
