@@ -108,6 +108,9 @@ int32_t tags_library_go_on(struct tags_hand *hand, bool listens, int32_t why, st
 	hand->place->is_waiting = tag == TAGS_NO_TAG;
 	if (!hand->place->is_waiting)
 		end_waiting(bell, listens);
+	/* its sweeps may have freed others: drains.c */
+	if (tag >= 0)
+		tags_library_see_to_lists(hand);
 	add(due, &told);
 	return tags_detail_won(tag);
 }
@@ -237,7 +240,7 @@ void tags_library_see(struct tags_hand *hand, uint64_t freed, struct tags_told *
 	if (freed == 0 && !bell->is_cached)
 		return;
 	tell(hand, freed, due);
-	tags_library_tags_are_back(bell);
+	tags_library_tags_are_back(hand);
 }
 
 bool tags_library_wake(struct tags_waits *waits, const struct tags_told *due)

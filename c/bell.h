@@ -37,20 +37,29 @@ struct tags_notice {
 /* What a look answers while what a thread waits for is not there. */
 enum { TAGS_NOT_YET = 1 };
 
-enum tags_awaited { TAGS_A_HAND, TAGS_ALL_BACK };
+enum tags_awaited { TAGS_A_HAND, TAGS_ALL_BACK, TAGS_LISTED_BACK, TAGS_A_TURN };
 
-/* Who waits at the gate of a pool: gates.c. */
+/* A set of tags: bit t % 64 of words[t / 64] is 1 if it has tag t. From word @length on it has none. */
+enum { TAGS_SET_WORDS = TAGS_MAX_TOTAL / 64 };
+struct tags_set {
+	size_t length;
+	uint64_t words[TAGS_SET_WORDS];
+};
+
+/* Who waits at the gate of a pool, or for a turn at that of shared hands: gates.c. */
 struct tags_waiter {
 	/* which pool's, by where its bell is; for what; and what ends the wait, unless it answers TAGS_NOT_YET */
 	struct bell *bell;
 	enum tags_awaited what;
 	int32_t (*look)(struct tags_waiter *it);
 	const struct tags_limit *limit;
-	/* of its look: for a hand; for all tags, with the nanoseconds that it rests before the next one */
+	/* of its look: for a hand; for tags, with the nanoseconds that it rests before the next one */
 	struct tags_pool *pool;
 	struct tags_hand *hand;
 	uint32_t flags;
 	int32_t rest;
+	/* with the gate's lock: those of its list that were busy at each look, or NULL for all tags */
+	struct tags_set *left;
 	/* with the gate's lock: it is to look again; it has looked, and sleeps; what ended its wait, or TAGS_OK */
 	bool is_told;
 	bool is_asleep;
@@ -75,7 +84,12 @@ struct tags_place {
 	bool is_waiting;
 	/* the pool's count of stops when its wait began */
 	uint32_t stops;
+	/* for the hand alone: the pool's count of looks when it looked last */
+	uint32_t looks;
 };
+
+/* A hand behind a lock: shared.h. */
+struct tags_locked;
 
 /* Hands that a call told of tags: bit i is 1 for the hand in place i. Proved in crates/tag_c. */
 struct tags_told {
@@ -87,9 +101,15 @@ struct bell {
 	/* keeps @waits, which each clear loads, out of a cache line of what malloc() put before */
 	char apart[64];
 	struct tags_waits waits;
-	/* those who drain the pool; 1 if a call that gives tags back is to tell one of them: drains.c */
+	/* those who wait for tags to be back; 1 if a call that gives tags back is to tell one of them: drains.c */
 	uint32_t draining;
 	uint32_t is_armed;
+	/*
+	 * Of those who wait for the tags of a list: how many do not rest; and how often they have
+	 * looked, since after each look each hand looks once.
+	 */
+	uint32_t listing;
+	uint32_t looks;
 	/* the ordinary tags, the reserved ones, and whether hands keep tags */
 	uint32_t depth;
 	uint32_t reserved;
@@ -128,6 +148,22 @@ static inline void tags_subtract(uint32_t *word, uint32_t number)
 static inline uint32_t tags_swap(uint32_t *word, uint32_t number)
 {
 	return __atomic_exchange_n(word, number, __ATOMIC_SEQ_CST);
+}
+
+/* Changes a word that is @from. Returns whether it was. */
+static inline bool tags_replace(uint32_t *word, uint32_t from, uint32_t to)
+{
+	return __atomic_compare_exchange_n(word, &from, to, false, __ATOMIC_SEQ_CST, __ATOMIC_SEQ_CST);
+}
+
+/* A thread that looks at a word again and again gives way to one that shares its core. */
+static inline void tags_pause(void)
+{
+#ifdef __x86_64__
+	__builtin_ia32_pause();
+#elif defined __aarch64__
+	__asm__ volatile("yield");
+#endif
 }
 
 static inline struct bell *tags_bell_of(struct tags_waits *waits)
@@ -189,6 +225,9 @@ int32_t tags_library_go_on(struct tags_hand *hand, bool listens, int32_t why,
 void tags_library_wake_told(struct tags_hand *hand, struct tags_told *due);
 /* Ends a wait by an eventfd or a function. Returns whether there was one. */
 bool tags_library_cancel(struct tags_hand *hand);
+/* Makes a round of a hand behind a lock, which waits to be notified so. Adds those whom it tells to @due. */
+int32_t tags_library_listen(struct tags_hand *hand, const struct tags_notice *notice,
+			    struct tags_told *due);
 
 /* Sleeps until no function runs that notifies the hand in a place. */
 void tags_library_outwait(const struct tags_place *place);
@@ -216,10 +255,24 @@ int32_t tags_library_wait_at_gate(struct tags_waiter *it);
 void tags_library_tell_first(const struct bell *bell, enum tags_awaited what);
 /* Ends all waits there for a hand. */
 void tags_library_end_joins(const struct bell *bell, int32_t status);
-/* Tags are back: a drain that is to be told is. */
-void tags_library_tags_are_back(struct bell *bell);
+/* Of a waiter's list: leaves those out that are free. Returns whether any is left. */
+bool tags_library_leave_out(struct tags_waiter *it, const struct tags_set *busy);
+/* Looks with this hand for all who wait for the tags of lists, and tells them. */
+void tags_library_look_for_lists(struct tags_hand *hand);
+/* The hand gave tags back: those who wait for that are told, if they are to be. */
+void tags_library_tags_are_back(struct tags_hand *hand);
 /* The drain that was to be told is not any more. Returns whether there was one. */
 bool tags_library_disarm(struct bell *bell);
+
+/* Of hands that threads share: the lock of one of them is taken, that of this processor if no call has it. */
+struct tags_locked *tags_library_enter(const struct tags_hands *hands);
+/* Wakes those whom a call told, without a lock; and if one of them can't be notified, tells others. */
+void tags_library_wake_others(const struct tags_hands *hands, struct tags_told *due);
+/* With its lock, notes that a hand got a tag, if it did. Returns what it was given. */
+int32_t tags_library_note_holder(const struct tags_hands *hands, const struct tags_locked *at,
+				 int32_t tag);
+/* Gives back what the hands keep. */
+void tags_library_flush_all(const struct tags_hands *hands);
 
 #pragma GCC visibility pop
 

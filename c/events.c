@@ -39,7 +39,8 @@ static int32_t make_round(struct tags_hand *hand, int32_t why, struct tags_told 
 }
 
 /* Whoever tells the hand finds the notice. A stop does, too, or the hand finds the stop. */
-static int32_t wait_on(struct tags_hand *hand, const struct tags_notice *notice, struct tags_told *due)
+int32_t tags_library_listen(struct tags_hand *hand, const struct tags_notice *notice,
+			    struct tags_told *due)
 {
 	tags_begin_wait(hand);
 	if (hand->place->is_waiting)
@@ -55,7 +56,7 @@ static int32_t get_or_wait(struct tags_hand *hand, const struct tags_notice *not
 
 	if (!hand->place->is_waiting)
 		tag = tags_detail_is_stopped(hand) ? (int32_t)TAGS_STOPPED : tags_get(hand);
-	return tag == TAGS_NO_TAG ? wait_on(hand, notice, NULL) : tag;
+	return tag == TAGS_NO_TAG ? tags_library_listen(hand, notice, NULL) : tag;
 }
 
 static bool cancel(struct tags_hand *hand, struct tags_told *due)
@@ -108,7 +109,7 @@ int32_t tags_library_poll(struct tags_hand *hand, void (*function)(void *argumen
 {
 	const struct tags_notice notice = { -1, function, argument, true };
 
-	return wait_on(hand, &notice, due);
+	return tags_library_listen(hand, &notice, due);
 }
 
 void tags_library_end_poll(struct tags_hand *hand, struct tags_told *due)

@@ -1,12 +1,13 @@
 /*
- * Gates, where threads wait for a hand of a pool (joins.c), or for all of its tags to be back
- * (drains.c).
+ * Gates, where threads wait for a hand of a pool (joins.c), or for its tags to be back: for all of
+ * them, or for those of a list (drains.c).
  *
  * Who waits is in a queue, in the order in which the waits began, and looks before it sleeps. Whoever
  * gives something back tells the first one that waits for that and was not told yet; so it looks
  * again. If it finds nothing, as another thread was faster, it sleeps on at its turn. If it was told
  * and has no use for that, it tells the next one. So while somebody sleeps who was not told, as many
  * are on their way as there are vacant hands. Whoever comes then need not look: it sleeps behind them.
+ * Lists have no turns: whoever waits for one looks by itself, and all of them are told.
  *
  * Who waits counts itself, then looks. Who gives something back does so, and then loads the count.
  * All four are sequentially consistent, so either the look finds what came back, or the load finds
@@ -79,21 +80,47 @@ static bool can_be_told(const struct tags_waiter *it)
 	return !it->is_told && it->end == TAGS_OK;
 }
 
+static void tell(struct tags_waiter *it)
+{
+	it->is_told = true;
+	pthread_cond_signal(&it->bed);
+}
+
 static void tell_first(const struct gate *gate, const struct bell *bell, enum tags_awaited what)
 {
 	struct tags_waiter *it = gate->first;
 
 	while (it && !(waits_for(it, bell, what) && can_be_told(it)))
 		it = it->next;
-	if (!it)
-		return;
-	it->is_told = true;
-	pthread_cond_signal(&it->bed);
+	if (it)
+		tell(it);
+}
+
+/* Leaves out of a waiter's list what is free, and returns whether any tag is left. */
+static bool leave_out(struct tags_waiter *it, const struct tags_set *busy)
+{
+	uint64_t any = 0;
+
+	for (size_t i = 0; i < it->left->length; i++)
+		any |= it->left->words[i] &= busy->words[i];
+	return any != 0;
+}
+
+static void tell_lists(const struct gate *gate, const struct bell *bell, const struct tags_set *busy)
+{
+	for (struct tags_waiter *it = gate->first; it; it = it->next) {
+		if (!waits_for(it, bell, TAGS_LISTED_BACK))
+			continue;
+		leave_out(it, busy);
+		tell(it);
+	}
 }
 
 /* Whether somebody sleeps for the same. */
 static bool has_sleeper(const struct gate *gate, const struct tags_waiter *comer)
 {
+	if (comer->what == TAGS_LISTED_BACK)
+		return false;
 	for (const struct tags_waiter *it = gate->first; it; it = it->next)
 		if (waits_for(it, comer->bell, comer->what) && it->is_asleep && can_be_told(it))
 			return true;
@@ -111,7 +138,7 @@ static void leave(struct gate *gate, struct tags_waiter *it)
 	tags_subtract(&gate->waiters, 1);
 	if (it->what == TAGS_ALL_BACK)
 		tags_library_disarm(it->bell);
-	if (it->what == TAGS_ALL_BACK || it->is_told)
+	if (it->what == TAGS_ALL_BACK || (it->what != TAGS_LISTED_BACK && it->is_told))
 		tell_first(gate, it->bell, it->what);
 	pthread_mutex_unlock(&gate->lock);
 	pthread_cond_destroy(&it->bed);
@@ -139,6 +166,32 @@ void tags_library_tell_first(const struct bell *bell, enum tags_awaited what)
 	pthread_mutex_lock(&gate->lock);
 	tell_first(gate, bell, what);
 	pthread_mutex_unlock(&gate->lock);
+}
+
+/* With the lock, as a wait that begins later may be for a tag that this look finds free. */
+void tags_library_look_for_lists(struct tags_hand *hand)
+{
+	const struct bell *bell = tags_bell_of(hand->waits);
+	struct gate *gate = gate_of(bell);
+	struct tags_set busy;
+	int32_t found;
+
+	pthread_mutex_lock(&gate->lock);
+	found = tags_library_busy(hand, busy.words, TAGS_SET_WORDS);
+	if (tags_detail_filled(found, busy.words, sizeof(busy.words)) >= 0)
+		tell_lists(gate, bell, &busy);
+	pthread_mutex_unlock(&gate->lock);
+}
+
+bool tags_library_leave_out(struct tags_waiter *it, const struct tags_set *busy)
+{
+	struct gate *gate = gate_of(it->bell);
+	bool is_any_left;
+
+	pthread_mutex_lock(&gate->lock);
+	is_any_left = leave_out(it, busy);
+	pthread_mutex_unlock(&gate->lock);
+	return is_any_left;
 }
 
 void tags_library_end_joins(const struct bell *bell, int32_t status)

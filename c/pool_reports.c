@@ -80,10 +80,10 @@ static uint32_t batch_of(const struct bell *bell)
 	return bell->waits.batch;
 }
 
-/* Drains are counted by themselves, and a pool that is armed is not: drains.c. */
+/* Drains are counted by themselves, and not by how a call learns of them: drains.c. */
 static uint32_t waiting_of(const struct bell *bell)
 {
-	const uint32_t is_armed = tags_load(&bell->is_armed);
+	const uint32_t is_armed = tags_load(&bell->is_armed) + tags_load(&bell->listing);
 	const uint32_t uncounted = bell->is_cached ? 0 : tags_load(&bell->draining);
 	const uint32_t waiting = tags_load(&bell->waits.waiting) + uncounted;
 

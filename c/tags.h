@@ -16,19 +16,22 @@
  *   the like orders the two. A program that is compiled with the macro TAGS_CHECKED_HANDS prints a
  *   sentence and ends if a call finds its hand in another call; the thread sanitizer reports that
  *   without the macro.
+ *   Hands that threads share may be in any number of calls at once: see tags_hands_open().
  *   The handle of a pool may be in any number of calls at once, which take turns where they use it;
- *   but run tags_stop(), tags_resume(), tags_drain() and tags_drain_timed() beside neither
- *   tags_open() nor tags_close(). A call beside tags_close() finds the pool open, or its handle
- *   empty; the handle's memory has to stay until it has returned. Different handles of one pool may
- *   be used at once, on any threads.
- *   Only tags_get_blocking(), tags_join_blocking(), tags_drain() and their timed forms sleep until
- *   they get what they wait for. While they sleep, and only then, they are cancellation points.
+ *   but run tags_stop(), tags_resume(), tags_drain(), tags_drain_list() and the timed forms of the
+ *   latter two beside neither tags_open() nor tags_close(). A call beside tags_close() finds the
+ *   pool open, or its handle empty; the handle's memory has to stay until it has returned. Different
+ *   handles of one pool may be used at once, on any threads.
+ *   Only tags_get_blocking(), tags_hands_get_blocking(), tags_join_blocking(), tags_drain(),
+ *   tags_drain_list() and their timed forms sleep until they get what they wait for. While they
+ *   sleep, and only then, they are cancellation points.
  *   Any other call waits for a lock at most, while another one uses a pool's handle, or begins,
  *   ends or notifies a wait by an eventfd, a function or a future of another language. No signal
  *   ends a wait. Make no call in a signal handler, nor in a thread with the cancellation type
  *   PTHREAD_CANCEL_ASYNCHRONOUS. The forked child of a process with threads may open pools of its
  *   own, but must make no call on a pool from before the fork. Each call preserves errno. Only
- *   tags_open(), tags_resize(), tags_thread_hand() and the calls that join allocate memory.
+ *   tags_open(), tags_resize(), tags_thread_hand(), tags_hands_open() and the calls that join
+ *   allocate memory.
  *
  * Waiting
  *   A thread sleeps in tags_get_blocking() or tags_get_timed() until it gets a tag. An event loop
@@ -61,7 +64,8 @@
  *   these two; and, where a call says nothing else, its arguments are
  *   @pool: the pool,
  *   @hand: the hand that makes the call,
- *   @tag: a tag that the hand holds,
+ *   @hands: hands that threads share,
+ *   @tag: a tag that the hand holds, or one of those hands,
  *   @clock: CLOCK_MONOTONIC or CLOCK_REALTIME,
  *   @deadline: when to give up, by that clock; if that has passed, the call tries and does not sleep.
  *
@@ -181,6 +185,17 @@ struct tags_hand {
 /** initializer of an empty handle */
 #define TAGS_EMPTY { 0, 0, 0, 0, 0, 0 }
 #endif
+
+/** struct tags_hands - a handle for shared hands, empty if all its bytes are 0; its members are the library's */
+struct tags_hands {
+	uint64_t full;
+	struct tags_shared *shared;
+	struct tags_waits *waits;
+	/* which of the hands got each tag last */
+	uint8_t *holders;
+	uint32_t count;
+	uint32_t total;
+};
 
 /**
  * The result of @call, where a refusal can only be a mistake of the program, such as a clear of a
@@ -436,6 +451,48 @@ TAGS_DETAIL_ANSWER int32_t tags_drain_timed(struct tags_pool *pool, int32_t cloc
 					    const struct timespec *deadline);
 
 /**
+ * tags_drain_list() - sleep until each tag of a list has been back
+ * @tags: the tags, of either set, in any order
+ * @count: how many tags the list has, any number; @tags may be NULL if it is 0
+ *
+ * For the end of a part of the work, such as a connection of a server, while the rest goes on:
+ * until each of these tags was found free at some moment of the call, though not all of them at one
+ * moment. A tag that others get after it was found is not waited for again; so the program has to
+ * begin no request of that connection any more. What is held, posted or kept in a cache is not
+ * free. Caches, a stop, and what the thread sees afterwards are as with tags_drain(). A tag that a
+ * tags_resize() takes away counts as free. As the call does not know what the calling thread holds,
+ * it waits for such a tag too, which may be for ever.
+ *
+ * This call looks at the pool at first, and then at most once in a millisecond; and after each of
+ * its looks each hand does so once, as soon as it gives tags back. So a tag is found if it is the
+ * first that its hand gives back, though others get it again at once. One that is got again between
+ * two looks is busy to the second one, and has to be found by a later one. Gets and clears beside
+ * this call take little more time than without it, except that caches keep nothing.
+ *
+ * Threads: as tags_stop().
+ *
+ * Return: TAGS_OK. Otherwise TAGS_NO_SUCH_TAG.
+ */
+TAGS_DETAIL_ANSWER int32_t tags_drain_list(struct tags_pool *pool, const uint32_t *tags,
+					   size_t count);
+
+/**
+ * tags_drain_list_timed() - sleep until each tag of a list has been back, or until a deadline
+ * @tags: the tags, of either set, in any order
+ * @count: how many tags the list has, any number; @tags may be NULL if it is 0
+ *
+ * As tags_drain_list(), but it gives up at the deadline.
+ *
+ * Threads: as tags_stop().
+ *
+ * Return: TAGS_OK. Otherwise TAGS_BAD_TIME, which is checked before the handle, TAGS_NO_SUCH_TAG or
+ * TAGS_TIMED_OUT.
+ */
+TAGS_DETAIL_ANSWER int32_t tags_drain_list_timed(struct tags_pool *pool, const uint32_t *tags,
+						 size_t count, int32_t clock,
+						 const struct timespec *deadline);
+
+/**
  * tags_close() - close a pool whose hands have all left, and empty its handle
  * @sums: filled in with the sums over all hands
  *
@@ -678,7 +735,7 @@ TAGS_DETAIL_CALL int32_t tags_show(struct tags_hand *hand, uint32_t kind, struct
  *
  * That is the number of hands that wait for a tag, including those that were told and have not
  * tried again yet. A hand with futures of another language counts once for each of them that
- * waits. Threads that sleep until all tags are back count too.
+ * waits. Threads that sleep until tags are back count too.
  *
  * Return: the number.
  */
@@ -839,6 +896,124 @@ TAGS_DETAIL_CHECKED int32_t tags_get_notified(struct tags_hand *hand,
  * Return: TAGS_OK. Otherwise TAGS_NOT_WAITING.
  */
 TAGS_DETAIL_CALL int32_t tags_cancel(struct tags_hand *hand);
+
+/*
+ * Hands that threads share, for a program with more threads than hands, or with threads that come
+ * and go. Each is behind a lock. A call takes the hand of the processor that it runs on, or the next
+ * one that no other call has, and only while all are in calls it waits for one. So it is nearly as
+ * fast with any number of threads as with one, but slower than with a hand of the thread's own.
+ *
+ * Any thread may make each of these calls, at any time but beside tags_hands_open() and
+ * tags_hands_close(). The hands hold their tags together, so a tag may be cleared by another thread
+ * than the one that got it: by any that was told of it. To these calls all threads are one holder,
+ * so a tag that is cleared twice is refused only while no other thread has got it.
+ */
+
+/**
+ * tags_hands_open() - fill an empty handle with hands that threads share
+ * @hands: an empty handle
+ * @count: how many hands of the pool it takes, at most TAGS_MAX_HANDS; 0 for one for each
+ * processor, or for all that are free if these are fewer
+ *
+ * One for each processor is the fastest; with fewer, calls meet more often. Other threads may join
+ * the pool with hands of their own, and take part as before. A hand that held tags when it left
+ * still holds them, and these calls can clear them. The handle allocates 128 bytes for each hand
+ * and one for each tag, besides what tags_join() does.
+ *
+ * Threads: as tags_join() for the pool's handle.
+ *
+ * Return: TAGS_OK. Otherwise the first of TAGS_NOT_EMPTY, TAGS_BAD_HANDLE (of @pool),
+ * TAGS_BAD_HAND_COUNT (more than TAGS_MAX_HANDS) and TAGS_NO_HAND (fewer are free, or none) that
+ * applies, or TAGS_NO_MEMORY.
+ */
+TAGS_DETAIL_ANSWER int32_t tags_hands_open(struct tags_pool *pool, struct tags_hands *hands,
+					   uint32_t count);
+
+/**
+ * tags_hands_get() - take a free ordinary tag
+ *
+ * As tags_get(), of which it is one by one of the hands.
+ *
+ * Return: as tags_get().
+ */
+TAGS_DETAIL_ANSWER int32_t tags_hands_get(struct tags_hands *hands);
+
+/**
+ * tags_hands_get_reserved() - take a free reserved tag
+ *
+ * Return: as tags_get_reserved().
+ */
+TAGS_DETAIL_ANSWER int32_t tags_hands_get_reserved(struct tags_hands *hands);
+
+/**
+ * tags_hands_get_blocking() - take a free ordinary tag, and sleep while there is none
+ *
+ * Other calls may use all hands meanwhile. Of the threads that sleep here with the same handle, one at
+ * a time counts as waiting in the pool; the others queue for its turn, and tags_waiting() does not
+ * count them. These calls keep no tag in a cache while a thread sleeps.
+ *
+ * Return: the tag. Otherwise TAGS_SPENT, TAGS_NO_SUCH_TAG if the pool has no ordinary tag, or
+ * TAGS_STOPPED.
+ */
+TAGS_DETAIL_ANSWER int32_t tags_hands_get_blocking(struct tags_hands *hands);
+
+/**
+ * tags_hands_get_timed() - take a free ordinary tag, and sleep until a deadline while there is none
+ *
+ * As tags_hands_get_blocking(), but it gives up at the deadline.
+ *
+ * Return: the tag. Otherwise TAGS_BAD_TIME, which is checked before the handle; TAGS_TIMED_OUT; or
+ * what tags_hands_get_blocking() returns.
+ */
+TAGS_DETAIL_ANSWER int32_t tags_hands_get_timed(struct tags_hands *hands, int32_t clock,
+						const struct timespec *deadline);
+
+/**
+ * tags_hands_clear() - give a held tag back
+ *
+ * It takes the lock of the hand that holds the tag, and sleeps while another call has that, which
+ * is a short time. Otherwise as tags_clear().
+ *
+ * Return: TAGS_OK. Otherwise TAGS_NO_SUCH_TAG, or TAGS_NOT_HELD if none of these hands holds it.
+ */
+TAGS_DETAIL_ANSWER int32_t tags_hands_clear(struct tags_hands *hands, uint32_t tag);
+
+/**
+ * tags_hands_read() - read the slot of a held tag
+ * @value: filled in with the value
+ *
+ * Return: TAGS_OK. Otherwise TAGS_NO_SUCH_TAG or TAGS_NOT_HELD.
+ */
+int32_t tags_hands_read(struct tags_hands *hands, uint32_t tag, uint64_t *value);
+
+/**
+ * tags_hands_write() - write the slot of a held tag
+ * @value: a number, or a pointer cast to uintptr_t
+ * @former: NULL, or filled in with the former value
+ *
+ * Return: TAGS_OK. Otherwise TAGS_NO_SUCH_TAG or TAGS_NOT_HELD.
+ */
+int32_t tags_hands_write(struct tags_hands *hands, uint32_t tag, uint64_t value, uint64_t *former);
+
+/**
+ * tags_hands_flush() - give back all tags that the hands keep
+ *
+ * As tags_flush() with each of them. Call it in a pool with a cache, while nobody makes calls with
+ * the hands and threads with hands of their own wait for tags.
+ *
+ * Return: TAGS_OK.
+ */
+int32_t tags_hands_flush(struct tags_hands *hands);
+
+/**
+ * tags_hands_close() - return all hands to their pool, and empty their handle
+ *
+ * Threads: no other thread may be in a call with @hands.
+ *
+ * Return: TAGS_OK. Otherwise TAGS_IN_USE if one of the hands holds a tag. TAGS_NO_ROOM should never
+ * happen.
+ */
+TAGS_DETAIL_ANSWER int32_t tags_hands_close(struct tags_hands *hands);
 
 /*
  * Statuses

@@ -29,20 +29,22 @@
  *   tags are out. The destructor of a hand returns it to its pool, with the tags that were
  *   released: it still holds those when it joins again. So that no tag is lost unnoticed, the
  *   destructor of a hand that still has tag, batch or listener objects calls
- *   std::terminate(), after a line on stderr; leave() refuses instead. If a pool is destroyed
+ *   std::terminate(), after a line on stderr; leave() refuses instead. Shared hands may not
+ *   even have tags that were released; close() refuses. If a pool is destroyed
  *   before its hands it stays open until the last of them is. Only close() returns the totals:
  *   a pool that was not closed is closed by its destructor, with any tags that are still
  *   released or posted.
  *
  * Threads
  *   Any thread may call any function of a pool at any time, except that nobody else may use a
- *   pool that is moved, closed or destroyed. A hand, with its tags, batches and listeners, is
- *   used by one thread at a time. It may pass to another thread if a mutex, the start of a
- *   thread or the like orders the two.
+ *   pool that is moved, closed or destroyed. So it is with tags::shared_hands, for more threads
+ *   than hands; and a tags::shared_tag, which they get, may pass to another thread alone. A
+ *   hand, with its tags, batches and listeners, is used by one thread at a time. It may pass to
+ *   another thread if a mutex, the start of a thread or the like orders the two.
  *
  * Cancellation
- *   What sleeps is a cancellation point while it does: get_blocking(), join_blocking(), drain()
- *   and the forms of them that begin with try. None of those that sleep is noexcept. With glibc
+ *   What sleeps is a cancellation point while it does: get_blocking(), join_blocking(), drain(),
+ *   drain_list() and the forms of them that begin with try. None of those that sleep is noexcept. With glibc
  *   pthread_cancel() unwinds the stack: destructors run, so the thread's tags go back and its
  *   hand leaves. Code that is compiled without exceptions runs no destructors then: the tags
  *   stay held, and the hand out. Cancel no thread there; pool::stop() ends its wait.
@@ -318,6 +320,54 @@ struct joined {
 
 inline tags_hand *raw(joined *hand) noexcept { return hand != nullptr ? &hand->handle : nullptr; }
 
+/// Hands that threads share. Their tags point to it, so it stays where it is when the object is moved.
+struct shared {
+	static constexpr std::size_t words = TAGS_MAX_TOTAL / 64;
+
+	tags_hands handle = TAGS_EMPTY;
+	opened *pool = nullptr;
+	/// A bit for each tag that the hands hold and for which there is no object.
+	std::atomic<std::uint64_t> loose[words] = {};
+
+	static std::uint64_t bit_of(std::uint32_t tag) noexcept
+	{
+		return std::uint64_t{1} << tag % 64;
+	}
+
+	/// Notes which tags the hands have held since they left before: those whose slots they can read.
+	void find_loose() noexcept
+	{
+		std::uint64_t unused = 0;
+		for (std::uint32_t tag = 0; tag < handle.total; tag++) {
+			if (tags_hands_read(&handle, tag, &unused) == TAGS_OK)
+				let_go(tag);
+		}
+	}
+
+	void let_go(std::uint32_t tag) noexcept { loose[tag / 64].fetch_or(bit_of(tag)); }
+
+	/// Returns whether there was no object: of several threads one gets the tag.
+	bool tie(std::uint32_t tag) noexcept
+	{
+		return (loose[tag / 64].fetch_and(~bit_of(tag)) & bit_of(tag)) != 0;
+	}
+
+	std::int32_t close() noexcept
+	{
+		const std::int32_t status = tags_hands_close(&handle);
+		if (status == TAGS_IN_USE)
+			return status;
+		pool->drop();
+		delete this;
+		return status;
+	}
+};
+
+inline tags_hands *raw(shared *hands) noexcept
+{
+	return hands != nullptr ? &hands->handle : nullptr;
+}
+
 /// Which tags of a pool are busy: what tags_pool_busy() answered, and a bit for each. A look at them
 /// may throw, so it is called here and not by the library.
 struct busy_bits {
@@ -452,6 +502,16 @@ struct for_tag {
 	}
 };
 
+/// The same with shared hands.
+struct for_shared_tag {
+	shared *hands;
+
+	std::int32_t operator()(std::int32_t clock, const std::timespec &deadline) const
+	{
+		return tags_hands_get_timed(raw(hands), clock, &deadline);
+	}
+};
+
 /// Waits for a hand of a pool.
 struct for_hand {
 	tags_pool *from;
@@ -509,6 +569,18 @@ struct for_all_tags {
 	std::int32_t operator()(std::int32_t clock, const std::timespec &deadline) const
 	{
 		return tags_drain_timed(pool, clock, &deadline);
+	}
+};
+
+/// Waits until each tag of a list has been back.
+struct for_listed {
+	tags_pool *pool;
+	const std::uint32_t *numbers;
+	std::size_t count;
+
+	std::int32_t operator()(std::int32_t clock, const std::timespec &deadline) const
+	{
+		return tags_drain_list_timed(pool, numbers, count, clock, &deadline);
 	}
 };
 
@@ -1556,6 +1628,312 @@ private:
 };
 
 /*
+ * Hands that threads share
+ */
+
+/// A tag that shared hands hold, or empty. Its destructor gives the tag back, on whichever thread that
+/// is. Destroy it before its hands.
+class [[nodiscard]] shared_tag {
+public:
+	shared_tag() noexcept = default;
+
+	shared_tag(shared_tag &&other) noexcept
+		: hands_(std::exchange(other.hands_, nullptr)), number_(other.number_)
+	{}
+
+	/// Gives the tag that this object had back, if it had one.
+	shared_tag &operator=(shared_tag &&other) noexcept
+	{
+		shared_tag taken(std::move(other));
+		std::swap(hands_, taken.hands_);
+		std::swap(number_, taken.number_);
+		return *this;
+	}
+
+	~shared_tag() { clear(); }
+
+	/// Whether there is a tag.
+	explicit operator bool() const noexcept { return hands_ != nullptr; }
+
+	/// The number of the tag, below the pool's total. That of an empty object is unspecified.
+	std::uint32_t number() const noexcept { return number_; }
+
+	/// Gives the tag back now, if there is one. Whoever waits for a tag is told.
+	void clear() noexcept
+	{
+		if (hands_ == nullptr)
+			return;
+		detail::shared *const hands = std::exchange(hands_, nullptr);
+		detail::expect(tags_hands_clear(&hands->handle, number_));
+	}
+
+	/// Lets go of the tag without giving it back, and returns its number, for
+	/// shared_hands::adopt() on any thread. An empty object stays so, and its number is
+	/// unspecified.
+	[[nodiscard]] std::uint32_t release() noexcept
+	{
+		if (hands_ != nullptr)
+			std::exchange(hands_, nullptr)->let_go(number_);
+		return number_;
+	}
+
+#ifdef TAGS_THROWS
+	/// The value of the tag's slot. After a get it is unspecified until it is written.
+	///
+	/// Errors: bad_handle.
+	std::uint64_t read() const
+	{
+		std::uint64_t value = 0;
+		detail::check(tags_hands_read(detail::raw(hands_), number_, &value));
+		return value;
+	}
+
+	/// Writes the tag's slot, and returns the former value.
+	///
+	/// Errors: bad_handle.
+	std::uint64_t write(std::uint64_t value)
+	{
+		std::uint64_t former = 0;
+		detail::check(tags_hands_write(detail::raw(hands_), number_, value, &former));
+		return former;
+	}
+#endif
+
+	std::uint64_t read(std::error_code &ec) const noexcept
+	{
+		std::uint64_t value = 0;
+		detail::note(tags_hands_read(detail::raw(hands_), number_, &value), ec);
+		return value;
+	}
+
+	std::uint64_t write(std::uint64_t value, std::error_code &ec) noexcept
+	{
+		std::uint64_t former = 0;
+		detail::note(tags_hands_write(detail::raw(hands_), number_, value, &former), ec);
+		return former;
+	}
+
+private:
+	friend class shared_hands;
+	template <class T>
+	friend class values;
+
+	shared_tag(detail::shared *hands, std::uint32_t number) noexcept
+		: hands_(hands), number_(number)
+	{}
+
+	detail::shared *hands_ = nullptr;
+	std::uint32_t number_ = 0;
+};
+
+/// Hands that any number of threads share, or empty, for more threads than hands, or threads that come
+/// and go. pool::share() makes them. Any thread may make each call, at any time but while the object
+/// is moved or destroyed: it takes the hand of the processor that it runs on, or the next one that no
+/// other call has. A thread with a hand of its own is faster.
+class shared_hands {
+public:
+	shared_hands() noexcept = default;
+
+	shared_hands(shared_hands &&other) noexcept : state_(std::exchange(other.state_, nullptr)) {}
+
+	/// Returns the hands that this object had to their pool, as the destructor does.
+	shared_hands &operator=(shared_hands &&other) noexcept
+	{
+		shared_hands taken(std::move(other));
+		std::swap(state_, taken.state_);
+		return *this;
+	}
+
+	/// Calls std::terminate() if one of the hands still holds a tag.
+	~shared_hands()
+	{
+		if (state_ != nullptr && try_close() == TAGS_IN_USE)
+			detail::give_up("shared hands were destroyed before their tags");
+	}
+
+	/// Whether there are hands.
+	explicit operator bool() const noexcept { return state_ != nullptr; }
+
+	/// How many hands there are; 0 if it is empty.
+	std::uint32_t count() const noexcept { return state_ != nullptr ? state_->handle.count : 0; }
+
+	/// For the calls of tags.h: NULL if it is empty. Give back by them no tag that has an object,
+	/// and give back by them what you get by them.
+	tags_hands *native_handle() noexcept { return raw(); }
+
+#ifdef TAGS_THROWS
+	/// Returns the hands to their pool, as the destructor does. The object is empty then.
+	///
+	/// Errors: bad_handle; in_use if one of them still holds a tag.
+	void close() { detail::check(try_close()); }
+
+	/// Takes a free ordinary tag. No tag: as from hand::get().
+	///
+	/// Errors: bad_handle, spent.
+	[[nodiscard]] std::optional<shared_tag> get() { return found(tags_hands_get(raw())); }
+
+	/// Takes a free reserved tag. No tag: as from hand::get(), of the reserved ones.
+	///
+	/// Errors: bad_handle, no_reserved, spent.
+	[[nodiscard]] std::optional<shared_tag> get_reserved()
+	{
+		return found(tags_hands_get_reserved(raw()));
+	}
+
+	/// Takes a free ordinary tag, and sleeps while there is none. Other threads may use all hands
+	/// meanwhile. While it sleeps it is a cancellation point.
+	///
+	/// Errors: bad_handle, spent, stopped; no_such_tag if the pool has no ordinary tag.
+	shared_tag get_blocking()
+	{
+		const std::int32_t answer = tags_hands_get_blocking(raw());
+		detail::check(answer);
+		return shared_tag(state_, static_cast<std::uint32_t>(answer));
+	}
+
+	/// The same, for at most this long, as hand::try_get_for(). No tag: the time is up.
+	///
+	/// Errors: as of get_blocking().
+	template <class Rep, class Period>
+	[[nodiscard]] std::optional<shared_tag>
+	try_get_for(const std::chrono::duration<Rep, Period> &time)
+	{
+		return found_in_time(detail::wait_for(detail::for_shared_tag{state_},
+						      detail::nanoseconds(time)));
+	}
+
+	/// The same, until this moment of any clock, as hand::try_get_until().
+	///
+	/// Errors: as of get_blocking().
+	template <class Clock, class Duration>
+	[[nodiscard]] std::optional<shared_tag>
+	try_get_until(const std::chrono::time_point<Clock, Duration> &deadline)
+	{
+		return found_in_time(detail::wait_until(detail::for_shared_tag{state_}, deadline));
+	}
+
+	/// Makes an object for a tag that was released: one of these hands holds it, and it has no
+	/// object. That includes the tags that the hands held when they left before.
+	///
+	/// Errors: bad_handle, no_such_tag; not_held for any other number of the pool.
+	shared_tag adopt(std::uint32_t number)
+	{
+		detail::check(try_adopt(number));
+		return shared_tag(state_, number);
+	}
+
+	/// Gives back what the hands keep, as hand::flush() does with each of them.
+	///
+	/// Errors: bad_handle.
+	void flush() { detail::check(tags_hands_flush(raw())); }
+#endif
+
+	void close(std::error_code &ec) noexcept { detail::note(try_close(), ec); }
+
+	[[nodiscard]] std::optional<shared_tag> get(std::error_code &ec) noexcept
+	{
+		return found(tags_hands_get(raw()), ec);
+	}
+
+	[[nodiscard]] std::optional<shared_tag> get_reserved(std::error_code &ec) noexcept
+	{
+		return found(tags_hands_get_reserved(raw()), ec);
+	}
+
+	// The forms that sleep are not noexcept, as those of a hand.
+
+	shared_tag get_blocking(std::error_code &ec)
+	{
+		const std::int32_t answer = tags_hands_get_blocking(raw());
+		detail::note(answer, ec);
+		return answer < 0 ? shared_tag() :
+				    shared_tag(state_, static_cast<std::uint32_t>(answer));
+	}
+
+	template <class Rep, class Period>
+	[[nodiscard]] std::optional<shared_tag>
+	try_get_for(const std::chrono::duration<Rep, Period> &time, std::error_code &ec)
+	{
+		return found_in_time(detail::wait_for(detail::for_shared_tag{state_},
+						      detail::nanoseconds(time)),
+				     ec);
+	}
+
+	template <class Clock, class Duration>
+	[[nodiscard]] std::optional<shared_tag>
+	try_get_until(const std::chrono::time_point<Clock, Duration> &deadline, std::error_code &ec)
+	{
+		return found_in_time(detail::wait_until(detail::for_shared_tag{state_}, deadline), ec);
+	}
+
+	shared_tag adopt(std::uint32_t number, std::error_code &ec) noexcept
+	{
+		const std::int32_t status = try_adopt(number);
+		detail::note(status, ec);
+		return status < 0 ? shared_tag() : shared_tag(state_, number);
+	}
+
+	void flush(std::error_code &ec) noexcept { detail::note(tags_hands_flush(raw()), ec); }
+
+private:
+	friend class pool;
+
+	explicit shared_hands(detail::shared *state) noexcept : state_(state) {}
+
+	tags_hands *raw() const noexcept { return detail::raw(state_); }
+
+	std::int32_t try_close() noexcept
+	{
+		if (state_ == nullptr)
+			return TAGS_BAD_HANDLE;
+		const std::int32_t status = state_->close();
+		if (status != TAGS_IN_USE)
+			state_ = nullptr;
+		return status;
+	}
+
+	std::int32_t try_adopt(std::uint32_t number) noexcept
+	{
+		if (state_ == nullptr)
+			return TAGS_BAD_HANDLE;
+		if (number >= state_->handle.total)
+			return TAGS_NO_SUCH_TAG;
+		return state_->tie(number) ? TAGS_OK : TAGS_NOT_HELD;
+	}
+
+	std::optional<shared_tag> found(std::int32_t answer, std::error_code &ec) const noexcept
+	{
+		detail::note(answer == TAGS_NO_TAG ? TAGS_OK : answer, ec);
+		if (answer < 0)
+			return std::nullopt;
+		return shared_tag(state_, static_cast<std::uint32_t>(answer));
+	}
+
+	std::optional<shared_tag> found_in_time(std::int32_t answer, std::error_code &ec) const noexcept
+	{
+		return found(answer == TAGS_TIMED_OUT ? TAGS_NO_TAG : answer, ec);
+	}
+
+#ifdef TAGS_THROWS
+	std::optional<shared_tag> found(std::int32_t answer) const
+	{
+		if (answer >= 0)
+			return shared_tag(state_, static_cast<std::uint32_t>(answer));
+		if (answer != TAGS_NO_TAG)
+			detail::fail(answer);
+		return std::nullopt;
+	}
+
+	std::optional<shared_tag> found_in_time(std::int32_t answer) const
+	{
+		return found(answer == TAGS_TIMED_OUT ? TAGS_NO_TAG : answer);
+	}
+#endif
+
+	detail::shared *state_ = nullptr;
+};
+
+/*
  * Pools
  */
 
@@ -1649,6 +2027,17 @@ public:
 		return joined_in_time(std::move(made), status);
 	}
 
+	/// Returns so many hands that any number of threads share; 0 for one for each processor, or for
+	/// all that are vacant if these are fewer. Threads may join with hands of their own, too.
+	///
+	/// Errors: bad_handle, bad_hand_count, no_memory; no_hand if fewer are vacant, or none.
+	[[nodiscard]] shared_hands share(std::uint32_t count = 0)
+	{
+		shared_hands made;
+		detail::check(try_share(made, count));
+		return made;
+	}
+
 	/// Sleeps until all tags are back: none of either set is held, posted, or kept in a cache.
 	/// For a shutdown and before a resize, when threads get no more tags; see tags_drain(). While
 	/// it sleeps it is a cancellation point.
@@ -1674,6 +2063,39 @@ public:
 	try_drain_until(const std::chrono::time_point<Clock, Duration> &deadline)
 	{
 		return in_time(detail::wait_until(detail::for_all_tags{raw()}, deadline));
+	}
+
+	/// Sleeps until each tag of a list of any length, of either set and in any order, was found
+	/// free at some moment of the call, though not all of them at one moment. For the end of a
+	/// connection of a server, while others go on; see tags_drain_list(). While it sleeps it is
+	/// a cancellation point.
+	///
+	/// Errors: bad_handle, also for a count without a list; no_such_tag.
+	void drain_list(const std::uint32_t *numbers, std::size_t count)
+	{
+		detail::check(tags_drain_list(raw(), numbers, count));
+	}
+
+	/// The same, for at most this long. Returns whether each tag has been back.
+	///
+	/// Errors: as of drain_list().
+	template <class Rep, class Period>
+	[[nodiscard]] bool try_drain_list_for(const std::uint32_t *numbers, std::size_t count,
+					      const std::chrono::duration<Rep, Period> &time)
+	{
+		return in_time(detail::wait_for(detail::for_listed{raw(), numbers, count},
+						detail::nanoseconds(time)));
+	}
+
+	/// The same, until this moment of any clock. Returns whether each tag has been back.
+	///
+	/// Errors: as of drain_list().
+	template <class Clock, class Duration>
+	[[nodiscard]] bool
+	try_drain_list_until(const std::uint32_t *numbers, std::size_t count,
+			     const std::chrono::time_point<Clock, Duration> &deadline)
+	{
+		return in_time(detail::wait_until(detail::for_listed{raw(), numbers, count}, deadline));
 	}
 
 	/// Changes the number of tags to this, as many of them reserved as before, once all hands
@@ -1777,6 +2199,13 @@ public:
 		return made;
 	}
 
+	[[nodiscard]] shared_hands share(std::uint32_t count, std::error_code &ec) noexcept
+	{
+		shared_hands made;
+		detail::note(try_share(made, count), ec);
+		return made;
+	}
+
 	// The forms that sleep are not noexcept, as those of a hand.
 
 	[[nodiscard]] hand join_blocking(std::error_code &ec)
@@ -1822,6 +2251,31 @@ public:
 	try_drain_until(const std::chrono::time_point<Clock, Duration> &deadline, std::error_code &ec)
 	{
 		return in_time(detail::wait_until(detail::for_all_tags{raw()}, deadline), ec);
+	}
+
+	void drain_list(const std::uint32_t *numbers, std::size_t count, std::error_code &ec)
+	{
+		detail::note(tags_drain_list(raw(), numbers, count), ec);
+	}
+
+	template <class Rep, class Period>
+	[[nodiscard]] bool try_drain_list_for(const std::uint32_t *numbers, std::size_t count,
+					      const std::chrono::duration<Rep, Period> &time,
+					      std::error_code &ec)
+	{
+		return in_time(detail::wait_for(detail::for_listed{raw(), numbers, count},
+						detail::nanoseconds(time)),
+			       ec);
+	}
+
+	template <class Clock, class Duration>
+	[[nodiscard]] bool
+	try_drain_list_until(const std::uint32_t *numbers, std::size_t count,
+			     const std::chrono::time_point<Clock, Duration> &deadline,
+			     std::error_code &ec)
+	{
+		return in_time(detail::wait_until(detail::for_listed{raw(), numbers, count}, deadline),
+			       ec);
 	}
 
 	void resize(std::uint32_t total, std::error_code &ec) noexcept
@@ -1919,6 +2373,23 @@ private:
 		state->pool = shared_;
 		state->find_loose();
 		made = hand(state.release());
+		return TAGS_OK;
+	}
+
+	std::int32_t try_share(shared_hands &made, std::uint32_t count) noexcept
+	{
+		if (shared_ == nullptr)
+			return TAGS_BAD_HANDLE;
+		std::unique_ptr<detail::shared> state(new (std::nothrow) detail::shared);
+		if (!state)
+			return TAGS_NO_MEMORY;
+		const std::int32_t status = tags_hands_open(&shared_->handle, &state->handle, count);
+		if (status != TAGS_OK)
+			return status;
+		shared_->hold();
+		state->pool = shared_;
+		state->find_loose();
+		made = shared_hands(state.release());
 		return TAGS_OK;
 	}
 
@@ -2045,12 +2516,8 @@ public:
 	///
 	/// Errors: no_such_tag if the tag is empty, one of another pool, or not below size(), as
 	/// after pool::resize() without resize().
-	T &at(const tag &held) const
-	{
-		if (!has(held))
-			detail::fail(TAGS_NO_SUCH_TAG);
-		return values_[held.number_];
-	}
+	T &at(const tag &held) const { return checked(held); }
+	T &at(const shared_tag &held) const { return checked(held); }
 
 	/// The value beside one of the tags of a batch.
 	///
@@ -2087,12 +2554,8 @@ public:
 	}
 
 	/// NULL if it is refused.
-	T *at(const tag &held, std::error_code &ec) const noexcept
-	{
-		const bool is_here = has(held);
-		detail::note(is_here ? TAGS_OK : TAGS_NO_SUCH_TAG, ec);
-		return is_here ? &values_[held.number_] : nullptr;
-	}
+	T *at(const tag &held, std::error_code &ec) const noexcept { return noted(held, ec); }
+	T *at(const shared_tag &held, std::error_code &ec) const noexcept { return noted(held, ec); }
 
 	T *at(const batch &held, std::uint32_t number, std::error_code &ec) const noexcept
 	{
@@ -2118,6 +2581,12 @@ public:
 		return values_[held.number_];
 	}
 
+	T &operator[](const shared_tag &held) const noexcept
+	{
+		assert(has(held));
+		return values_[held.number_];
+	}
+
 	/// How many values there are: the pool's total when they were made or resized.
 	std::size_t size() const noexcept { return to_; }
 
@@ -2137,6 +2606,30 @@ private:
 		return held.hand_ != nullptr && held.hand_->pool->number == pool_ &&
 		       held.number_ < to_;
 	}
+
+	bool has(const shared_tag &held) const noexcept
+	{
+		return held.hands_ != nullptr && held.hands_->pool->number == pool_ &&
+		       held.number_ < to_;
+	}
+
+	template <class Tag>
+	T *noted(const Tag &held, std::error_code &ec) const noexcept
+	{
+		const bool is_here = has(held);
+		detail::note(is_here ? TAGS_OK : TAGS_NO_SUCH_TAG, ec);
+		return is_here ? &values_[held.number_] : nullptr;
+	}
+
+#ifdef TAGS_THROWS
+	template <class Tag>
+	T &checked(const Tag &held) const
+	{
+		if (!has(held))
+			detail::fail(TAGS_NO_SUCH_TAG);
+		return values_[held.number_];
+	}
+#endif
 
 	bool has(const batch &held, std::uint32_t number) const noexcept
 	{

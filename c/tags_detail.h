@@ -27,8 +27,8 @@ struct tags_waits {
 
 /*
  * The exports of the library. They do not check for NULL, as the calls below do; that costs nothing
- * if the compiler sees that a pointer is not NULL. A get fills in @left: how many tags it made free
- * and did not take. A flush returns how many tags it gave back.
+ * if the compiler sees that a pointer is not NULL. A get fills in @left, whatever it returns: how
+ * many tags it made free and did not take. A flush returns how many tags it gave back.
  */
 int32_t tags_library_open_cached(struct tags_pool *pool, const struct tags_options *options,
 				 uint32_t cache, uint32_t keeping);
@@ -63,6 +63,8 @@ int32_t tags_library_pool_show(struct tags_pool *pool, uint32_t kind, struct tag
  * this hand gave back or made free; if any hand waits, it gives back the tags that this hand keeps.
  */
 void tags_library_ring(struct tags_hand *hand, uint64_t freed);
+/* Looks for those who wait for the tags of lists, once after each look of theirs: after a get that swept and tells nobody. */
+void tags_library_see_to_lists(struct tags_hand *hand);
 int32_t tags_library_wait(struct tags_hand *hand);
 int32_t tags_library_get_timed(struct tags_hand *hand, int32_t clock,
 			       const struct timespec *deadline);
@@ -129,6 +131,16 @@ void __msan_unpoison(const volatile void *start, size_t size);
 #define TAGS_DETAIL_FILLED(start, size) __msan_unpoison(start, size)
 #else
 #define TAGS_DETAIL_FILLED(start, size) ((void)(start), (void)(size))
+#endif
+
+/*
+ * Declares what the library fills in first of all, so that it needs no value before. But the memory
+ * sanitizer can't see that.
+ */
+#if defined TAGS_LIBRARY || defined TAGS_DETAIL_MEMORY_SANITIZED
+#define TAGS_DETAIL_TO_FILL(type, name) type name = 0
+#else
+#define TAGS_DETAIL_TO_FILL(type, name) type name
 #endif
 
 /*
@@ -309,7 +321,7 @@ TAGS_DETAIL_CALL int32_t tags_leave(struct tags_hand *hand)
 
 TAGS_DETAIL_CALL int32_t tags_get(struct tags_hand *hand)
 {
-	uint64_t left = 0;
+	TAGS_DETAIL_TO_FILL(uint64_t, left);
 	int32_t tag;
 
 	if (!tags_detail_begin(hand))
@@ -320,14 +332,19 @@ TAGS_DETAIL_CALL int32_t tags_get(struct tags_hand *hand)
 
 TAGS_DETAIL_CALL int32_t tags_get_reserved(struct tags_hand *hand)
 {
+	int32_t tag;
+
 	if (!tags_detail_begin(hand))
 		return TAGS_NULL;
-	return tags_detail_end(hand, tags_detail_won(tags_library_get_reserved(hand)));
+	tag = tags_library_get_reserved(hand);
+	if (tag >= 0 && __atomic_load_n(&hand->waits->waiting, __ATOMIC_SEQ_CST) > 0)
+		tags_library_see_to_lists(hand);
+	return tags_detail_end(hand, tags_detail_won(tag));
 }
 
 TAGS_DETAIL_CALL int32_t tags_get_shallow(struct tags_hand *hand, uint32_t depth)
 {
-	uint64_t left = 0;
+	TAGS_DETAIL_TO_FILL(uint64_t, left);
 	int32_t tag;
 
 	if (!tags_detail_begin(hand))
@@ -338,7 +355,7 @@ TAGS_DETAIL_CALL int32_t tags_get_shallow(struct tags_hand *hand, uint32_t depth
 
 TAGS_DETAIL_CALL int32_t tags_get_exactly(struct tags_hand *hand, uint32_t tag)
 {
-	uint64_t left = 0;
+	TAGS_DETAIL_TO_FILL(uint64_t, left);
 	int32_t won;
 
 	if (!tags_detail_begin(hand))
@@ -349,7 +366,7 @@ TAGS_DETAIL_CALL int32_t tags_get_exactly(struct tags_hand *hand, uint32_t tag)
 
 TAGS_DETAIL_CALL int32_t tags_get_batch(struct tags_hand *hand, uint32_t n, uint64_t *won)
 {
-	uint64_t left = 0;
+	TAGS_DETAIL_TO_FILL(uint64_t, left);
 	int32_t first;
 
 	if (!won || !tags_detail_begin(hand))
@@ -406,7 +423,7 @@ TAGS_DETAIL_CALL int32_t tags_flush(struct tags_hand *hand)
 
 TAGS_DETAIL_CALL int32_t tags_get_write(struct tags_hand *hand, uint64_t value)
 {
-	uint64_t left = 0;
+	TAGS_DETAIL_TO_FILL(uint64_t, left);
 	int32_t tag;
 
 	if (!tags_detail_begin(hand))

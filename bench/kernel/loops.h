@@ -8,7 +8,7 @@
  *   GET(user)                         a free tag, or a negative number
  *   CLEAR(user, tag)                  clears a tag
  *   TOUCH(user, slots, tag, value)    exchanges the number beside a tag
- *   GET_BATCH(user, count, first)     up to so many tags side by side: a mask of them, and the first
+ *   GET_BATCH(user, count, first)     up to so many tags side by side: a mask of them, and the first; or there are no batches
  *   CLEAR_BATCH(user, first, mask)    clears these
  *
  * It may be included more than once.
@@ -68,6 +68,7 @@ uint64_t LOOP(ring)(USER *user, volatile uint64_t *slots, uint32_t *held, uint64
 	return rounds + hold;
 }
 
+#ifdef GET_BATCH
 uint64_t LOOP(batches)(USER *user, volatile uint64_t *slots, uint32_t batch, uint64_t rounds)
 {
 	uint64_t won = 0;
@@ -85,6 +86,7 @@ uint64_t LOOP(batches)(USER *user, volatile uint64_t *slots, uint32_t batch, uin
 	}
 	return won;
 }
+#endif
 
 #undef LOOP
 #undef LOOPS

@@ -312,6 +312,40 @@ static struct tags_hand *own_hand(struct tags_pool *pool)
 	return status == TAGS_OK || status == TAGS_NOT_EMPTY ? hand : NULL;
 }
 
+/* Hands for all threads of a program, however many it has: one for each processor. */
+static bool share_hands(struct tags_pool *pool, struct tags_hands *hands)
+{
+	return tags_hands_open(pool, hands, 0) == TAGS_OK;
+}
+
+/* Any thread begins a request. */
+static int32_t submit_shared(struct tags_hands *hands, uint64_t request)
+{
+	int32_t tag = tags_hands_get(hands);
+
+	if (tag >= 0)
+		tags_hands_write(hands, (uint32_t)tag, request, NULL);
+	return tag;
+}
+
+/* And any thread that is told of the tag ends it. */
+static uint64_t complete_shared(struct tags_hands *hands, uint32_t tag)
+{
+	uint64_t request = 0;
+
+	tags_hands_read(hands, tag, &request);
+	TAGS_MUST(tags_hands_clear(hands, tag));
+	return request;
+}
+
+/* A request that must go ahead: a reserved tag, or else whichever is free first. */
+static int32_t get_shared_for_flush(struct tags_hands *hands)
+{
+	int32_t tag = tags_hands_get_reserved(hands);
+
+	return tag == TAGS_NO_TAG ? tags_hands_get_blocking(hands) : tag;
+}
+
 /* A second from now. */
 static struct timespec in_a_second(void)
 {
@@ -330,6 +364,26 @@ static bool join_soon(struct tags_pool *pool, struct tags_hand *hand)
 	return tags_join_timed(pool, hand, 0, CLOCK_MONOTONIC, &end) == TAGS_OK;
 }
 
+/* A tag within a second. */
+static int32_t get_shared_soon(struct tags_hands *hands)
+{
+	const struct timespec end = in_a_second();
+
+	return tags_hands_get_timed(hands, CLOCK_MONOTONIC, &end);
+}
+
+/* No thread makes calls with the hands for a while: they are to keep no tag from those who wait. */
+static void rest_shared(struct tags_hands *hands)
+{
+	tags_hands_flush(hands);
+}
+
+/* Once no thread makes calls with the hands any more. */
+static bool close_shared(struct tags_hands *hands)
+{
+	return tags_hands_close(hands) == TAGS_OK; /* TAGS_IN_USE: a tag was not given back */
+}
+
 /* Ends all waits for a tag, waits until all tags are back, and lets waits begin again. */
 static bool pause_pool(struct tags_pool *pool)
 {
@@ -345,6 +399,20 @@ static bool is_drained(struct tags_pool *pool)
 	const struct timespec end = in_a_second();
 
 	return tags_drain_timed(pool, CLOCK_MONOTONIC, &end) == TAGS_OK;
+}
+
+/* Ends a connection whose requests have these tags, once all of them have ended. Others go on. */
+static bool end_connection(struct tags_pool *pool, const uint32_t *tags, size_t count)
+{
+	return tags_drain_list(pool, tags, count) == TAGS_OK;
+}
+
+/* Whether they have ended within a second. */
+static bool ends_soon(struct tags_pool *pool, const uint32_t *tags, size_t count)
+{
+	const struct timespec end = in_a_second();
+
+	return tags_drain_list_timed(pool, tags, count, CLOCK_MONOTONIC, &end) == TAGS_OK;
 }
 
 /* Changes the number of tags, once all hands have left. */
@@ -451,16 +519,35 @@ static bool runs_on_a_thread(struct tags_pool *pool)
 	       pthread_join(thread, &ended) == 0 && ended == pool;
 }
 
+static bool runs_shared(struct tags_pool *pool)
+{
+	struct tags_hands hands = TAGS_EMPTY;
+	int32_t tags[3];
+
+	if (!share_hands(pool, &hands))
+		return false;
+	tags[0] = submit_shared(&hands, 15);
+	tags[1] = get_shared_for_flush(&hands);
+	tags[2] = get_shared_soon(&hands);
+	for (int i = 0; i < 3; i++)
+		if (tags[i] < 0 || (complete_shared(&hands, (uint32_t)tags[i]) == 15) != (i == 0))
+			return false;
+	rest_shared(&hands);
+	return close_shared(&hands);
+}
+
 int main(void)
 {
 	struct tags_pool pool = TAGS_EMPTY;
 	struct tags_pool cached = TAGS_EMPTY;
 	struct tags_hand hand = TAGS_EMPTY;
 	struct tags_hand other = TAGS_EMPTY;
+	const uint32_t two[] = { 0, 63 };
 	int event = eventfd(0, EFD_NONBLOCK);
 	bool is_well = open_pool(&pool) && open_cached_pool(&cached) && close_pool(&cached) &&
 		       work(&pool) && join_in_turn(&pool, &hand) && join_soon(&pool, &other) &&
-		       runs_with(&hand, &other, event) && runs_on_a_thread(&pool) && !grow(&pool, 128);
+		       runs_with(&hand, &other, event) && runs_on_a_thread(&pool) && runs_shared(&pool) &&
+		       !grow(&pool, 128);
 
 	monitor(&pool);
 	begun[63] = 50000;
@@ -472,7 +559,8 @@ int main(void)
 	for (uint32_t tag = 0; tag < 64; tag++)
 		if (tags_holds(&hand, tag) == 1)
 			TAGS_MUST(tags_clear(&hand, tag));
-	is_well = is_well && pause_pool(&pool) && is_drained(&pool) &&
+	is_well = is_well && end_connection(&pool, two, 2) && ends_soon(&pool, two, 2) &&
+		  pause_pool(&pool) && is_drained(&pool) &&
 		  tags_leave(&hand) == TAGS_OK && tags_leave(&other) == TAGS_OK && grow(&pool, 128);
 	shut_down(&pool);
 	is_well = is_well && close_pool(&pool);

@@ -42,6 +42,23 @@ static bool terminates(const char *line, Run run)
 	       said == std::string("tags.hpp: ") + line + "\n";
 }
 
+static void shared_hands_before_their_tag()
+{
+	const char *const line = "shared hands were destroyed before their tags";
+	CHECK(terminates(line, [] {
+		tags::pool pool(sized(4, 2), ec);
+		tags::shared_tag tag;
+		tags::shared_hands hands = pool.share(2, ec);
+		tag = *hands.get(ec);
+	}));
+	CHECK(terminates(line, [] {
+		tags::pool pool(sized(4, 2), ec);
+		tags::shared_hands hands = pool.share(1, ec);
+		if (hands.get(ec)->release() < 4)
+			hands = pool.share(1, ec);
+	}));
+}
+
 static void a_hand_before_its_tag()
 {
 	const char *const line = "a hand was destroyed before its tags";
@@ -140,6 +157,7 @@ static void orderly_ends()
 int main()
 {
 	a_hand_before_its_tag();
+	shared_hands_before_their_tag();
 	a_tag_given_back_behind_its_object();
 #ifdef __cpp_impl_coroutine
 	listeners();

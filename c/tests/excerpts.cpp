@@ -45,6 +45,23 @@ static void a_misuse()
 	CHECK(false);
 }
 
+static void many_threads()
+{
+	tags::pool pool = opened(8, 4);
+	std::vector<std::thread> threads;
+	std::optional<tags::shared_tag> tag;
+	tags::shared_hands hands = pool.share();
+	for (int i = 0; i < 16; i++)
+		threads.emplace_back([&hands] {
+			const tags::shared_tag own = hands.get_blocking();
+		}); // there the tag goes back
+	tag = hands.get_blocking();
+	threads.emplace_back([moved = std::move(*tag)] { CHECK(moved); });
+	for (std::thread &it : threads)
+		it.join();
+	threads.clear();
+}
+
 static void a_limit()
 {
 	tags::pool pool = opened(1, 2);
@@ -217,6 +234,7 @@ int main()
 	CHECK(serve(pool));
 	a_misuse();
 	a_limit();
+	many_threads();
 	in_flight();
 	several_at_once();
 	passed_together();

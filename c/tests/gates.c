@@ -1,6 +1,6 @@
 /*
- * Waits for a hand, and for all tags to be back: beside threads that join, leave and use tags,
- * with limits, and ended by stops, cancels and closes.
+ * Waits for a hand, and for all tags or those of a list to be back: beside threads that join, leave
+ * and use tags, with limits, and ended by stops, cancels and closes.
  * gates [ROUNDS]
  */
 #define _GNU_SOURCE
@@ -419,6 +419,279 @@ static void limits_of_drains(void)
 	close_pool();
 }
 
+/*
+ * The tags of a list
+ */
+
+/* What a thread waits for, and how that has ended. */
+struct wait {
+	uint32_t tags[TOTAL];
+	size_t count;
+	int32_t answer;
+};
+
+static void *await_list(void *argument)
+{
+	struct wait *wait = argument;
+
+	__atomic_store_n(&wait->answer, tags_drain_list(&pool, wait->tags, wait->count),
+			 __ATOMIC_RELAXED);
+	return NULL;
+}
+
+/* Returns once the thread sleeps. */
+static pthread_t begin_wait(struct wait *wait, int32_t waiting)
+{
+	pthread_t id;
+
+	wait->answer = 1;
+	CHECK(pthread_create(&id, NULL, await_list, wait) == 0);
+	await_waits(waiting);
+	nap(20000);
+	return id;
+}
+
+static void refused_lists(void)
+{
+	const uint32_t good[] = { TOTAL - 1, 0, TOTAL - 1 }, bad[] = { 1, TOTAL };
+	struct tags_hand hand = TAGS_EMPTY;
+	struct timespec end = { 0, 0 };
+	/* a handle of the other kind, as wrong bytes of a program may be */
+	struct tags_pool *wrong_kind = (struct tags_pool *)(void *)&hand;
+
+	CHECK(tags_drain_list(&pool, good, 3) == TAGS_BAD_HANDLE);
+	open_pool(1, 0);
+	CHECK(tags_join(&pool, &hand, 0) == TAGS_OK);
+	CHECK(tags_drain_list(NULL, good, 3) == TAGS_NULL);
+	CHECK(tags_drain_list(&pool, NULL, 1) == TAGS_NULL);
+	CHECK(tags_drain_list(wrong_kind, good, 3) == TAGS_BAD_HANDLE);
+	CHECK(tags_drain_list(&pool, bad, 2) == TAGS_NO_SUCH_TAG);
+	CHECK(tags_drain_list(&pool, bad, 1) == TAGS_OK && tags_drain_list(&pool, good, 3) == TAGS_OK);
+	CHECK(tags_drain_list(&pool, NULL, 0) == TAGS_OK);
+	CHECK(tags_drain_list_timed(NULL, good, 3, CLOCK_MONOTONIC, &end) == TAGS_NULL);
+	CHECK(tags_drain_list_timed(&pool, NULL, 1, CLOCK_MONOTONIC, &end) == TAGS_NULL);
+	CHECK(tags_drain_list_timed(&pool, good, 3, CLOCK_MONOTONIC, NULL) == TAGS_NULL);
+	CHECK(tags_drain_list_timed(wrong_kind, good, 3, 99, &end) == TAGS_BAD_TIME);
+	CHECK(tags_drain_list_timed(wrong_kind, good, 3, CLOCK_REALTIME, &end) == TAGS_BAD_HANDLE);
+	CHECK(tags_drain_list_timed(&pool, bad, 2, CLOCK_REALTIME, &end) == TAGS_NO_SUCH_TAG);
+	CHECK(tags_drain_list_timed(&pool, good, 3, CLOCK_REALTIME, &end) == TAGS_OK);
+	CHECK(tags_drain_list_timed(&pool, NULL, 0, CLOCK_REALTIME, &end) == TAGS_OK);
+	end.tv_nsec = -1;
+	CHECK(tags_drain_list_timed(&pool, good, 3, CLOCK_MONOTONIC, &end) == TAGS_BAD_TIME);
+	leave(&hand);
+	close_pool();
+}
+
+/* Each for a tag that is held, posted or reserved, and none for another one. */
+static void limits_of_lists(void)
+{
+	struct tags_hand hand = TAGS_EMPTY;
+	struct timespec end = { 0, 0 };
+	uint32_t tags[3], other = TOTAL - 1;
+
+	open_pool(1, 0);
+	CHECK(tags_join(&pool, &hand, 0) == TAGS_OK);
+	tags[0] = (uint32_t)TAGS_MUST(tags_get_reserved(&hand));
+	tags[1] = (uint32_t)TAGS_MUST(tags_get_exactly(&hand, 2));
+	tags[2] = (uint32_t)TAGS_MUST(tags_get_exactly(&hand, 3));
+	TAGS_MUST(tags_post(&hand, tags[2]));
+	for (int i = 0; i < 3; i++)
+		CHECK(tags_drain_list_timed(&pool, &tags[i], 1, CLOCK_MONOTONIC, &end) == TAGS_TIMED_OUT);
+	CHECK(tags_drain_list(&pool, &other, 1) == TAGS_OK);
+	end = from_now(CLOCK_REALTIME, 20);
+	errno = 77;
+	CHECK(tags_drain_list_timed(&pool, tags, 3, CLOCK_REALTIME, &end) == TAGS_TIMED_OUT);
+	CHECK(errno == 77 && tags_pool_waiting(&pool) == 0);
+	TAGS_MUST(tags_take(&hand, tags[2]));
+	for (int i = 0; i < 3; i++)
+		TAGS_MUST(tags_clear(&hand, tags[i]));
+	CHECK(tags_drain_list_timed(&pool, tags, 3, CLOCK_REALTIME, &end) == TAGS_OK);
+	leave(&hand);
+	close_pool();
+}
+
+/* A tag that was back is not waited for again, though it never was at the same time as the other. */
+static void one_after_the_other(void)
+{
+	struct wait both = { .tags = { 2, 3, 2 }, .count = 3 }, last = { .tags = { 4 }, .count = 1 };
+	struct tags_hand hand = TAGS_EMPTY;
+	pthread_t ids[2];
+
+	open_pool(1, 0);
+	CHECK(tags_join(&pool, &hand, 0) == TAGS_OK);
+	for (uint32_t tag = 2; tag <= 4; tag++)
+		TAGS_MUST(tags_get_exactly(&hand, tag));
+	ids[0] = begin_wait(&last, 1);
+	ids[1] = begin_wait(&both, 2);
+	CHECK(__atomic_load_n(&both.answer, __ATOMIC_RELAXED) == 1);
+	for (uint32_t tag = 2; __atomic_load_n(&both.answer, __ATOMIC_RELAXED) == 1; tag = 5 - tag) {
+		TAGS_MUST(tags_clear(&hand, tag));
+		TAGS_MUST(tags_get_exactly(&hand, tag));
+		nap(2000);
+	}
+	pthread_join(ids[1], NULL);
+	CHECK(both.answer == TAGS_OK && tags_pool_waiting(&pool) == 1);
+	/* neither a stop nor another tag ends the wait */
+	CHECK(tags_stop(&pool) == TAGS_OK && tags_resume(&pool) == TAGS_OK);
+	TAGS_MUST(tags_clear_mask(&hand, 2, 3));
+	nap(20000);
+	CHECK(__atomic_load_n(&last.answer, __ATOMIC_RELAXED) == 1);
+	TAGS_MUST(tags_clear(&hand, 4));
+	pthread_join(ids[0], NULL);
+	CHECK(last.answer == TAGS_OK && tags_pool_waiting(&pool) == 0);
+	leave(&hand);
+	close_pool();
+}
+
+/* A cancelled wait leaves the other ones as they were: for all tags, and for the same one. */
+static void cancelled_list(void)
+{
+	struct wait waits[2] = { { .tags = { 2 }, .count = 1 }, { .tags = { 2 }, .count = 1 } };
+	struct tags_hand hand = TAGS_EMPTY;
+	int32_t answer = 1;
+	pthread_t ids[2], all;
+	void *result;
+
+	open_pool(1, 0);
+	CHECK(tags_join(&pool, &hand, 0) == TAGS_OK);
+	TAGS_MUST(tags_get_exactly(&hand, 2));
+	CHECK(pthread_create(&all, NULL, drain, &answer) == 0);
+	for (int i = 0; i < 2; i++)
+		ids[i] = begin_wait(&waits[i], i + 2);
+	pthread_cancel(ids[0]);
+	pthread_join(ids[0], &result);
+	CHECK(result == PTHREAD_CANCELED && tags_pool_waiting(&pool) == 2);
+	TAGS_MUST(tags_clear(&hand, 2));
+	pthread_join(ids[1], NULL);
+	pthread_join(all, NULL);
+	CHECK(waits[1].answer == TAGS_OK && answer == TAGS_OK && tags_pool_waiting(&pool) == 0);
+	leave(&hand);
+	close_pool();
+}
+
+/* What a hand keeps is busy, until it goes back with the hand's next clear, or by a flush. */
+static void kept_lists(bool by_flush)
+{
+	struct wait kept = { .tags = { 2 }, .count = 1 };
+	struct tags_hand hand = TAGS_EMPTY;
+	pthread_t id;
+
+	open_pool(1, 4);
+	CHECK(tags_join(&pool, &hand, 0) == TAGS_OK);
+	TAGS_MUST(tags_get_exactly(&hand, 2));
+	TAGS_MUST(tags_get_exactly(&hand, 3));
+	TAGS_MUST(tags_clear(&hand, 2));
+	id = begin_wait(&kept, 1);
+	CHECK(__atomic_load_n(&kept.answer, __ATOMIC_RELAXED) == 1);
+	if (by_flush)
+		TAGS_MUST(tags_flush(&hand));
+	else
+		TAGS_MUST(tags_clear(&hand, 3));
+	pthread_join(id, NULL);
+	CHECK(kept.answer == TAGS_OK);
+	if (by_flush)
+		TAGS_MUST(tags_clear(&hand, 3));
+	leave(&hand);
+	close_pool();
+}
+
+/* The request that has the tag, from 1 on, or 0. What lies beside it is for whoever waited for its end. */
+static uint64_t requests[TOTAL], last_request;
+static bool has_ended;
+
+static void *make_requests(void *unused)
+{
+	struct tags_hand hand = TAGS_EMPTY;
+
+	CHECK(tags_join(&pool, &hand, 0) == TAGS_OK);
+	while (!__atomic_load_n(&has_ended, __ATOMIC_RELAXED)) {
+		const int32_t tag = tags_get_blocking(&hand);
+
+		if (tag < 0)
+			break;
+		__atomic_store_n(&requests[tag], __atomic_add_fetch(&last_request, 1, __ATOMIC_RELAXED),
+				 __ATOMIC_SEQ_CST);
+		nap(tag % 2 * 50);
+		__atomic_store_n(&requests[tag], 0, __ATOMIC_SEQ_CST);
+		TAGS_MUST(tags_clear(&hand, (uint32_t)tag));
+	}
+	leave(&hand);
+	return unused;
+}
+
+/* Waits for the requests that are there now. None of them is when the wait has ended. */
+static void await_requests(bool has_limit)
+{
+	const struct timespec late = from_now(CLOCK_MONOTONIC, 300000);
+	uint64_t awaited[TOTAL];
+	struct wait wait = { .count = 0 };
+
+	for (uint32_t tag = 0; tag < TOTAL; tag++) {
+		awaited[wait.count] = __atomic_load_n(&requests[tag], __ATOMIC_SEQ_CST);
+		if (awaited[wait.count])
+			wait.tags[wait.count++] = tag;
+	}
+	if (has_limit)
+		CHECK(tags_drain_list_timed(&pool, wait.tags, wait.count, CLOCK_MONOTONIC, &late) ==
+		      TAGS_OK);
+	else
+		CHECK(tags_drain_list(&pool, wait.tags, wait.count) == TAGS_OK);
+	for (size_t i = 0; i < wait.count; i++)
+		CHECK(__atomic_load_n(&requests[wait.tags[i]], __ATOMIC_SEQ_CST) != awaited[i]);
+}
+
+static void *end_connections(void *unused)
+{
+	for (long round = 0; round < rounds / 20; round++)
+		await_requests(round % 2);
+	return unused;
+}
+
+/* More threads than tags, so that each tag has a user again at once. */
+static void lists_beside_requests(uint32_t cache)
+{
+	pthread_t ids[THREADS], waiters[HANDS];
+
+	open_pool(THREADS, cache);
+	__atomic_store_n(&has_ended, false, __ATOMIC_RELAXED);
+	for (int i = 0; i < THREADS; i++)
+		CHECK(pthread_create(&ids[i], NULL, make_requests, NULL) == 0);
+	for (int i = 0; i < HANDS; i++)
+		CHECK(pthread_create(&waiters[i], NULL, end_connections, NULL) == 0);
+	for (int i = 0; i < HANDS; i++)
+		pthread_join(waiters[i], NULL);
+	__atomic_store_n(&has_ended, true, __ATOMIC_RELAXED);
+	for (int i = 0; i < THREADS; i++)
+		pthread_join(ids[i], NULL);
+	CHECK(tags_pool_waiting(&pool) == 0);
+	close_pool();
+}
+
+static void *end_request(void *hand)
+{
+	used[2] = -1;
+	TAGS_MUST(tags_clear(hand, 2));
+	return NULL;
+}
+
+/* What a holder wrote before it gave the tag back is seen. */
+static void order_of_lists(void)
+{
+	const uint32_t tag = 2;
+	struct tags_hand hand = TAGS_EMPTY;
+	pthread_t id;
+
+	open_pool(1, 0);
+	CHECK(tags_join(&pool, &hand, 0) == TAGS_OK);
+	TAGS_MUST(tags_get_exactly(&hand, tag));
+	used[2] = 0;
+	CHECK(pthread_create(&id, NULL, end_request, &hand) == 0);
+	CHECK(tags_drain_list(&pool, &tag, 1) == TAGS_OK && used[2] == -1);
+	pthread_join(id, NULL);
+	leave(&hand);
+	close_pool();
+}
+
 /* The address sanitizer would report the frames that a cancel ended. */
 const char *__asan_default_options(void);
 
@@ -441,6 +714,15 @@ int main(int argc, char **argv)
 	limits_of_drains();
 	drain_beside_clears(0);
 	drain_beside_clears(4);
+	refused_lists();
+	limits_of_lists();
+	one_after_the_other();
+	cancelled_list();
+	kept_lists(false);
+	kept_lists(true);
+	lists_beside_requests(0);
+	lists_beside_requests(2);
+	order_of_lists();
 	printf("%" PRIu64 " wrong\n", wrong);
 	return wrong != 0;
 }

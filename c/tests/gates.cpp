@@ -1,4 +1,4 @@
-// Waits for a hand and for all tags of a pool, without a limit and with one, and a stop and a resume.
+// Waits for a hand, for all tags of a pool and for those of a list, without a limit and with one, and a stop and a resume.
 #include "check.hpp"
 
 #include <chrono>
@@ -95,15 +95,47 @@ static void drains()
 	CHECK(!ec);
 }
 
+static void drains_of_lists()
+{
+	tags::pool pool(sized(8, 1, 1), ec);
+	tags::hand hand = pool.join(ec);
+	tags::tag ends = *hand.get(ec), stays = *hand.get(ec);
+	const std::uint32_t both[] = {ends.number(), stays.number()}, none[] = {0, 8};
+	CHECK(!pool.try_drain_list_for(both, 2, 2ms, ec) && !ec);
+	CHECK(!pool.try_drain_list_until(both, 1, std::chrono::system_clock::now() + 2ms, ec) && !ec);
+	CHECK(!pool.try_drain_list_until(both, 1, slow_clock::now(), ec) && !ec);
+	CHECK(pool.try_drain_list_for(none, 1, 0s, ec) && !ec);
+	REFUSED(errc::no_such_tag, pool.drain_list(none, 2, CODE));
+	REFUSED(errc::bad_handle, pool.drain_list(nullptr, 1, CODE));
+	REFUSED(errc::no_such_tag, pool.try_drain_list_for(none, 2, 1ms, CODE));
+	std::atomic<bool> is_over{false};
+	std::thread thread([&] {
+		std::error_code own;
+		pool.drain_list(both, 1, own);
+		is_over = true;
+		CHECK(!own);
+	});
+	std::this_thread::sleep_for(2ms);
+	CHECK(!is_over);
+	ends.clear();
+	thread.join();
+	CHECK(pool.show(tags::kind::ordinary, ec).busy == 1);
+}
+
 static void refusals()
 {
 	tags::pool pool;
+	const std::uint32_t number = 0;
 	REFUSED(errc::bad_handle, pool.join_blocking(CODE));
 	REFUSED(errc::bad_handle, pool.try_join_for(1ms, CODE));
 	REFUSED(errc::bad_handle, pool.try_join_until(std::chrono::steady_clock::now(), CODE));
 	REFUSED(errc::bad_handle, pool.drain(CODE));
 	REFUSED(errc::bad_handle, pool.try_drain_for(1ms, CODE));
 	REFUSED(errc::bad_handle, pool.try_drain_until(std::chrono::system_clock::now(), CODE));
+	REFUSED(errc::bad_handle, pool.drain_list(&number, 1, CODE));
+	REFUSED(errc::bad_handle, pool.try_drain_list_for(&number, 1, 1ms, CODE));
+	REFUSED(errc::bad_handle,
+		pool.try_drain_list_until(&number, 1, std::chrono::system_clock::now(), CODE));
 	REFUSED(errc::bad_handle, pool.resume(CODE));
 }
 
@@ -112,6 +144,7 @@ int main()
 	more_threads_than_hands();
 	joins_give_up();
 	drains();
+	drains_of_lists();
 	refusals();
 	return report();
 }

@@ -23,6 +23,9 @@ enum wait {
 	DRAIN,
 	DRAIN_TIMED,
 	DRAIN_IN_REAL_TIME,
+	LIST,
+	LIST_TIMED,
+	LIST_IN_REAL_TIME,
 	WAITS
 };
 
@@ -81,6 +84,7 @@ static int32_t wait_in(enum wait how)
 {
 	const clockid_t clocks[] = { CLOCK_MONOTONIC, CLOCK_MONOTONIC, CLOCK_REALTIME };
 	const clockid_t clock = clocks[how % 3];
+	const uint32_t listed = (uint32_t)tag;
 	struct timespec end;
 
 	clock_gettime(clock, &end);
@@ -91,8 +95,11 @@ static int32_t wait_in(enum wait how)
 	case JOIN:
 		return how == JOIN ? tags_join_blocking(&pool, &late, 0) :
 				     tags_join_timed(&pool, &late, 0, clock, &end);
-	default:
+	case DRAIN:
 		return how == DRAIN ? tags_drain(&pool) : tags_drain_timed(&pool, clock, &end);
+	default:
+		return how == LIST ? tags_drain_list(&pool, &listed, 1) :
+				     tags_drain_list_timed(&pool, &listed, 1, clock, &end);
 	}
 }
 

@@ -125,6 +125,37 @@ static void refuse_joins(struct tags_pool *pool)
 	check("the hand cannot leave", tags_leave(&hand) == TAGS_OK && kept == before);
 }
 
+static int32_t share_refused(struct tags_pool *pool, struct tags_hands *hands, long number)
+{
+	int32_t status;
+
+	left = number;
+	errno = 0;
+	status = tags_hands_open(pool, hands, 2);
+	left = -1;
+	check("hands that are shared change errno", errno == 0);
+	return status;
+}
+
+static void refuse_shares(struct tags_pool *pool)
+{
+	struct tags_hands hands = TAGS_EMPTY;
+	long number = 1;
+	long before = kept;
+
+	while (share_refused(pool, &hands, number) == TAGS_NO_MEMORY) {
+		check("refused hands are kept", hands.full == 0 && kept == before);
+		number++;
+	}
+	check("shared hands take no memory", number > 4);
+	check("the hands are of use", tags_hands_clear(&hands, (uint32_t)tags_hands_get(&hands)) == TAGS_OK);
+	check("the tag of a hand that left is lost", tags_hands_close(&hands) == TAGS_IN_USE);
+	for (uint32_t tag = 0; tag < hands.total; tag++)
+		if (tags_hands_clear(&hands, tag) == TAGS_OK)
+			check("it is another one", tags_hands_clear(&hands, tag) == TAGS_NOT_HELD);
+	check("the hands cannot be closed", tags_hands_close(&hands) == TAGS_OK && kept == before);
+}
+
 static int32_t resize_refused(struct tags_pool *pool, uint32_t total, long number)
 {
 	int32_t status;
@@ -175,8 +206,9 @@ int main(void)
 	check("a pool takes no memory", number > 10);
 	refuse_resizes(&pool);
 	refuse_joins(&pool);
+	refuse_shares(&pool);
 	fill(&pool);
-	check("the pool cannot be closed", tags_close(&pool, &sums) == TAGS_OK && sums.held == 1);
+	check("the pool cannot be closed", tags_close(&pool, &sums) == TAGS_OK && sums.held == 0);
 	check("memory is kept", kept == 0);
 	printf("%ld allocations of a pool, %d wrong\n", number - 1, wrong);
 	return wrong != 0;

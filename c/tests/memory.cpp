@@ -75,6 +75,10 @@ int main()
 		CHECK(without_memory([&](std::error_code &code) { hand = pool.join(code); }) ==
 		      errc::no_memory);
 		CHECK(!hand && pool);
+		tags::shared_hands hands;
+		CHECK(without_memory([&](std::error_code &code) { hands = pool.share(1, code); }) ==
+		      errc::no_memory);
+		CHECK(!hands && pool);
 		tags::values<int> values;
 		CHECK(without_memory([&](std::error_code &code) {
 			      values = tags::values<int>(pool, code);

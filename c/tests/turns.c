@@ -1,7 +1,7 @@
 /*
  * Who waits at a gate is woken in turn, and only if there is something for it: a hand that leaves
- * wakes one thread, the one that has waited longest, and a drain leaves those in peace who get and
- * clear tags. Whether a thread was woken shows by how often it has given up the processor.
+ * wakes one thread, the one that has waited longest, and drains, of all tags and of a list, leave
+ * those in peace who get and clear tags. Whether a thread was woken shows by how often it has given up the processor.
  * turns [PAIRS]
  */
 #define _GNU_SOURCE
@@ -17,7 +17,7 @@
 
 #include <tags.h>
 
-enum { SLEEPERS = 6, HANDS = 3, WORKERS = 2, POOLS = 40 };
+enum { SLEEPERS = 6, HANDS = 3, WORKERS = 2, POOLS = 40, DRAINS = 3 };
 
 struct sleeper {
 	pthread_t id;
@@ -250,6 +250,15 @@ static void *drain(void *task)
 	return NULL;
 }
 
+static uint32_t listed;
+
+static void *drain_list(void *task)
+{
+	STORE((long *)task, syscall(SYS_gettid));
+	CHECK(tags_drain_list(&pool, &listed, 1) == TAGS_OK);
+	return NULL;
+}
+
 static void *use_tags(void *unused)
 {
 	struct tags_hand hand = TAGS_EMPTY;
@@ -265,19 +274,19 @@ static void *use_tags(void *unused)
 	return unused;
 }
 
-/* The first drain looks now and then, and the second one when the first has ended. */
+/* The first drain and that of a list look now and then, and the second one when the first has ended. */
 static void drain_in_peace(void)
 {
-	pthread_t drains[2], workers[WORKERS];
-	long tasks[2] = { 0, 0 }, before[2];
+	void *(*const ways[DRAINS])(void *task) = { drain, drain, drain_list };
+	pthread_t drains[DRAINS], workers[WORKERS];
+	long tasks[DRAINS] = { 0 }, before[DRAINS];
 	double start;
-	int32_t tag;
 
 	open_pool(WORKERS + 1);
 	CHECK(tags_join(&pool, &hands[0], 0) == TAGS_OK);
-	tag = TAGS_MUST(tags_get(&hands[0]));
-	for (int i = 0; i < 2; i++) {
-		CHECK(pthread_create(&drains[i], NULL, drain, &tasks[i]) == 0);
+	listed = (uint32_t)TAGS_MUST(tags_get(&hands[0]));
+	for (int i = 0; i < DRAINS; i++) {
+		CHECK(pthread_create(&drains[i], NULL, ways[i], &tasks[i]) == 0);
 		await_sleep(&tasks[i]);
 		before[i] = switches_of(tasks[i]);
 	}
@@ -287,11 +296,12 @@ static void drain_in_peace(void)
 	for (int i = 0; i < WORKERS; i++)
 		pthread_join(workers[i], NULL);
 	nap(5);
-	CHECK((double)(switches_of(tasks[0]) - before[0]) < 100 + 4000 * (now() - start));
+	for (int i = 0; i < DRAINS; i += 2)
+		CHECK((double)(switches_of(tasks[i]) - before[i]) < 100 + 4000 * (now() - start));
 	CHECK(switches_of(tasks[1]) == before[1]);
-	CHECK(tags_pool_waiting(&pool) == 2);
-	TAGS_MUST(tags_clear(&hands[0], (uint32_t)tag));
-	for (int i = 0; i < 2; i++)
+	CHECK(tags_pool_waiting(&pool) == DRAINS);
+	TAGS_MUST(tags_clear(&hands[0], listed));
+	for (int i = 0; i < DRAINS; i++)
 		pthread_join(drains[i], NULL);
 	CHECK(tags_pool_waiting(&pool) == 0);
 	CHECK(tags_leave(&hands[0]) == TAGS_OK);

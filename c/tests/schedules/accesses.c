@@ -101,7 +101,6 @@ static void before_plain(enum kind kind, const volatile void *address, size_t si
 		return former; \
 	}
 
-/* What tags.hpp uses of C++ has these, and no program comes to one: they would be refused. */
 #define ATOMIC_COMPARE(bits, type, name) \
 	int __tsan_atomic##bits##_##name(volatile type *address, type *expected, type value, int order, int other); \
 	int __tsan_atomic##bits##_##name(volatile type *address, type *expected, type value, int order, int other) \
@@ -111,6 +110,7 @@ static void before_plain(enum kind kind, const volatile void *address, size_t si
 		(void)other; \
 		before_atomic(OP_CHANGE, address, sizeof(type), order, __ATOMIC_SEQ_CST, PC); \
 		*expected = *address; \
+		tell_step("compares %s: %ld, with %ld", name_of((uintptr_t)address), (long)*expected, (long)former); \
 		if (*expected == former) \
 			*address = value; \
 		return *expected == former; \
@@ -125,6 +125,7 @@ static void before_plain(enum kind kind, const volatile void *address, size_t si
 	ATOMIC_COMPARE(bits, type, compare_exchange_weak) \
 	ATOMIC_COMPARE(bits, type, compare_exchange_strong)
 
+ATOMICS(8, uint8_t)
 ATOMICS(32, uint32_t)
 ATOMICS(64, uint64_t)
 

@@ -5,6 +5,7 @@
 #include "queues.h"
 
 #include "programs.h"
+#include "shared.h"
 
 #include <stdio.h>
 
@@ -125,11 +126,26 @@ static bool is_listed_sleeper(const struct thread *thread)
 	return false;
 }
 
+struct tags_hand *shared_hand(uint32_t number)
+{
+	return &shared_hands->shared->hands[number].hand;
+}
+
+/* Whether a thread sleeps beside a shared hand that is listed, and whose function would wake it. */
+static bool is_listed_sharer(const struct thread *thread)
+{
+	for (uint32_t i = 0; i < scenario->shared; i++)
+		if (is_in_list(i, true) && thread->address - (uintptr_t)hands[i]->place->notice.argument < 512)
+			return true;
+	return false;
+}
+
 static void check_sleeper(uint32_t i)
 {
 	const struct thread *thread = &world->thread[i];
 
-	if (is_asleep(thread) && thread->kind == OP_ASLEEP && !is_at_gate(thread) && !is_listed_sleeper(thread))
+	if (is_asleep(thread) && thread->kind == OP_ASLEEP && !is_at_gate(thread) && !is_listed_sleeper(thread) &&
+	    !is_listed_sharer(thread))
 		fault("thread %u sleeps though it was told", i);
 	/* whoever was listed when a hand looked after a clear does not wait beside what it keeps */
 	if (map_keeps && world->notes.listed[i] && map_keeps(hands[i]->object))
@@ -144,7 +160,7 @@ static bool has_notice(const struct tags_place *place)
 /* Whether a hand's thread has ended, and no future of another thread waits behind the hand. */
 static bool is_over(uint32_t i)
 {
-	return i < world->threads && world->thread[i].is_done && futures_behind(i) == 0;
+	return i >= scenario->shared && i < world->threads && world->thread[i].is_done && futures_behind(i) == 0;
 }
 
 /* The futures that wait beside the first one of their hand. */
@@ -200,17 +216,27 @@ static uint32_t count_broken(void)
 	return n;
 }
 
-void check_quiet_bell(uint32_t asleep, uint32_t drains)
+/* While a thread sleeps beside shared hands, none of these keeps a tag. */
+static void check_kept(void)
+{
+	for (uint32_t i = 0; i < world->threads; i++)
+		for (uint32_t k = 0; map_keeps && is_asleep(&world->thread[i]) && borrows(i) && k < scenario->shared; k++)
+			if (map_keeps(hands[k]->object))
+				fault("thread %u sleeps beside a tag that shared hand %u keeps", i, k);
+}
+
+void check_quiet_bell(uint32_t asleep, uint32_t drains, uint32_t lists)
 {
 	const uint32_t is_armed = drains > 0;
 	uint32_t waiting, listeners, in_lists;
 
 	find_bell();
-	waiting = asleep + count_broken() + is_armed + (bell->is_cached ? drains : 0);
+	waiting = asleep + count_broken() + is_armed + (bell->is_cached ? drains + lists : 0) + lists;
 	listeners = count_listeners();
 
 	for (uint32_t i = 0; i < world->threads; i++)
 		check_sleeper(i);
+	check_kept();
 	if (bell->waking != 0)
 		fault("%u are waking, and nobody is on the way", bell->waking);
 	if (bell->listening != listeners + count_broken())
@@ -226,17 +252,21 @@ void check_quiet_bell(uint32_t asleep, uint32_t drains)
 }
 
 /*
- * Gates of gates.c, of which a pool uses one: who waits there sleeps on what is on its stack
+ * Gates of gates.c, of which a pool uses one, and shared hands another one
  */
 extern struct {
 	pthread_mutex_t lock;
 	uint32_t waiters;
-	void *first;
+	struct tags_waiter *first;
 } gates[16];
 
 bool is_at_gate(const struct thread *thread)
 {
-	return is_asleep(thread) && thread->kind == OP_ASLEEP && !is_in_heap((const void *)thread->address);
+	for (size_t i = 0; i < sizeof(gates) / sizeof(*gates); i++)
+		for (const struct tags_waiter *it = gates[i].first; it; it = it->next)
+			if (thread->address == (uintptr_t)&it->bed)
+				return is_asleep(thread) && thread->kind == OP_ASLEEP;
+	return false;
 }
 
 /* The hands of the scenario that are out. */
@@ -251,18 +281,56 @@ static uint32_t count_hands(void)
 	return n;
 }
 
-void check_quiet_gate(uint32_t hirers, uint32_t drains)
+/* Whoever has the turn of shared hands sleeps beside one, and the others at the gate. */
+static void check_turn(uint32_t sharers)
+{
+	uint32_t n = 0;
+
+	for (uint32_t i = 0; i < world->threads; i++)
+		n += is_asleep(&world->thread[i]) && is_listed_sharer(&world->thread[i]);
+	if (shared_hands->shared->has_turn != n || (sharers > 0 && n == 0))
+		fault("%u have the turn, %u wait for it, and it is %staken", n, sharers,
+		      shared_hands->shared->has_turn ? "" : "not ");
+}
+
+/* Whoever waits for the tags of a list has left out what is free. */
+static void check_left(void)
+{
+	uint64_t busy[1] = { 0 };
+
+	if (tags_pool_busy(pool, busy, 1) < 0)
+		fault("a report was refused");
+	for (size_t i = 0; i < sizeof(gates) / sizeof(*gates); i++)
+		for (const struct tags_waiter *it = gates[i].first; it; it = it->next)
+			if (it->left && it->left->words[0] & ~busy[0])
+				fault("a wait for %lx goes on, and %lx are busy", (unsigned long)it->left->words[0],
+				      (unsigned long)busy[0]);
+}
+
+/* Each hand is to look for those who wait for the tags of lists, once it gives tags back. */
+static void check_lookers(uint32_t lists)
+{
+	for (uint32_t i = 0; lists > 0 && i <= world->threads; i++)
+		if (hand_at(i) && hand_at(i)->place->looks == bell->looks)
+			fault("hand %u would not look for %u that wait for tags of lists", i, lists);
+}
+
+void check_quiet_gate(uint32_t hirers, uint32_t drains, uint32_t lists, uint32_t sharers)
 {
 	uint32_t waiters = 0;
 
 	find_bell();
 	for (size_t i = 0; i < sizeof(gates) / sizeof(*gates); i++)
 		waiters += gates[i].waiters;
-	if (waiters != hirers + drains)
-		fault("%u wait at the gate, not %u", hirers + drains, waiters);
-	if (bell->draining != drains || bell->is_armed != (drains > 0))
-		fault("%u drain the pool, not %u, and one of them is %sto be told", drains, bell->draining,
-		      bell->is_armed ? "" : "not ");
+	if (waiters != hirers + drains + lists + sharers)
+		fault("%u wait at the gates, not %u", hirers + drains + lists + sharers, waiters);
+	if (scenario->shared)
+		check_turn(sharers);
+	check_left();
+	check_lookers(lists);
+	if (bell->draining != drains + lists || bell->listing != lists || bell->is_armed != (drains > 0))
+		fault("%u drain the pool, not %u, and one of them is %sto be told", drains + lists,
+		      bell->draining, bell->is_armed ? "" : "not ");
 	if (hirers > 0 && count_hands() < bell->hands)
 		fault("%u wait for a hand beside one that is vacant", hirers);
 	if (hirers > 0 && bell->waits.stops % 2)
@@ -281,7 +349,8 @@ void check_closed_bell(void)
 	for (uint32_t i = 0; i < bell->hands; i++)
 		if (!is_idle(&bell->places[i]))
 			fault("the last hand in place %u left a wait there", i);
-	if (bell->waits.waiting || bell->listening || bell->waking || bell->draining || bell->is_armed || listed())
+	if (bell->waits.waiting || bell->listening || bell->waking || bell->draining || bell->is_armed ||
+	    bell->listing || listed())
 		fault("somebody waits after the last leave");
 }
 
@@ -296,7 +365,8 @@ bool is_of_hand(const volatile void *address)
 /* Of a thread that has ended. One whose eventfd was closed in its wait never learns of a tag. */
 void check_idle_place(uint32_t thread)
 {
-	if (!hand_at(thread) || scenario->program[thread] == breaker || futures_behind(thread) > 0)
+	if (!hand_at(thread) || scenario->program[thread] == breaker || thread < scenario->shared ||
+	    futures_behind(thread) > 0)
 		return;
 	if (!is_idle(hands[thread]->place) || is_in_list(thread, false) || is_in_list(thread, true))
 		fault("thread %u has ended, and its place is not idle", thread);
@@ -337,6 +407,8 @@ static const struct {
 	{ offsetof(struct bell, waking), "waking" },
 	{ offsetof(struct bell, draining), "draining" },
 	{ offsetof(struct bell, is_armed), "is_armed" },
+	{ offsetof(struct bell, listing), "listing" },
+	{ offsetof(struct bell, looks), "looks" },
 	{ offsetof(struct bell, lock), "the lock" },
 }, fields[] = {
 	{ offsetof(struct tags_place, lock), "lock" },
@@ -351,6 +423,7 @@ static const struct {
 	{ offsetof(struct tags_place, notice.is_lasting), "is_lasting" },
 	{ offsetof(struct tags_place, is_waiting), "is_waiting" },
 	{ offsetof(struct tags_place, stops), "the stops of its wait" },
+	{ offsetof(struct tags_place, looks), "looks" },
 };
 
 /* The locks of handles of pools.c. */

@@ -6,8 +6,8 @@ small    every schedule of each small scenario, over the model of the library
 races    the same, with each access to memory as a step, for all but the largest: looks for data races
 true     over the library itself, as assembly for x86-64: the scenarios that are small enough, with the calls that the model lacks, and C++
 large    four threads completely, few preemptions of larger scenarios, and schedules at random: seven minutes
-mutants  plants errors, one at a time, and looks whether they are found: three minutes. `mutants NAME..` plants these
-gate     what the merge gate runs: small, races, a part of true, and an error of each kind: six minutes
+mutants  plants errors, one at a time, and looks whether they are found: ten minutes. `mutants NAME..` plants these
+gate     what the merge gate runs: small, races, a part of true, and an error of each kind: fourteen minutes
 
 The minutes are of one processor, and it takes up to 2 GB. --seed N makes other schedules at random. It takes gcc, g++ and binutils, on x86-64 Linux.
 """
@@ -22,13 +22,15 @@ import mutants
 
 # These take long with each access as a step.
 TOO_LARGE_FOR_RACES = """three_of_two hider_two mixed_of_two loops_of_two loops_three loops_broken_of_two shallow_pairs
-    tasks_of_two hider_tasks timed_out owes shares_of_two shares_stop""".split()
+    tasks_of_two hider_tasks timed_out owes shares_of_two shares_stop shared shared_two shared_timed shared_stop
+    shared_turns shared_wakes shared_ends shared_swept lists_swept lists_differ lists_kept""".split()
 # These take seconds over the library itself, with those that need it.
 SMALL_FOR_TRUE = """sleepers signals heir words calls stop stop_listeners stop_timed stop_joins loop loops hider hider_loop hidden timed resizes closes
-    resizes_reported closes_reported hires hires_timed hires_stop hires_two hires_grabbed hires_stop_two reopens drains drains_kept drains_stop shares_drop shares_stop_drop""".split()
+    resizes_reported closes_reported hires hires_timed hires_stop hires_two hires_grabbed hires_stop_two reopens drains drains_kept drains_stop lists lists_again
+    lists_beside_drain shares_drop shares_stop_drop shared_lock shared_kept shared_calls""".split()
 # Of those that need it, these have races looked for as well.
-RACES_FOR_TRUE = "posts masks reserved robin batches resizes hires hires_two reopens drains_stop plus_owners plus_joins plus_stop plus_resume plus_waits plus_loop plus_quits".split()
-TRUE_IN_GATE = "stop hidden loops calls posts masks reserved robin batches resizes resizes_reported hires hires_two reopens drains_stop plus_owners plus_joins plus_stop".split()
+RACES_FOR_TRUE = "posts masks reserved robin batches resizes hires hires_two reopens drains_stop lists_again plus_owners plus_joins plus_stop plus_resume plus_waits plus_loop plus_quits".split()
+TRUE_IN_GATE = "stop hidden loops calls posts masks reserved robin batches resizes resizes_reported hires hires_two reopens drains_stop lists_again shared_passes plus_owners plus_joins plus_stop".split()
 # Large, but complete. The others are too large for that, and one of them for two preemptions.
 COMPLETE = "kept_posts kept_three four_sleepers four_loops".split()
 ONE_PREEMPTION = ["four_ways"]
@@ -38,8 +40,10 @@ IN_GATE = """clear_looks_first sleeper_is_not_signalled get_looks_only_if_it_won
     join_without_the_handle hands_share_a_place count_rises_after_the_listing wait_ends_in_the_other_list closed_eventfd_counts_as_told
     whom_a_round_told_is_forgotten stop_rings_before_it_stops cancelled_sleeper_stays_listed waking_never_falls
     ring_gives_no_kept_tags_back leave_tells_nobody_at_the_gate clear_tells_no_drain cancelled_wait_stays_at_its_gate
-    told_one_that_gives_up_tells_nobody second_hand_tells_the_first_again close_answers_nobody drain_that_ends_tells_no_other destroyed_coroutine_leaves_its_hand_listed
-    function_outlives_the_wait dropped_future_leaves_its_hand_told resumed_stop_ends_no_wait""".split()
+    told_one_that_gives_up_tells_nobody second_hand_tells_the_first_again close_answers_nobody drain_that_ends_tells_no_other
+    clear_looks_through_lists_before_the_lock round_looks_through_no_list destroyed_coroutine_leaves_its_hand_listed
+    function_outlives_the_wait dropped_future_leaves_its_hand_told resumed_stop_ends_no_wait lock_is_freed_and_wakes_nobody
+    shared_call_wakes_with_the_lock turn_is_given_up_and_nobody_told kept_tags_of_shared_hands_stay""".split()
 # Instructions for ARM by which threads meet: those that are weaker than sequentially consistent, and the others.
 WEAKER = re.compile(r"^\s+(ldap\w*|ldx\w*|stx\w*|(cas|swp|ld(add|clr|set|eor|[su]max|[su]min))(?!p?al)\w*|st(add|clr|set|eor)\w*)\s", re.M)
 ORDERED = re.compile(r"^\s+(ldar|stlr|ldaxr|stlxr|(cas|swp|ld(add|clr|set|eor|[su]max|[su]min))p?al)\w*\s", re.M)

@@ -100,6 +100,8 @@ struct notes {
 	bool clears[MAX_THREADS];
 	/* the threads that have begun to drain it, and have not ended that unless they were cancelled */
 	uint32_t drains;
+	/* the tags for which the thread waits, or waited last, as a mask */
+	uint32_t awaited[MAX_THREADS];
 	/* the threads whose wait a stop has to end, as a mask */
 	uint32_t stopped;
 	/* how often the pool was closed, and another one opened in its handle */

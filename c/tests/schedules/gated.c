@@ -1,5 +1,5 @@
 /*
- * Programs that sleep at a gate: until a hand is there, or until all tags are back.
+ * Programs that sleep at a gate: until a hand is there, or until tags are back.
  */
 #include "tags.h"
 
@@ -129,7 +129,77 @@ void timed_drainer(int me)
 	drain(me, true);
 }
 
-bool drains(uint32_t thread)
+/*
+ * The tags of a list
+ */
+
+/* Notes for which tags the thread waits, as a mask, and returns how many it has put into the list. */
+static size_t await_tags(int me, uint32_t tags, uint32_t *list)
+{
+	size_t count = 0;
+
+	world->notes.awaited[me] = tags;
+	for (uint32_t tag = 0; tag < scenario->tags; tag++)
+		if (tags >> tag & 1)
+			list[count++] = tag;
+	return count;
+}
+
+static void drain_list(int me, uint32_t tags, bool has_limit)
+{
+	uint8_t holders[MAX_TAGS];
+	uint32_t list[MAX_TAGS];
+	const size_t count = await_tags(me, tags, list);
+	int32_t answer;
+
+	for (int i = 0; i < MAX_TAGS; i++)
+		holders[i] = tags >> i & 1 ? world->notes.holder[i] : 0;
+	world->thread[me].is_late = false;
+	if (has_limit)
+		answer = CALL(tags_drain_list_timed(pool, list, count, CLOCK_MONOTONIC, &deadline));
+	else
+		answer = CALL(tags_drain_list(pool, list, count));
+	if (answer == TAGS_OK)
+		check_drained(holders);
+	else
+		may_end(me, answer, has_limit, false);
+}
+
+/* Waits for the tags that it finds busy. */
+void lister(int me)
+{
+	for (int round = 0; goes_on(me, round); round++) {
+		uint64_t busy = 0;
+
+		if (CALL(tags_pool_busy(pool, &busy, 1)) < 0)
+			fault("a report was refused");
+		drain_list(me, (uint32_t)busy, false);
+	}
+}
+
+/* Waits for one tag, which is another one for the next thread. */
+void timed_lister(int me)
+{
+	for (int round = 0; goes_on(me, round); round++)
+		drain_list(me, UINT32_C(1) << (uint32_t)me % scenario->tags, true);
+}
+
+bool drains_all(uint32_t thread)
 {
 	return scenario->program[thread] == drainer || scenario->program[thread] == timed_drainer;
+}
+
+bool drains_list(uint32_t thread)
+{
+	return scenario->program[thread] == lister || scenario->program[thread] == timed_lister;
+}
+
+bool drains(uint32_t thread)
+{
+	return drains_all(thread) || drains_list(thread);
+}
+
+uint32_t awaits(uint32_t thread)
+{
+	return drains_list(thread) ? world->notes.awaited[thread] : 0;
 }

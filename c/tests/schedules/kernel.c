@@ -22,6 +22,13 @@ int *kernel_errno(void)
 	return current < 0 ? &own_errno : &self()->error;
 }
 
+/* Each thread has a processor of its own. As a call that succeeds may, it changes errno. */
+int kernel_getcpu(void)
+{
+	*kernel_errno() = ENOSYS;
+	return current < 0 ? 0 : current;
+}
+
 /*
  * Memory
  */

@@ -13,6 +13,7 @@ int *kernel_errno(void);
 void *kernel_calloc(size_t count, size_t size);
 void *kernel_realloc(void *start, size_t size);
 long kernel_syscall(long number, ...);
+int kernel_getcpu(void);
 int kernel_mutex_init(pthread_mutex_t *mutex, const pthread_mutexattr_t *attributes);
 int kernel_mutex_destroy(pthread_mutex_t *mutex);
 int kernel_mutex_lock(pthread_mutex_t *mutex);

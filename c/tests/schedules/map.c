@@ -45,6 +45,8 @@ struct member {
 	/* from its first round to its last one */
 	bool is_waiting;
 	bool is_spent;
+	/* a get, a clear or a round goes on: two at once are a fault */
+	bool is_in_call;
 };
 
 struct map {
@@ -399,12 +401,21 @@ static int32_t get(struct member *member, uint64_t *left)
 	return tag;
 }
 
+static struct member *begin(struct member *member)
+{
+	if (member->is_in_call)
+		fault("hand %u is in two calls at once", member->number);
+	member->is_in_call = true;
+	return member;
+}
+
 int32_t tags_library_get(struct tags_hand *hand, uint64_t *left)
 {
-	struct member *member = member_of(hand);
+	struct member *member = begin(member_of(hand));
+	const int32_t tag = is_spent(member) ? (int32_t)TAGS_SPENT : get(member, left);
 
-	*left = 0;
-	return is_spent(member) ? (int32_t)TAGS_SPENT : get(member, left);
+	member->is_in_call = false;
+	return tag;
 }
 
 int32_t tags_library_get_shallow(struct tags_hand *hand, uint32_t depth, uint64_t *left)
@@ -526,11 +537,21 @@ int32_t tags_library_clear(struct tags_hand *hand, uint32_t tag)
 		return TAGS_NO_SUCH_TAG;
 	if (!(member->held & bit))
 		return TAGS_NOT_HELD;
+	begin(member);
 	is_kept = member->map->cache > 0 && keep(member, bit);
 	member->held &= ~bit;
 	if (!is_kept)
 		set_aside(member, tag);
+	member->is_in_call = false;
 	return 0;
+}
+
+/* No other thread sees this. */
+int32_t tags_library_holds(struct tags_hand *hand, uint32_t tag)
+{
+	if (tag >= member_of(hand)->map->depth)
+		return TAGS_NO_SUCH_TAG;
+	return (member_of(hand)->held >> tag & 1) != 0;
 }
 
 int32_t tags_library_clear_mask(struct tags_hand *hand, uint32_t first, uint64_t mask)
@@ -781,28 +802,33 @@ static int32_t make_round(struct tags_hand *hand, uint32_t list, int32_t why, bo
 	return tag == TAGS_NO_TAG ? tag : end_wait(member, list, tag, told);
 }
 
+static int32_t make_round_alone(struct tags_hand *hand, uint32_t list, int32_t why, bool again, struct tags_told *told)
+{
+	struct member *member = begin(member_of(hand));
+	const int32_t answer = make_round(hand, list, why, again, told);
+
+	member->is_in_call = false;
+	return answer;
+}
+
 int32_t tags_library_wait_on(struct tags_hand *hand, int32_t why, uint32_t again, struct tags_told *told)
 {
-	return make_round(hand, SLEEPERS, why, again, told);
+	return make_round_alone(hand, SLEEPERS, why, again, told);
 }
 
 int32_t tags_library_listen_on(struct tags_hand *hand, int32_t why, uint32_t again, struct tags_told *told)
 {
-	return make_round(hand, LISTENERS, why, again, told);
+	return make_round_alone(hand, LISTENERS, why, again, told);
 }
 
 /*
  * Reports
  */
 
-int32_t tags_library_pool_busy(struct tags_pool *pool, uint64_t *into, size_t words)
+static int32_t report_busy(const struct map *map, uint64_t *into, size_t words)
 {
-	struct map *map = map_of(pool);
 	int32_t busy = 0;
 
-	if (!map)
-		return TAGS_BAD_HANDLE;
-	use_handle(map, "report");
 	memset(into, 0, words * sizeof(*into));
 	for (uint32_t word = 0; word < map->words; word++) {
 		uint64_t bits = map->word[word] & ~map->aside[word] & bits_of(map, word);
@@ -811,6 +837,24 @@ int32_t tags_library_pool_busy(struct tags_pool *pool, uint64_t *into, size_t wo
 		busy += (int32_t)count(bits);
 	}
 	return busy;
+}
+
+int32_t tags_library_pool_busy(struct tags_pool *pool, uint64_t *into, size_t words)
+{
+	struct map *map = map_of(pool);
+
+	if (!map)
+		return TAGS_BAD_HANDLE;
+	use_handle(map, "report");
+	return report_busy(map, into, words);
+}
+
+int32_t tags_library_busy(struct tags_hand *hand, uint64_t *into, size_t words)
+{
+	const struct map *map = member_of(hand)->map;
+
+	stop(map, "reports by a hand");
+	return report_busy(map, into, words);
 }
 
 int32_t tags_library_pool_show(struct tags_pool *pool, uint32_t kind, struct tags_sizes *sizes)

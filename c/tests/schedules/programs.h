@@ -52,6 +52,7 @@ void taker(int me);
 void mask_poster(int me);
 void mask_taker(int me);
 void reserver(int me);
+void all_reserver(int me);
 
 /* lives.c: joins, leaves, and what happens to a whole pool */
 void stopper(int me);
@@ -74,9 +75,25 @@ void applicant(int me);
 void timed_applicant(int me);
 void drainer(int me);
 void timed_drainer(int me);
-/* Whether the thread drains the pool, or waits for a hand. */
+/* shares.c: hands that threads share */
+void borrower(int me);
+void shared_sleeper(int me);
+void shared_timed(int me);
+void shared_poster(int me);
+void shared_taker(int me);
+void shared_caller(int me);
+/* Whether the thread uses shared hands alone. */
+bool borrows(uint32_t thread);
+/* gated.c: waits for the tags of lists */
+void lister(int me);
+void timed_lister(int me);
+/* Whether the thread waits until tags are back, all of them or those of a list, or waits for a hand. */
 bool drains(uint32_t thread);
+bool drains_all(uint32_t thread);
+bool drains_list(uint32_t thread);
 bool hires(uint32_t thread);
+/* The tags of the list for which the thread waits, as a mask. */
+uint32_t awaits(uint32_t thread);
 /* Whether a thread stops the pool. */
 bool has_stop(void);
 

@@ -14,17 +14,20 @@ void check_state(void)
 		check_bell();
 }
 
-/* Ordinary tags that are free. */
-static uint32_t count_free(void)
+static uint64_t find_busy(void)
 {
 	uint64_t busy[1] = { 0 };
 
-	if (tags_pool_busy(pool, busy, 1) < 0) {
+	if (tags_pool_busy(pool, busy, 1) < 0)
 		fault("a report was refused");
-		return 0;
-	}
+	return busy[0];
+}
+
+/* Ordinary tags that are free. */
+static uint32_t count_free(void)
+{
 	return scenario->tags - scenario->reserved -
-	       (uint32_t)__builtin_popcountll(busy[0] >> scenario->reserved);
+	       (uint32_t)__builtin_popcountll(find_busy() >> scenario->reserved);
 }
 
 bool is_asleep(const struct thread *thread)
@@ -36,7 +39,8 @@ bool is_asleep(const struct thread *thread)
 static bool waits_for_a_thread(uint32_t i)
 {
 	return world->thread[i].kind == OP_POLL &&
-	       (scenario->program[i] == taker || scenario->program[i] == mask_taker);
+	       (scenario->program[i] == taker || scenario->program[i] == mask_taker ||
+		scenario->program[i] == shared_taker);
 }
 
 void note_stop(void)
@@ -71,6 +75,14 @@ static uint32_t count_asleep(void)
 	return n;
 }
 
+/* Nobody waits for tags that are all free. */
+static void check_lists(void)
+{
+	for (uint32_t i = 0; i < world->threads; i++)
+		if (awaits(i) && is_at_gate(&world->thread[i]) && !(find_busy() & awaits(i)))
+			fault("thread %u waits for tags of a list though they are back", i);
+}
+
 static void check_locks(void)
 {
 	for (uint32_t i = 0; i < world->threads; i++)
@@ -82,7 +94,8 @@ static void check_locks(void)
 void check_quiet(void)
 {
 	uint32_t asleep = count_asleep();
-	uint32_t draining = count_at_gate(drains);
+	uint32_t draining = count_at_gate(drains_all);
+	uint32_t listing = count_at_gate(drains_list);
 
 	check_locks();
 	if (is_closed()) {
@@ -92,11 +105,31 @@ void check_quiet(void)
 	}
 	if (asleep > 0 && count_free() > 0)
 		fault("%u wait beside a free tag", asleep);
-	if (draining > 0 && count_free() == scenario->tags - scenario->reserved)
-		fault("%u wait for all tags though they are back", draining);
+	if (draining + listing > 0 && !find_busy())
+		fault("%u wait for tags though all are back", draining + listing);
+	check_lists();
 	check_stopped();
-	check_quiet_bell(asleep, draining);
-	check_quiet_gate(count_at_gate(hires), draining);
+	check_quiet_bell(asleep, draining, listing);
+	check_quiet_gate(count_at_gate(hires), draining, listing, count_at_gate(borrows));
+}
+
+/* They are not closed before the tags are back that their threads hold. */
+static void close_shared(void)
+{
+	bool holds_any = false;
+
+	for (uint32_t tag = 0; tag < scenario->tags; tag++) {
+		const uint8_t holder = world->notes.holder[tag];
+
+		if (holder == 0 || !borrows(holder - 1U))
+			continue;
+		if (!holds_any)
+			EXPECT(TAGS_IN_USE, tags_hands_close(shared_hands));
+		holds_any = true;
+		world->notes.holder[tag] = 0;
+		EXPECT(TAGS_OK, tags_hands_clear(shared_hands, tag));
+	}
+	EXPECT(TAGS_OK, tags_hands_close(shared_hands));
 }
 
 /* All hands leave, and the pool is closed. */
@@ -105,7 +138,9 @@ static void close_pool(void)
 	struct tags_sums sums;
 	uint64_t held = scenario->taken;
 
-	for (uint32_t i = 0; i <= world->threads; i++)
+	if (scenario->shared)
+		close_shared();
+	for (uint32_t i = scenario->shared; i <= world->threads; i++)
 		if (hands[i]->full)
 			EXPECT(TAGS_OK, tags_leave(hands[i]));
 	for (uint32_t i = 0; i < world->threads; i++)

@@ -12,6 +12,7 @@ extern "C" {
 #endif
 
 struct tags_hand;
+struct tags_hands;
 struct tags_pool;
 
 struct scenario {
@@ -26,6 +27,8 @@ struct scenario {
 	int32_t shift;
 	/* the tags that nobody gives back: an extra hand holds them */
 	uint32_t taken;
+	/* the hands that threads share: in place of those of the first threads */
+	uint32_t shared;
 	/* the pool's hands, which thread 0 has; 0 for one for each thread and one more */
 	uint32_t hands;
 	/* the tags that the pool had before it was resized; 0 if it was not */
@@ -67,6 +70,8 @@ const char *name_of_program(int thread);
 extern struct tags_pool *pool;
 /* one for each thread, and one that holds what nobody gives back */
 extern struct tags_hand *hands[MAX_THREADS + 1];
+/* those that threads share, if any, whose first ones are in `hands`, too */
+extern struct tags_hands *shared_hands;
 /* a second one for each thread, which it waits for */
 extern struct tags_hand *second_hands[MAX_THREADS];
 
@@ -137,9 +142,14 @@ bool is_asleep(const struct thread *thread);
  * how that is made.
  */
 void check_bell(void);
-void check_quiet_bell(uint32_t asleep, uint32_t drains);
-/* What must hold of threads that wait for a hand, and whether a thread sleeps at a gate. */
-void check_quiet_gate(uint32_t hirers, uint32_t drains);
+void check_quiet_bell(uint32_t asleep, uint32_t drains, uint32_t lists);
+/*
+ * What must hold of threads that wait for a hand, for tags, or for the turn of shared hands; and
+ * whether one sleeps at a gate.
+ */
+void check_quiet_gate(uint32_t hirers, uint32_t drains, uint32_t lists, uint32_t sharers);
+/* A hand that threads share. */
+struct tags_hand *shared_hand(uint32_t number);
 bool is_at_gate(const struct thread *thread);
 void check_closed_bell(void);
 void check_idle_place(uint32_t thread);

@@ -2,7 +2,13 @@
  * Included before each file that is explored. It has the two things that can't be put in place of
  * others by their names in the object file (names.txt): macros.
  */
+#ifndef _GNU_SOURCE
+#define _GNU_SOURCE
+#endif
 #include <pthread.h>
+
+/* A look more or less before the sleep for a lock would only be more states. */
+#define TAGS_LOOKS 1
 
 /* tags.h is not to report to the thread sanitizer, whose functions accesses.c has. */
 #undef __SANITIZE_THREAD__

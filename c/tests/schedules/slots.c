@@ -160,3 +160,21 @@ void reserver(int me)
 	}
 	end_program(me);
 }
+
+/* Takes the reserved tags that it finds, and gives them back one after the other. */
+void all_reserver(int me)
+{
+	uint64_t held = 0;
+
+	for (uint32_t i = 0; i < scenario->reserved; i++) {
+		const int32_t tag = CALL(tags_get_reserved(hands[me]));
+
+		if (tag == TAGS_NO_TAG)
+			break;
+		take_tag(me, tag);
+		held |= UINT64_C(1) << tag;
+	}
+	for (; held && !holds_for_ever(); held &= held - 1)
+		clear_tag(me, __builtin_ctzll(held));
+	end_program(me);
+}

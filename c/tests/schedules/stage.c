@@ -11,6 +11,7 @@
 struct tags_pool *pool;
 struct tags_hand *hands[MAX_THREADS + 1];
 struct tags_hand *second_hands[MAX_THREADS];
+struct tags_hands *shared_hands;
 uint32_t own_allocations;
 
 bool has_program(void (*program)(int me))
@@ -51,9 +52,19 @@ void open_pool(void)
 		EXPECT(TAGS_OK, tags_resize(pool, scenario->tags));
 }
 
+static void share_some(void)
+{
+	shared_hands = take_own(sizeof(*shared_hands));
+	EXPECT(TAGS_OK, tags_hands_open(pool, shared_hands, scenario->shared));
+	for (uint32_t i = 0; i < scenario->shared; i++)
+		hands[i] = shared_hand(i);
+}
+
 static void join_all(void)
 {
-	for (uint32_t i = 0; i <= world->threads; i++) {
+	if (scenario->shared)
+		share_some();
+	for (uint32_t i = scenario->shared; i <= world->threads; i++) {
 		hands[i] = take_own(sizeof(*hands[i]));
 		if (i < count_hands())
 			EXPECT(TAGS_OK, tags_join(pool, hands[i], TAGS_STAY));

@@ -60,7 +60,7 @@ module _ {R : Type 0} where
   layout_kept xs old new is = ap (λ (r : Record R). r.shape.layout) is.known
 
   -- the caller has nothing to see to if its steps say so
-  owes_none : (list : ℕ) (xs : List (Step R)) (old new : Caller R) → OnlyAdds xs old new
+  pub owes_none : (list : ℕ) (xs : List (Step R)) (old new : Caller R) → OnlyAdds xs old new
       → steps.OwesNothing (layout_of old) list (xs ++ (record_of old).steps) → OwesNothing list new
   owes_none list xs old new is holds = subst (λ (x : Layout × List (Step R)). steps.OwesNothing x.0 list x.1)
       (λ j. (sym (layout_kept xs old new is) j, sym (steps_added xs old new is) j)) holds

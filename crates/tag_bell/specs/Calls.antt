@@ -3,7 +3,7 @@ use Rattle.std.specs.Prelude.{◌++◌, ◌<◌, ◌↔◌, ◌∷◌, ◌≡◌
 use Rattle.tag_bell.specs.Uses.{[], Bell, bit_and, bit_or, Bool, Caller, cond, Enlist, GetUp, IsTrue, length, List, nat_eq, Post, record_of, SameMap, Sight, Step, Take, Tell, Word, word_of, ℕ}
 use Rattle.tag_core.specs.declared.bell_step.BellStep.{BellStep}
 use Rattle.tag_bell.specs.declared.told.Told.{Told}
-use Rattle.tag_bell.specs.Callers.{layout_of, OwesNothing}
+use Rattle.tag_bell.specs.Callers.{HasTriedAll, layout_of, OwesNothing}
 use Rattle.tag_bell.specs.Waiting.{OwesTag}
 
 -- these steps joined the caller's own, newest first, and nothing else of its record changed
@@ -23,6 +23,10 @@ OwesNoneWhere here list caller = let l = layout_of caller in
 -- if the caller had nothing to see to, it has nothing now
 abbrev pub OwesNoMore : {R : Type 0} → ℕ → Caller R → Caller R → Type 0
 OwesNoMore list old new = OwesNothing list old → OwesNothing list new
+
+-- if the caller had tried each tag in vain, it still has
+abbrev pub HasTriedNoLess : {R : Type 0} → ℕ → Caller R → Caller R → Type 0
+HasTriedNoLess list old new = HasTriedAll list old → HasTriedAll list new
 
 -- it looked once at each list, and found them so
 abbrev pub LooksAtLists : {R : Type 0} → ℕ → ℕ → Caller R → Caller R → Type 0

@@ -8,7 +8,7 @@ ghost use Rattle.tag_bell.specs.Calls.{OwesNoMore, FindsWaiters, LooksAtLists, T
 ghost use Rattle.tag_bell.specs.Selection.{IsSelection, TellsFew, TellsFewIn, TellsFewOf};
 
 use crate::told::{LISTENERS, SLEEPERS, Told};
-use tag_core::{Caller, Map};
+use tag_core::{Caller, Map, Unroused};
 
 /// Sees to all that the caller has to see to, after it made `freed` tags free: where somebody waits, it tells up to
 /// `freed` callers of each list, and one at least. Returns those told. Where nobody waits it makes two loads.
@@ -89,7 +89,7 @@ fn tell_each<R>(
 
 /// Tells some callers of a list that was found so, and if all of these were told or got up meanwhile, whoever is listed.
 /// Returns those told.
-fn tell_some<R>(map: &Map<R>, caller: &mut Caller<R>, list: u32, most: u32, listed: u64) -> u64
+fn tell_some<R>(map: &Map<R>, caller: &mut Caller<R>, list: u32, most: u32, listed: u64) -> Unroused
     requires caller { IsCallerOf map.now caller.old }
     requires within { list < LISTS }
     requires listed { listed ≡ 0 → OwesNothing list caller.old }
@@ -102,11 +102,11 @@ fn tell_some<R>(map: &Map<R>, caller: &mut Caller<R>, list: u32, most: u32, list
     ensures kept { HoldsSame caller.old caller.new }
 {
     if listed == 0 {
-        return 0;
+        return Unroused::none();
     }
     let mask = longest_waits(map, listed, most);
-    let told = map.tell(caller, list, mask) & mask;
-    if told != 0 {
+    let told = map.tell(caller, list, mask);
+    if told.callers() != 0 {
         return told;
     }
     map.tell(caller, list, u64::MAX)

@@ -2,11 +2,11 @@
 ghost use Rattle.std.specs.Prelude.{◌≡◌, ◌≢◌, ℕ, ◌<◌, ◌↔◌, IsTrue, false, []};
 ghost use Rattle.std.specs.Int.{bit_at};
 ghost use Rattle.tag_core.specs.declared.bell.TheConstants.{LISTS};
-ghost use Rattle.tag_core.specs.declared.bell_step.BellStep.TheVariants.{Enlist, GetUp};
+ghost use Rattle.tag_core.specs.declared.bell_step.BellStep.TheVariants.{Enlist, GetUp, Sight};
 ghost use Rattle.tag_core.specs.Callers.{IsCallerOf, record_of};
 ghost use Rattle.tag_core.specs.Holding.{HoldsSame};
 ghost use Rattle.tag_bell.specs.Callers.{IsWaiting, IsUp, WaitsAsBefore, OwesNothing};
-ghost use Rattle.tag_bell.specs.Calls.{Rings, OwesNoMore};
+ghost use Rattle.tag_bell.specs.Calls.{HasTriedNoLess, Rings, OwesNoMore};
 
 use tag_core::{Caller, Map};
 
@@ -55,11 +55,19 @@ pub fn get_up<R>(map: &Map<R>, caller: &mut Caller<R>, list: u32) -> bool
     !map.is_listed(caller, found)
 }
 
-/// Returns whether the caller was told, or does not wait there. It is no step of the caller, so no clause says what it
-/// finds: it is for one that sleeps, which gets up once it is told.
-pub fn is_told<R>(map: &Map<R>, caller: &Caller<R>, list: u32) -> bool
-    requires caller { IsCallerOf map.now caller.now }
+/// Looks whether the caller was told: returns whether it does not find itself listed there, so also if it does not wait
+/// there. One step.
+pub fn is_told<R>(map: &Map<R>, caller: &mut Caller<R>, list: u32) -> bool
+    requires caller { IsCallerOf map.now caller.old }
     requires within { list < LISTS }
+    ensures caller { IsCallerOf map.now caller.new }
+    ensures waits { (other : ℕ) → WaitsAsBefore other caller.old caller.new }
+    ensures tried { (other : ℕ) → HasTriedNoLess other caller.old caller.new }
+    ensures owes { (other : ℕ) → OwesNoMore other caller.old caller.new }
+    ensures step { (found : ℕ) × Rings (Sight list found) caller.old caller.new
+        × (IsTrue result ↔ (bit_at found (record_of caller.old).number ≡ 0)) }
+    ensures kept { HoldsSame caller.old caller.new }
 {
-    !map.is_listed(caller, map.peek_listed(list))
+    let listed = map.sight(caller, list);
+    !map.is_listed(caller, listed)
 }

@@ -2,7 +2,7 @@
 //! they say was told is theirs to wake. Whether a hand was told only tests ask.
 ghost use Rattle.std.specs.Prelude.{◌≡◌, ◌<◌};
 ghost use Rattle.tag_core.specs.declared.bell.TheConstants.{LISTS};
-ghost use Rattle.tag_c.specs.Bell.{list_of, told_of, Answers, DoesSeeTo, SaysNumber};
+ghost use Rattle.tag_c.specs.Bell.{list_of, told_of, DoesSeeTo, SaysIfTold, SaysNumber};
 ghost use Rattle.tag_c.specs.Calls.{CallsBy};
 ghost use Rattle.tag_c.specs.Codes.{IsRefusal};
 
@@ -27,8 +27,8 @@ impl ToldHands {
         ensures { told_of result ≡ told }
     {
         ToldHands {
-            sleepers: told.sleepers,
-            listeners: told.listeners,
+            sleepers: told.sleepers(),
+            listeners: told.listeners(),
         }
     }
 }
@@ -43,10 +43,10 @@ fn list_of(listens: u32) -> u32
 
 /// Calls of those who see to others that wait.
 trait BellCalls: AnyHand {
-    /// Returns 1 if the hand was told, or does not wait there, and 0 if not.
+    /// Looks once whether the hand was told: returns 1 if it was, or does not wait there, and 0 if not.
     fn is_told(&mut self, list: u32) -> i32
         requires { list < LISTS }
-        ensures { Self.changes (Answers result) self.old self.new };
+        ensures { Self.changes (SaysIfTold list result) self.old self.new };
 
     /// Sees to all that the hand has to see to, after it gave so many ordinary tags back, and fills in whom it told.
     fn see_to(&mut self, freed: u32, told: &mut ToldHands) -> i32
@@ -60,7 +60,7 @@ trait BellCalls: AnyHand {
 impl BellCalls for Member {
     #[inline(always)]
     fn is_told(&mut self, list: u32) -> i32 {
-        i32::from(self.shared.tags.is_told(&self.hand, list))
+        i32::from(self.shared.tags.is_told(&mut self.hand, list))
     }
 
     #[inline(always)]
@@ -95,7 +95,7 @@ impl BellCalls for CachedMember {
 
 #[unsafe(no_mangle)]
 pub extern "C" fn tags_is_told(hand: &mut Handle, listens: u32) -> i32
-    ensures { CallsBy (Answers result) result hand.old.object.value hand.new.object.value }
+    ensures { CallsBy (SaysIfTold (list_of listens) result) result hand.old.object.value hand.new.object.value }
 {
     let list = list_of(listens);
     on_hand!(hand.is_told(list))

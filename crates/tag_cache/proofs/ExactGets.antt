@@ -1,5 +1,5 @@
 -- What a get of one given tag gives the user of a cache.
-use Rattle.std.specs.Prelude.{◌+◌, ◌<◌, ◌≡◌}
+use Rattle.std.specs.Prelude.{◌≡◌}
 use Rattle.tag_cache.proofs.Uses.{answered, ap, arith, back_in_both, Cache, Err, FailsFirst, Found, Hand, HandsOut, IfOk, IfOk-weaker, inl, inr, IsAnswer, IsHandOf, IsKept, IsUnchanged, KeepsSame, kind_of, Layout, Ok, OnErr, Option, Ordinary, PassesAll, Pool, refl, RefusesBy}
 use Rattle.tag_cache.proofs.Uses.{reserved_of, Result, SameWindow, Side, Some, subst, sym, TagFault, Tallies, won_in_both, Woken, ℕ}
 use Rattle.tag_search.specs.Gains.{count_of}

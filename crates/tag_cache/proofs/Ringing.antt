@@ -27,6 +27,20 @@ module _ {R : Type 0} where
     moves = moves_in Ordinary 0 0 _ a b (λ c d (l : bell.GetsUp list told c d). adds_rests _ c d l.step.1) x;
   }
 
+  pub asks_rests : (list : ℕ) (told : Bool) (a b : Hand R) → HoldsSame a b
+      → Changes Ordinary (bell.LooksIfTold list told) a b → Rests a b
+  asks_rests list told a b held x = record {
+    held = held;
+    moves = moves_in Ordinary 0 0 _ a b (λ c d (l : bell.LooksIfTold list told c d). adds_rests _ c d l.step.1) x;
+  }
+
+  pub sleeps_rests : (list : ℕ) (a b : Hand R) → HoldsSame a b → Changes Ordinary (bell.SleepsUntilTold list) a b
+      → Rests a b
+  sleeps_rests list a b held x = record {
+    held = held;
+    moves = moves_in Ordinary 0 0 _ a b (λ c d (l : bell.SleepsUntilTold list c d). adds_rests _ c d l.sleeps.looks) x;
+  }
+
   pub looks_rests : (found : Bool) (a b : Hand R) → HoldsSame a b
       → Changes Ordinary (bell.LooksForWaiters found) a b → Rests a b
   looks_rests found a b held x = record {

@@ -34,10 +34,14 @@ module _ {R : Type 0} where
     sleep_moves list a b s = moves_then 0 0 a s.listed b (lists_moves list a s.listed s.lists)
         (gets_moves pool Ordinary None s.listed b s.none)
 
-    sleeps_moves : (sleeps : ℕ) (a b : Hand R) → hands.AreSleeps sleeps pool a b → Moves 0 0 a b
+    told_moves : (a b : Hand R) → hands.UntilTold a b → Moves 0 0 a b
+    told_moves a b x = moves_in Ordinary 0 0 _ a b
+        (λ c d (l : bell.SleepsUntilTold SLEEPERS c d). adds_rests _ c d l.sleeps.looks) x
+
+    sleeps_moves : (sleeps : ℕ) (a b : Hand R) → hands.AreSleeps sleeps pool hands.UntilTold a b → Moves 0 0 a b
     sleeps_moves zero a b same = (rests_unchanged a b same).moves
-    sleeps_moves (suc sleeps) a b slept = moves_then 0 0 a slept.0 b (sleeps_moves sleeps a slept.0 slept.1)
-        (sleep_moves SLEEPERS slept.0 b slept.2)
+    sleeps_moves (suc sleeps) a b slept = moves_then 0 0 a slept.0 b (sleeps_moves sleeps a slept.0 slept.2)
+        (moves_then 0 0 slept.0 slept.1 b (sleep_moves SLEEPERS slept.0 slept.1 slept.3) (told_moves slept.1 b slept.4))
 
     ends_moves : (list : ℕ) (told : Told) (a b : Hand R) → hands.EndsWait pool list told a b → Moves 0 0 a b
     ends_moves list told a b e = moves_then 0 0 a e.risen b
@@ -52,7 +56,7 @@ module _ {R : Type 0} where
         (ends_moves list told w.won b w.ends))
 
     wins_moves : (tag : ℕ) (told : Told) (a b : Hand R)
-        → hands.WinsAtOnce pool (Some tag) told a b ⊎ hands.SleepsForOne pool ⊥ (Some tag) told a b → Moves 1 0 a b
+        → hands.WinsAtOnce pool (Some tag) told a b ⊎ hands.SleepsForOne pool hands.UntilTold ⊥ (Some tag) told a b → Moves 1 0 a b
     wins_moves tag told a b (inl w) = moves_then 1 0 a w.won b (gets_moves pool Ordinary (Some tag) a w.won w.wins)
         (sees_moves 1 _ told w.won b w.sees.set)
     wins_moves tag told a b (inr s) = let w = s.sleeps in

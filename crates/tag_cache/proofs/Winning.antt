@@ -1,6 +1,6 @@
 -- What a round of a wait gives the user of a cache.
-use Rattle.std.specs.Prelude.{◌+◌, ◌↔◌, ◌≡◌}
-use Rattle.tag_cache.proofs.Uses.{ap, arith, back_in_both, Cache, count_of, false, Hand, inl, inr, IsCacheOf, IsTrue, KeepsNone, KeepsSame, Learns, nobody, Ordinary, Pool, refl, reused_of, Reuses, SameWindow, Tallies, Told, won_in_both, ℕ}
+use Rattle.std.specs.Prelude.{◌↔◌, ◌≡◌}
+use Rattle.tag_cache.proofs.Uses.{ap, arith, back_in_both, Cache, false, Hand, inl, inr, IsCacheOf, IsTrue, KeepsNone, KeepsSame, Learns, Pool, refl, Reuses, SameWindow, Tallies, Told, won_in_both, ℕ}
 use Rattle.tag_model.proofs.HoldingFacts.{more_then_same}
 use Rattle.tag_pool.specs.Waits as hands
 use Rattle.tag_pool.specs.declared.gets.rounds.Next.{Next}

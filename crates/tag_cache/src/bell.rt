@@ -40,12 +40,15 @@ impl<R: Copy> Cache<R> {
         pool.get_up(&mut self.hand, list)
     }
 
-    /// Returns whether the hand was told, or does not wait there, as `Pool::is_told` does.
-    pub fn is_told(&self, pool: &Pool<R>, list: u32) -> bool
-        requires cache { IsCacheOf pool.now self.now }
+    /// Looks whether the hand was told, as `Pool::is_told` does.
+    pub fn is_told(&mut self, pool: &Pool<R>, list: u32) -> bool
+        requires cache { IsCacheOf pool.now self.old }
         requires within { list < LISTS }
+        ensures cache { IsCacheOf pool.now self.new }
+        ensures looks { Changes Ordinary (bell.LooksIfTold list result) (hand_of self.old) (hand_of self.new) }
+        ensures same { SameTags self.old self.new }
     {
-        pool.is_told(&self.hand, list)
+        pool.is_told(&mut self.hand, list)
     }
 
     /// Sees to all that the hand has to see to, after its user gave `freed` ordinary tags back, which became free or are

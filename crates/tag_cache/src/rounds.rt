@@ -51,10 +51,11 @@ impl<R: Copy> Cache<R> {
         ensures tries { Tries pool.now list result.0 result.1 self.old self.new }
     {
         let (next, told) = pool.wait_on(&mut self.hand, list, false, turn);
-        if let Next::Won(tag) = next {
-            self.learn(tag);
-        }
-        (next, told)
+        let Next::Won(tag) = next else {
+            return (next, told);
+        };
+        self.learn(tag);
+        (Next::Won(tag), told)
     }
 
     /// Ends a wait: the hand gets up, and then sees to all tags. Returns those told, who are to be woken.

@@ -59,16 +59,19 @@ impl<R: Copy> Cache<R> {
         Ok(got)
     }
 
-    /// Sleeps until the hand is told. It may sleep only if nothing is kept, and the hand is listed among the sleepers,
-    /// has tried each ordinary tag in vain since, and has nothing to see to, as after a get that found none. It makes
-    /// no step.
-    pub fn sleep<W: Wait>(&self, rt: &W, pool: &Pool<R>)
-        requires cache { IsCacheOf pool.now self.now }
-        requires none { KeepsNone self.now }
-        requires waiting { IsWaiting SLEEPERS (caller_of (hand_of self.now) Ordinary) }
-        requires may { MaySleep (caller_of (hand_of self.now) Ordinary) }
+    /// Sleeps until the hand finds itself told, as `Pool::sleep` does. It may sleep only if nothing is kept, and the hand is
+    /// listed among the sleepers, has tried each ordinary tag in vain since, and has nothing to see to, as after a get that
+    /// found none.
+    pub fn sleep<W: Wait>(&mut self, rt: &W, pool: &Pool<R>)
+        requires cache { IsCacheOf pool.now self.old }
+        requires none { KeepsNone self.old }
+        requires waiting { IsWaiting SLEEPERS (caller_of (hand_of self.old) Ordinary) }
+        requires may { MaySleep (caller_of (hand_of self.old) Ordinary) }
+        ensures cache { IsCacheOf pool.now self.new }
+        ensures sleeps { hands.UntilTold (hand_of self.old) (hand_of self.new) }
+        ensures same { SameTags self.old self.new }
     {
-        pool.sleep(rt, &self.hand);
+        pool.sleep(rt, &mut self.hand);
     }
 
     /// Wakes the sleepers among those that a call told. It makes no step, and changes nothing if nobody was told.

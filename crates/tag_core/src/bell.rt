@@ -1,5 +1,5 @@
 //! Lists of the callers that wait: how a caller lists itself, is told, and gets up.
-ghost use Rattle.std.specs.Prelude.{◌≡◌, ℕ, ◌<◌, ◌↔◌, IsTrue, bit_and};
+ghost use Rattle.std.specs.Prelude.{◌≡◌, ℕ, ◌<◌, ◌^◌, ◌↔◌, IsTrue, bit_and};
 ghost use Rattle.std.specs.Int.{bit_at};
 ghost use Rattle.tag_model.specs.declared.world.TheConstants.{MAX_CALLERS};
 ghost use Rattle.tag_core.specs.Callers.{IsCallerOf, IsUnchanged, record_of, Adds};
@@ -13,9 +13,39 @@ use crate::map::Map;
 use crate::plays::{Enlisting, GettingUp, Sighting, Telling, Turning};
 use crate::sleeps::TURN;
 use crate::spots::{clock_spot, list_spot, turn_spot};
+use std::marker::Model;
 
 /// Number of lists of the callers that wait: one of those that sleep, and one of those that are told by other means.
 pub const LISTS: u32 = 2;
+
+/// Callers that were told, a bit for the number of each: 1 is told. Contracts see the number. Only `tell` makes one that is
+/// not 0, and only its callers can be roused by it.
+#[derive(Drop)]
+pub struct Unroused {
+    callers: u64,
+}
+
+impl Model for Unroused {
+    ghost Value = { ℕ };
+
+    ghost view = { λ told. told.callers };
+}
+
+impl Unroused {
+    /// Nobody.
+    pub fn none() -> Unroused
+        ensures { result ≡ 0 }
+    {
+        Unroused { callers: 0 }
+    }
+
+    /// Returns the callers that were told.
+    pub fn callers(&self) -> u64
+        ensures { result ≡ self.now }
+    {
+        self.callers
+    }
+}
 
 impl<R> Map<R> {
     /// The caller's bit in a list.
@@ -59,17 +89,21 @@ impl<R> Map<R> {
         table.load::<Sighting>(&mut caller.seat, list_spot(list))
     }
 
-    /// Removes the callers of a mask from a list, and returns the list as it was. Those of the mask that were listed are
-    /// told by it. One step, `fetch_and`.
-    pub fn tell(&self, caller: &mut Caller<R>, list: u32, mask: u64) -> u64
+    /// Removes the callers of a mask from a list. Those of them that were listed are told by it, and returned. One step,
+    /// `fetch_and`.
+    pub fn tell(&self, caller: &mut Caller<R>, list: u32, mask: u64) -> Unroused
         requires caller { IsCallerOf self.now caller.old }
         requires within { list < LISTS }
         ensures caller { IsCallerOf self.now caller.new }
-        ensures step { Adds (Bell (Tell list mask result)) caller.old caller.new }
+        ensures step { (found : ℕ) × (found < 2 ^ 64) × Adds (Bell (Tell list mask found)) caller.old caller.new
+            × (result ≡ bit_and found mask) }
         ensures kept { HoldsSame caller.old caller.new }
     {
         let table = &self.table.shared;
-        table.fetch_and::<Telling>(&mut caller.seat, list_spot(list), !mask)
+        let found = table.fetch_and::<Telling>(&mut caller.seat, list_spot(list), !mask);
+        Unroused {
+            callers: found & mask,
+        }
     }
 
     /// Removes the caller from a list, and returns the list as it was: its own bit is 0 there if somebody has told it. One
@@ -104,12 +138,5 @@ impl<R> Map<R> {
         requires { caller < MAX_CALLERS }
     {
         self.table.shared.peek(turn_spot(caller))
-    }
-
-    /// Loads a list without a caller. The load is in no list of steps, so no clause says what it finds.
-    pub fn peek_listed(&self, list: u32) -> u64
-        requires { list < LISTS }
-    {
-        self.table.shared.peek(list_spot(list))
     }
 }

@@ -31,7 +31,7 @@ mod together;
 mod word_held;
 mod word_step;
 
-pub use bell::LISTS;
+pub use bell::{LISTS, Unroused};
 pub use bell_step::BellStep;
 pub use caller::Caller;
 pub use claims::{Claim, Spent};
@@ -43,7 +43,7 @@ pub use opens::OpenFault;
 pub use record::{Record, View};
 pub use settled::Settled;
 pub use shape::Shape;
-pub use sleeps::Roused;
+pub use sleeps::{OwnTurn, Roused};
 pub use step::Step;
 pub use step_ledger::GatherCause;
 pub use together::Gathering;

@@ -1,6 +1,6 @@
 -- A first try, and what follows it, are together a get.
 use Rattle.std.specs.Prelude.{◌+◌, ◌<◌, ◌≡◌, ◌≤◌}
-use Rattle.tag_pool.proofs.Uses.{ap, arith, Caller, Err, Found, Hand, IfErr, IfOk, IfSome, IsHandOf, Makes, Map, None, Ok, Option, Ordinary, Pool, record_of, refl, reserved_of, Result, Shape, Side, Some, subst, sym, whole, ℕ, ℕ_set, ◌∙◌}
+use Rattle.tag_pool.proofs.Uses.{ap, arith, Caller, Err, Found, Hand, IfErr, IfOk, IfSome, IsHandOf, Makes, Map, None, Ok, Option, Ordinary, Pool, record_of, refl, reserved_of, Result, Shape, Side, Some, split_of, subst, sym, whole, ℕ, ℕ_set, ◌∙◌}
 use Rattle.tag_core.specs.Callers as core
 use Rattle.tag_search.specs.declared.hint.Hint.{Hint}
 use Rattle.tag_search.specs.declared.search.Unfinished.{Unfinished}
@@ -135,6 +135,13 @@ module _ {R : Type 0} (pool : Pool R) (hand : Hand R) (own : IsHandOf pool hand)
     left = got.left;
     bound = let few = got.bound in omega arith;
   }
+
+  -- the same of a tag that is counted from the first ordinary one as the hand knows it
+  pub does_get_own : (number : ℕ) → GetsIn pool.ordinary (record { answer = Some number; left = 0 }) hand.ordinary new
+      → DoesGet pool (Ok (record { answer = Some (split_of hand + number); left = 0 })) hand (record hand { ordinary = new })
+  does_get_own number got = subst
+      (λ (first : ℕ). DoesGet pool (Ok (record { answer = Some (first + number); left = 0 })) hand (record hand { ordinary = new }))
+      (sym own.2) (does_get (Some number) 0 got)
 
   -- a first try of the ordinary side that won nothing began the hand's get
   pub begins : (rest : Unfinished) → side.HasRoom hand.ordinary 1 → side.HasRoom new 1

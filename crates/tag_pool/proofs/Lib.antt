@@ -3,6 +3,7 @@ pub mod Crossing
 pub mod Numbering
 pub mod Lifting
 pub mod Passing
+pub mod Clearing
 pub mod AfterWaking
 pub mod Getting
 pub mod ExactGets

@@ -18,7 +18,7 @@ use Rattle.tag_pool.specs.Bell.{ListsSelf}
 use Rattle.tag_pool.specs.Gets.{IsAnswer, IsTagIn}
 use Rattle.tag_pool.specs.Hands.{caller_of, HasRoom, hint_of}
 use Rattle.tag_pool.specs.Sides as side
-use Rattle.tag_pool.specs.Waits.{AreSleeps, CanWait, ComesTo, EndsSo, EndsWait, GetsUntil, MaySleepNow, SleepsForOne, WinsAtOnce}
+use Rattle.tag_pool.specs.Waits.{AreSleeps, Beside, CanWait, ComesTo, EndsSo, EndsWait, GetsUntil, MaySleepNow, SleepsForOne, UntilTold, WinsAtOnce}
 
 -- steps on words list nobody
 waits_on : {R : Type 0} (list : ℕ) (ws : List WordStep) (r : Record R)
@@ -88,8 +88,16 @@ module _ {R : Type 0} (pool : Pool R) where
       begins = subst (λ (h : Hint). (h.round_robin ≡ false) ⊎ (h.at ≡ 0)) (sym lists.changed.stays.hint) can.begins;
     }
 
+  -- to sleep until it is told leaves a hand as much room, and its hint
+  module _ (old new : Hand R) (slept : UntilTold old new) where
+    pub rested_can : CanWait old → CanWait new
+    rested_can can = record {
+      room = subst (λ (r : Record R). r.won + 1 ≤ r.shape.life) (sym slept.changed.sleeps.looks.known) can.room;
+      begins = subst (λ (h : Hint). (h.round_robin ≡ false) ⊎ (h.at ≡ 0)) (sym slept.changed.stays.hint) can.begins;
+    }
+
   -- what a hand keeps while it sleeps for a tag: its tags, and where else it waits
-  record Keeps (old new : Hand R) : Type 0 where
+  pub record Keeps (old new : Hand R) : Type 0 where
     pub same : HoldsSame old new
     pub others : (other : ℕ) → other ≢ SLEEPERS → WaitsAsBefore other (caller_of old Ordinary) (caller_of new Ordinary)
 
@@ -103,17 +111,29 @@ module _ {R : Type 0} (pool : Pool R) where
   none_keeps old new got =
       record { same = (found_none old new got).same; others = λ other ne. waits_there None old new got other }
 
+  -- each way to sleep keeps it
+  pub beside_keeps : (old new : Hand R) → Beside old new → Keeps old new
+  beside_keeps old new same = subst (λ (h : Hand R). Keeps old h) (sym same)
+      (record { same = same_itself old; others = λ other ne. refl })
+
+  pub told_keeps : (old new : Hand R) → UntilTold old new → Keeps old new
+  told_keeps old new slept = record {
+    same = same old new Ordinary slept.other slept.split slept.changed.stays.holds;
+    others = λ other ne. slept.changed.stays.waits other;
+  }
+
   sleep_keeps : (old new : Hand R) → MaySleepNow pool SLEEPERS old new → Keeps old new
   sleep_keeps old new sleep = record {
     same = sleep.same;
     others = λ other ne. waits_there None sleep.listed new sleep.none other ∙ sleep.lists.changed.stays.waits other ne;
   }
 
-  sleeps_keep : (sleeps : ℕ) (old new : Hand R) → AreSleeps sleeps pool old new → Keeps old new
-  sleeps_keep zero old new same = subst (λ (h : Hand R). Keeps old h) (sym same)
-      (record { same = same_itself old; others = λ other ne. refl })
-  sleeps_keep (suc sleeps) old new slept = keeps_then_keeps old slept.0 new
-      (sleeps_keep sleeps old slept.0 slept.1) (sleep_keeps slept.0 new slept.2)
+  module _ (so : Hand R → Hand R → Type 0) (keeps : (old new : Hand R) → so old new → Keeps old new) where
+    sleeps_keep : (sleeps : ℕ) (old new : Hand R) → AreSleeps sleeps pool so old new → Keeps old new
+    sleeps_keep zero old new same = beside_keeps old new same
+    sleeps_keep (suc sleeps) old new slept = keeps_then_keeps old slept.0 new
+        (sleeps_keep sleeps old slept.0 slept.2)
+        (keeps_then_keeps slept.0 slept.1 new (sleep_keeps slept.0 slept.1 slept.3) (keeps slept.1 new slept.4))
 
   -- what the last round of a wait comes to, after which the hand is up
   record Ended (answer : Option ℕ) (old new : Hand R) : Type 0 where
@@ -149,37 +169,39 @@ module _ {R : Type 0} (pool : Pool R) where
     others = end_waits told old new ends;
   }
 
-  module _ (over : Type 0) (answer : Option ℕ) (told : Told) (old new : Hand R) where
-    -- a hand that won a tag at once, and then saw to all tags, got it
-    pub at_once : WinsAtOnce pool answer told old new → GetsUntil pool over answer told old new
-    at_once wins = record {
-      how = inl wins;
-      comes = record {
-        more = more_then_same wins.wins.more
-            (same wins.won new Ordinary wins.sees.set.other wins.sees.set.split wins.sees.set.changed.holds);
-        tag = wins.wins.tag;
-        done = wins.sees.set.changed.done;
-        up = λ up. wins.sees.set.changed.waits SLEEPERS ∙ waits_there answer old wins.won wins.wins SLEEPERS ∙ up;
-        others = λ other ne. wins.sees.set.changed.waits other ∙ waits_there answer old wins.won wins.wins other;
-      };
-    }
+  -- a hand that won a tag at once, and then saw to all tags, got it
+  pub at_once : (so : Hand R → Hand R → Type 0) (over : Type 0) (answer : Option ℕ) (told : Told) (old new : Hand R)
+      → WinsAtOnce pool answer told old new → GetsUntil pool so over answer told old new
+  at_once so over answer told old new wins = record {
+    how = inl wins;
+    comes = record {
+      more = more_then_same wins.wins.more
+          (same wins.won new Ordinary wins.sees.set.other wins.sees.set.split wins.sees.set.changed.holds);
+      tag = wins.wins.tag;
+      done = wins.sees.set.changed.done;
+      up = λ up. wins.sees.set.changed.waits SLEEPERS ∙ waits_there answer old wins.won wins.wins SLEEPERS ∙ up;
+      others = λ other ne. wins.sees.set.changed.waits other ∙ waits_there answer old wins.won wins.wins other;
+    };
+  }
 
-    -- so did one that slept for it
-    pub asleep : SleepsForOne pool over answer told old new → GetsUntil pool over answer told old new
-    asleep waits =
-        let rest = waits.sleeps in
-        let keeps = keeps_then_keeps old waits.tried rest.last (none_keeps old waits.tried waits.none)
-        (sleeps_keep rest.sleeps waits.tried rest.last rest.slept) in
-        let end = ended answer told rest.last new rest.ends in record {
-          how = inr waits;
-          comes = record {
-            more = same_then_more keeps.same end.more;
-            tag = end.tag;
-            done = end.done;
-            up = λ was. end.up;
-            others = λ other ne. end.others other ne ∙ keeps.others other ne;
-          };
-        }
+  -- so did one that slept for it
+  pub asleep : (so : Hand R → Hand R → Type 0) → ((old new : Hand R) → so old new → Keeps old new)
+      → (over : Type 0) (answer : Option ℕ) (told : Told) (old new : Hand R)
+      → SleepsForOne pool so over answer told old new → GetsUntil pool so over answer told old new
+  asleep so keeps_so over answer told old new waits =
+      let rest = waits.sleeps in
+      let keeps = keeps_then_keeps old waits.tried rest.last (none_keeps old waits.tried waits.none)
+      (sleeps_keep so keeps_so rest.sleeps waits.tried rest.last rest.slept) in
+      let end = ended answer told rest.last new rest.ends in record {
+        how = inr waits;
+        comes = record {
+          more = same_then_more keeps.same end.more;
+          tag = end.tag;
+          done = end.done;
+          up = λ was. end.up;
+          others = λ other ne. end.others other ne ∙ keeps.others other ne;
+        };
+      }
 
   -- to wake those told changes none of it
   pub comes_still : (answer : Option ℕ) (old mid new : Hand R) → ComesTo pool answer old mid

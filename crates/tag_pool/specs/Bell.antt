@@ -2,9 +2,10 @@
 use Rattle.std.specs.Prelude.{◌<◌, ◌↔◌, ◌≡◌, ◌≢◌}
 use Rattle.tag_pool.specs.Uses.{bit_at, Bool, false, IsTrue, record_of, ℕ}
 use Rattle.tag_core.specs.declared.bell.TheConstants.{LISTS}
-use Rattle.tag_core.specs.declared.bell_step.BellStep.TheVariants.{Enlist, GetUp}
+use Rattle.tag_core.specs.declared.bell_step.BellStep.TheVariants.{Enlist, GetUp, Sight}
 use Rattle.tag_bell.specs.Callers.{IsUp, IsWaiting, OwesNothing, WaitsAsBefore}
-use Rattle.tag_bell.specs.Calls.{FindsWaiters, OwesNoMore, Rings}
+use Rattle.tag_bell.specs.Calls.{FindsWaiters, HasTriedNoLess, OwesNoMore, Rings}
+use Rattle.tag_bell.specs.Sleeping as callers
 use Rattle.tag_pool.specs.declared.side.Side.{Side}
 use Rattle.tag_pool.specs.Sides.{caller_of, hint_of, HoldsSame}
 
@@ -29,6 +30,25 @@ pub record GetsUp {R : Type 0} (list : ℕ) (was_told : Bool) (old new : Side R)
   pub step : (found : ℕ) × Rings (GetUp list (record_of (caller_of old)).number found) (caller_of old) (caller_of new)
       × (IsTrue was_told ↔ (bit_at found (record_of (caller_of old)).number ≡ 0))
   pub stays : StaysElsewhere list old new
+
+-- the tags are kept; it waits where it waited, has tried what it had tried, and there is no more to see to
+pub record StaysAsItWas {R : Type 0} (old new : Side R) : Type 0 where
+  pub waits : (list : ℕ) → WaitsAsBefore list (caller_of old) (caller_of new)
+  pub tried : (list : ℕ) → HasTriedNoLess list (caller_of old) (caller_of new)
+  pub owes : (list : ℕ) → OwesNoMore list (caller_of old) (caller_of new)
+  pub holds : HoldsSame old new
+  pub hint : hint_of new ≡ hint_of old
+
+-- the only step was a look at the list, and it was told if it did not find itself there
+pub record LooksIfTold {R : Type 0} (list : ℕ) (told : Bool) (old new : Side R) : Type 0 where
+  pub step : (found : ℕ) × Rings (Sight list found) (caller_of old) (caller_of new)
+      × (IsTrue told ↔ (bit_at found (record_of (caller_of old)).number ≡ 0))
+  pub stays : StaysAsItWas old new
+
+-- it slept until it found itself told
+pub record SleepsUntilTold {R : Type 0} (list : ℕ) (old new : Side R) : Type 0 where
+  pub sleeps : callers.SleepsUntilTold list (caller_of old) (caller_of new)
+  pub stays : StaysAsItWas old new
 
 -- it looked once at each list, and tells whether it found one that waits; if none, there is nothing to see to
 pub record LooksForWaiters {R : Type 0} (found : Bool) (old new : Side R) : Type 0 where

@@ -9,6 +9,7 @@ use Rattle.tag_pool.specs.declared.hand.Hand.{Hand}
 use Rattle.tag_pool.specs.declared.kind.Kind.TheVariants.{Ordinary, Reserved}
 use Rattle.tag_pool.specs.declared.options.Options.{Options}
 use Rattle.tag_pool.specs.declared.pool.Pool.{Pool}
+use Rattle.tag_pool.specs.declared.side.Side.{Side}
 use Rattle.tag_pool.specs.Sides as side
 use Rattle.tag_pool.specs.Hands.{HasRoom, hint_of, Holds, layout_of, least_of, reserved_of, total_of}
 use Rattle.tag_pool.specs.Lists.{AreOrdinary, AreHeldOnce}
@@ -60,6 +61,10 @@ number_checks pool tag = (tag < total_of pool, NoSuchTag) ∷ []
 -- a call on a tag that the hand has to hold
 abbrev pub tag_checks : {R : Type 0} → Pool R → Hand R → ℕ → Checks TagFault
 tag_checks pool hand tag = (tag < total_of pool, NoSuchTag) ∷ (Holds hand tag, NotHeld) ∷ []
+
+-- the same in one set
+abbrev pub side_checks : {R : Type 0} → Side R → ℕ → Checks TagFault
+side_checks own number = (number < side.depth_of own, NoSuchTag) ∷ (side.Holds own number, NotHeld) ∷ []
 
 -- a clear of a list
 abbrev pub list_checks : {R : Type 0} → Pool R → Hand R → List ℕ → Checks TagFault

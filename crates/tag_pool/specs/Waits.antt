@@ -15,7 +15,7 @@ use Rattle.tag_pool.specs.declared.gets.rounds.Next.TheVariants.{Won, Over, Slee
 use Rattle.tag_pool.specs.declared.hand.Hand.{Hand}
 use Rattle.tag_pool.specs.declared.kind.Kind.TheVariants.{Ordinary}
 use Rattle.tag_pool.specs.declared.pool.Pool.{Pool}
-use Rattle.tag_pool.specs.Bell.{GetsUp, ListsSelf}
+use Rattle.tag_pool.specs.Bell.{GetsUp, ListsSelf, SleepsUntilTold}
 use Rattle.tag_pool.specs.Gets.{Gets, IsAnswer, IsTagIn}
 use Rattle.tag_pool.specs.Hands.{caller_of, Changes, HasRoom, hint_of, layout_of}
 use Rattle.tag_pool.specs.Holding.{HoldsMore, HoldsSame}
@@ -72,23 +72,32 @@ Goes pool list (Won tag) told old new = WinsRound pool list tag told old new
 Goes pool list Over told old new = EndsWait pool list told old new
 Goes pool list Sleep told old new = (told ≡ nobody) × MaySleepNow pool list old new
 
--- that many rounds after which the hand slept, one after another
-abbrev pub AreSleeps : {R : Type 0} → ℕ → Pool R → Hand R → Hand R → Type 0
-AreSleeps zero pool old new = new ≡ old
-AreSleeps {R} (suc sleeps) pool old new = (mid : Hand R) × AreSleeps sleeps pool old mid × MaySleepNow pool SLEEPERS mid new
+-- how a hand sleeps between two rounds: until it finds itself told
+abbrev pub UntilTold : {R : Type 0} → Hand R → Hand R → Type 0
+UntilTold old new = Changes Ordinary (SleepsUntilTold SLEEPERS) old new
+
+-- or by other means, which do nothing with the hand
+abbrev pub Beside : {R : Type 0} → Hand R → Hand R → Type 0
+Beside old new = new ≡ old
+
+-- that many rounds after which the hand slept so, one after another
+abbrev pub AreSleeps : {R : Type 0} → ℕ → Pool R → (Hand R → Hand R → Type 0) → Hand R → Hand R → Type 0
+AreSleeps zero pool so old new = new ≡ old
+AreSleeps {R} (suc sleeps) pool so old new =
+    (mid tried : Hand R) × AreSleeps sleeps pool so old mid × MaySleepNow pool SLEEPERS mid tried × so tried new
 
 -- the round that ends a wait among the sleepers
 abbrev pub EndsSo : {R : Type 0} → Pool R → Option ℕ → Told → Hand R → Hand R → Type 0
 EndsSo pool (Some tag) told old new = WinsRound pool SLEEPERS tag told old new
 EndsSo pool None told old new = EndsWait pool SLEEPERS told old new
 
--- the hand slept some times, each time as it may, and then won a tag; or it gave up, since its wait was over, or after as
--- many sleeps as a word counts
-pub record Sleeps {R : Type 0} (pool : Pool R) (over : Type 0) (answer : Option ℕ) (told : Told) (old new : Hand R)
-    : Type 0 where
+-- the hand slept some times, each time so and as it may, and then won a tag; or it gave up, since its wait was over, or
+-- after as many sleeps as a word counts
+pub record Sleeps {R : Type 0} (pool : Pool R) (so : Hand R → Hand R → Type 0) (over : Type 0) (answer : Option ℕ)
+    (told : Told) (old new : Hand R) : Type 0 where
   pub sleeps : ℕ
   pub last : Hand R
-  pub slept : AreSleeps sleeps pool old last
+  pub slept : AreSleeps sleeps pool so old last
   pub ends : EndsSo pool answer told last new
   pub gives_up : answer ≡ None → over ⊎ (sleeps ≡ 2 ^ 64 - 1)
 
@@ -100,11 +109,11 @@ pub record WinsAtOnce {R : Type 0} (pool : Pool R) (answer : Option ℕ) (told :
   pub sees : SeesToAll pool told won new
 
 -- the hand found no tag, and then slept for one
-pub record SleepsForOne {R : Type 0} (pool : Pool R) (over : Type 0) (answer : Option ℕ) (told : Told) (old new : Hand R)
-    : Type 0 where
+pub record SleepsForOne {R : Type 0} (pool : Pool R) (so : Hand R → Hand R → Type 0) (over : Type 0) (answer : Option ℕ)
+    (told : Told) (old new : Hand R) : Type 0 where
   pub tried : Hand R
   pub none : Gets pool Ordinary None old tried
-  pub sleeps : Sleeps pool over answer told tried new
+  pub sleeps : Sleeps pool so over answer told tried new
 
 -- what a wait comes to, whether or not the hand slept: it gained the tag returned, if there is one, and no other; it has
 -- nothing to see to, and waits on no list on which it did not before
@@ -116,14 +125,14 @@ pub record ComesTo {R : Type 0} (pool : Pool R) (answer : Option ℕ) (old new :
   pub others : (other : ℕ) → other ≢ SLEEPERS → WaitsAsBefore other (caller_of old Ordinary) (caller_of new Ordinary)
 
 -- the hand won a tag at once, or slept until it won one or its wait was over
-pub record GetsUntil {R : Type 0} (pool : Pool R) (over : Type 0) (answer : Option ℕ) (told : Told) (old new : Hand R)
-    : Type 0 where
-  pub how : WinsAtOnce pool answer told old new ⊎ SleepsForOne pool over answer told old new
+pub record GetsUntil {R : Type 0} (pool : Pool R) (so : Hand R → Hand R → Type 0) (over : Type 0) (answer : Option ℕ)
+    (told : Told) (old new : Hand R) : Type 0 where
+  pub how : WinsAtOnce pool answer told old new ⊎ SleepsForOne pool so over answer told old new
   pub comes : ComesTo pool answer old new
 
--- the hand won this tag, at once or after it slept, and woke those whom it told then
+-- the hand won this tag, at once or after it slept until it was told, and woke those whom it told then
 pub record GetsBlocking {R : Type 0} (pool : Pool R) (tag : ℕ) (woken : Woken) (old new : Hand R) : Type 0 where
   pub got : Hand R
-  pub gets : GetsUntil pool ⊥ (Some tag) (told_by woken) old got
+  pub gets : GetsUntil pool UntilTold ⊥ (Some tag) (told_by woken) old got
   pub wakes : Changes Ordinary IsUnchanged got new
   pub comes : ComesTo pool (Some tag) old new

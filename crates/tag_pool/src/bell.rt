@@ -5,7 +5,7 @@ ghost use Rattle.std.specs.Prelude.{◌≡◌, ◌+◌, ◌<◌, ◌≤◌, ◌�
 ghost use Rattle.tag_core.specs.declared.bell.TheConstants.{LISTS};
 ghost use Rattle.tag_bell.specs.Calls.{nobody};
 ghost use Rattle.tag_bell.specs.Looks.{SawFree};
-ghost use Rattle.tag_pool.specs.Bell.{ListsSelf, GetsUp, LooksForWaiters};
+ghost use Rattle.tag_pool.specs.Bell.{ListsSelf, GetsUp, LooksForWaiters, LooksIfTold};
 ghost use Rattle.tag_pool.specs.Hands.{caller_of, layout_of, IsHandOf, IsStillOf, Changes, back_of, step_count};
 ghost use Rattle.tag_pool.specs.Holding.{HoldsSame};
 ghost use Rattle.tag_pool.specs.Sides.{SeesTo, see_to_all_steps};
@@ -42,13 +42,17 @@ impl<R: Copy> Pool<R> {
         tag_bell::get_up(&self.ordinary, &mut hand.ordinary.caller, list)
     }
 
-    /// Returns whether the hand was told, or does not wait there. The load is in no list of steps, so no clause says what
-    /// it finds: it is for one that sleeps, which gets up once it is told.
-    pub fn is_told(&self, hand: &Hand<R>, list: u32) -> bool
-        requires hand { IsHandOf self.now hand.now }
+    /// Looks whether the hand was told: returns whether it does not find itself listed there, so also if it does not wait
+    /// there. One that was told gets up. One step.
+    pub fn is_told(&self, hand: &mut Hand<R>, list: u32) -> bool
+        requires hand { IsHandOf self.now hand.old }
         requires within { list < LISTS }
+        ensures hand { IsStillOf self.now hand.old hand.new }
+        ensures looks { Changes Ordinary (LooksIfTold list result) hand.old hand.new }
+        ensures same { HoldsSame hand.old hand.new }
+        ensures bound { step_count hand.new ≡ 1 + step_count hand.old }
     {
-        tag_bell::is_told(&self.ordinary, &hand.ordinary.caller, list)
+        tag_bell::is_told(&self.ordinary, &mut hand.ordinary.caller, list)
     }
 
     /// Returns whether it finds a hand that waits, by one look at each list. If it finds none, this hand has nothing to see

@@ -24,9 +24,13 @@ impl<R: Copy> Pool<R> {
         ensures hand { IsStillOf self.now hand.old hand.new }
         ensures does { DoesClear tag self.now result hand.old hand.new }
     {
-        let kind = self.find_held(hand, tag)?;
-        self.clear_held_quietly(hand, tag);
-        Ok(kind)
+        if tag < hand.reserved_count {
+            hand.reserved.clear(&self.reserved, tag)?;
+            return Ok(Kind::Reserved);
+        }
+        hand.ordinary
+            .clear(&self.ordinary, tag - hand.reserved_count)?;
+        Ok(Kind::Ordinary)
     }
 
     /// Clears a tag that the hand holds, like `clear_quietly` but for the checks.

@@ -2,6 +2,7 @@
 ghost use Rattle.std.specs.Prelude.{◌≡◌};
 ghost use Rattle.tag_core.specs.Callers.{record_of};
 
+use crate::fault::TagFault;
 use step_ledger::Numbered;
 use tag_core::{Caller, Map, Spent};
 use tag_search::{Found, Hint, on_map};
@@ -49,7 +50,9 @@ impl<R> Side<R> {
 }
 
 impl<R: Copy> Side<R> {
-    ghost use Rattle.std.specs.Prelude.{◌≡◌, ◌↔◌, ◌+◌, ◌<◌, ◌≤◌, ◌⊎◌, false, IsOk, IfOk, IsTrue, IsFalse, None, Ok, OnErr};
+    ghost use Rattle.std.specs.Prelude.{◌≡◌, ◌↔◌, ◌+◌, ◌<◌, ◌≤◌, ◌⊎◌, false, IsOk, IfOk, IsTrue, IsFalse, None, Ok, OnErr, OnOk};
+    ghost use Rattle.refusals.specs.Refusals.{RefusesBy};
+    ghost use Rattle.tag_pool.specs.Refusals.{side_checks};
     ghost use mathlib.Core.Option.{some};
     ghost use Rattle.tag_core.specs.Callers.{layout_of, record_of};
     ghost use Rattle.tag_search.specs.Exact.{most_exact_steps};
@@ -81,6 +84,26 @@ impl<R: Copy> Side<R> {
     {
         let found = map.look(&mut self.caller, word);
         (found, map.look_aside(&mut self.caller, word))
+    }
+
+    /// Clears the tag with this number, as `put` does, or returns its fault: `NoSuchTag` or `NotHeld`.
+    #[inline]
+    pub(crate) fn clear(&mut self, map: &Map<R>, number: u32) -> Result<(), TagFault>
+        requires side { IsSideOf map.now self.old }
+        ensures side { IsSideOf map.now self.new × (number_of self.new ≡ number_of self.old) }
+        ensures refusals { RefusesBy (side_checks self.old number) (self.new ≡ self.old) result }
+        ensures puts { OnOk result (Puts (layout_of map.now) number self.old self.new) }
+        ensures back { OnOk result ((record_of (caller_of self.new)).back ≡ (record_of (caller_of self.old)).back + 1) }
+        ensures bound { step_count self.new ≤ 1 + step_count self.old }
+    {
+        if number >= map.layout().depth() {
+            return Err(TagFault::NoSuchTag);
+        }
+        if !self.caller.holds(number) {
+            return Err(TagFault::NotHeld);
+        }
+        self.put(map, number);
+        Ok(())
     }
 
     /// Sets a held tag aside, and moves the hint to it, unless it is round robin. One step.

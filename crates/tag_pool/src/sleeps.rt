@@ -8,6 +8,7 @@ ghost use Rattle.tag_bell.specs.Looks.{SawFree};
 ghost use Rattle.tag_bell.specs.Sleeping.{told_by};
 ghost use Rattle.tag_bell.specs.declared.told.TheConstants.{SLEEPERS};
 ghost use Rattle.tag_search.specs.Vain.{MaySleep};
+ghost use Rattle.tag_pool.specs.Bell.{SleepsUntilTold};
 ghost use Rattle.tag_pool.specs.Clears.{ClearsAndWakes, clear_steps};
 ghost use Rattle.tag_pool.specs.Hands.{caller_of, layout_of, IsHandOf, IsStillOf, Changes, back_of, step_count};
 ghost use Rattle.tag_pool.specs.Holding.{HoldsSame};
@@ -23,14 +24,18 @@ use std::sync::Wait;
 use tag_bell::{Told, Woken};
 
 impl<R: Copy> Pool<R> {
-    /// Sleeps until the hand is told. It may sleep only if it is listed among the sleepers, has tried each ordinary tag in
-    /// vain since, and has nothing to see to, as after a get that found none. It makes no step.
-    pub fn sleep<W: Wait>(&self, rt: &W, hand: &Hand<R>)
-        requires hand { IsHandOf self.now hand.now }
-        requires waiting { IsWaiting SLEEPERS (caller_of hand.now Ordinary) }
-        requires may { MaySleep (caller_of hand.now Ordinary) }
+    /// Sleeps until the hand finds itself told. It may sleep only if it is listed among the sleepers, has tried each ordinary
+    /// tag in vain since, and has nothing to see to, as after a get that found none. It looks at the list before each time
+    /// that it sleeps, and once more after the last.
+    pub fn sleep<W: Wait>(&self, rt: &W, hand: &mut Hand<R>)
+        requires hand { IsHandOf self.now hand.old }
+        requires waiting { IsWaiting SLEEPERS (caller_of hand.old Ordinary) }
+        requires may { MaySleep (caller_of hand.old Ordinary) }
+        ensures hand { IsStillOf self.now hand.old hand.new }
+        ensures sleeps { Changes Ordinary (SleepsUntilTold SLEEPERS) hand.old hand.new }
+        ensures same { HoldsSame hand.old hand.new }
     {
-        tag_bell::sleep(rt, &self.ordinary, &hand.ordinary.caller);
+        tag_bell::sleep(rt, &self.ordinary, &mut hand.ordinary.caller);
     }
 
     /// Wakes the sleepers among those that a call told. It makes no step.

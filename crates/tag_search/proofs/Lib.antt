@@ -1,4 +1,5 @@
 mod Uses
+pub mod LowestClear
 pub mod Orders
 pub mod OneTag
 pub mod Claims

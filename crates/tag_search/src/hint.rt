@@ -1,5 +1,5 @@
 //! The tag at which the next search begins, with the rules of lib/sbitmap.c.
-ghost use Rattle.std.specs.Prelude.{◌≡◌, ℕ, ◌<◌, ◌≤◌, IfSome, if◌then◌else◌};
+ghost use Rattle.std.specs.Prelude.{◌≡◌, ℕ, ◌<◌, ◌≤◌, false, IfSome, Some, if◌then◌else◌};
 ghost use Rattle.tag_search.specs.Hints.{reduced, hint_after_get, next_hint};
 
 /// The tag at which a caller's next search begins.
@@ -31,6 +31,19 @@ impl Hint {
         ensures { self.new ≡ record self.old { at = hint_after_get depth self.old.round_robin from answer } }
     {
         self.at = self.after_get(depth, from, answer);
+    }
+
+    /// Moves the hint after a search without round robin that began at it and won this tag: it stays unless the tag is its
+    /// own.
+    #[inline]
+    pub(crate) fn follow_win(&mut self, depth: u32, tag: u32)
+        requires below { tag < depth }
+        requires plain { self.old.round_robin ≡ false }
+        ensures { self.new ≡ record self.old { at = hint_after_get depth self.old.round_robin self.old.at (Some tag) } }
+    {
+        if tag == self.at {
+            self.at = next_hint(depth, tag);
+        }
     }
 
     /// Where the hint goes after a search that began at `from`.

@@ -1,6 +1,7 @@
 //! The place of a tag in its word, and its bit.
-ghost use Rattle.std.specs.Prelude.{◌≡◌, ℕ, ◌^◌, ◌<◌};
-ghost use Rattle.tag_layout.specs.Layout.{place_of};
+ghost use Rattle.std.specs.Prelude.{◌≡◌, ℕ, ◌^◌, ◌<◌, IfSome, MatchOption};
+ghost use Rattle.tag_layout.specs.Bits.{AllSet, IsFirstClear};
+ghost use Rattle.tag_layout.specs.Layout.{place_of, word_depth, words};
 
 use tag_layout::Layout;
 
@@ -20,4 +21,23 @@ pub fn bit_of(layout: Layout, tag: u32) -> u64
     ensures width { place_of layout tag < 64 }
 {
     1 << place_in_word(layout, tag)
+}
+
+/// Returns the least place of a word whose bit is 0 in these bits. It tests the place that it found, so it need not count
+/// the places that the word uses.
+#[inline(always)]
+pub(crate) fn first_free(layout: Layout, word: u32, bits: u64) -> Option<u32>
+    requires { word < words layout }
+    ensures free { let used = word_depth layout word in MatchOption result (AllSet bits 0 used) (IsFirstClear bits 0 used) }
+    ensures width { IfSome result (λ place. place < 64) }
+{
+    let shift = layout.shift();
+    let place = (!bits).trailing_zeros();
+    if place >> shift != 0 {
+        return None;
+    }
+    if (word << shift) + place >= layout.depth() {
+        return None;
+    }
+    Some(place)
 }

@@ -15,11 +15,12 @@ use crate::all_places::search_after;
 use crate::batch::search_run;
 use crate::hint::Hint;
 use crate::pass::Missed;
+use crate::place::first_free;
 use crate::port::Port;
 use crate::rank::Rank;
 use crate::scan::Scan;
 use tag_core::Spent;
-use tag_layout::{Layout, first_clear};
+use tag_layout::Layout;
 
 /// Takes a free tag for the caller. `None` means that each place tried was found taken at some moment of the call, not
 /// that all were taken at one moment. `Spent` if the port has no room for one more tag.
@@ -82,7 +83,7 @@ pub(crate) fn begin<P: Port>(port: &mut P, hint: &mut Hint) -> Result<u32, Unfin
     }
     let word = layout.word_of(before.at);
     let found = port.look(word);
-    let Some(place) = first_clear(found, 0, layout.word_depth(word)) else {
+    let Some(place) = first_free(layout, word, found) else {
         return Err(Unfinished::Full);
     };
     if let Err(found) = port.claim_one(word, place) {
@@ -90,7 +91,7 @@ pub(crate) fn begin<P: Port>(port: &mut P, hint: &mut Hint) -> Result<u32, Unfin
         return Err(Unfinished::Lost { from, found });
     }
     let tag = layout.tag_at(word, place);
-    hint.at = before.after_get(layout.depth(), before.at, Some(tag));
+    hint.follow_win(layout.depth(), tag);
     Ok(tag)
 }
 

@@ -18,6 +18,7 @@ mod tags {
     pub mod gate;
     pub mod hand;
     pub mod held;
+    pub mod lists;
     pub mod options;
     pub mod owned;
     pub mod pool;
@@ -41,6 +42,7 @@ mod image;
 mod interface;
 mod memory;
 #[path = "../../tags/src/base/lock.rs"]
+#[allow(dead_code, reason = "the explorer makes a part of the calls")]
 mod own_lock;
 mod scenarios;
 mod search;
@@ -49,7 +51,7 @@ mod steps;
 mod threads;
 
 // As the modules of `tags` name each other.
-use tags::{allocator, batch, bell, cells, error, future, gate, hand, options, owned};
+use tags::{allocator, batch, bell, cells, error, future, gate, hand, lists, options, owned};
 use tags::{pool, proved, queue, shared, sleep, tag, thread, waits};
 
 use scenarios::PLAYS;

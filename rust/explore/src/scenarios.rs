@@ -1,6 +1,6 @@
 //! The scenarios: what the threads do, how many they are, on how many tags, and how often.
 
-use crate::interface::{batches, caches, futures, gates, locks, passing, shared, waits};
+use crate::interface::{batches, caches, futures, gates, lists, locks, passing, shared, waits};
 use crate::memory::MOST;
 use crate::options::Options;
 use crate::threads;
@@ -45,7 +45,7 @@ pub fn read(words: &str) -> Option<(Play, Scenario, Option<u32>)> {
 
 /// Each play, with what is explored of it without arguments: threads, tags and rounds, and where all would take too long, the
 /// most switches.
-pub const PLAYS: [(&str, Play, &[&str]); 34] = [
+pub const PLAYS: [(&str, Play, &[&str]); 37] = [
     ("get", threads::get, &["2 1 1", "2 2 1", "2 1 2", "3 1 1", "3 2 1"]),
     ("sleep", threads::sleep, &["2 1 1", "2 2 1", "2 1 2", "3 1 1"]),
     ("cache", threads::cache, &["2 1 1", "2 2 1", "2 1 2", "3 1 1 3"]),
@@ -78,6 +78,9 @@ pub const PLAYS: [(&str, Play, &[&str]); 34] = [
     ("drain", gates::drain, &["2 1 1", "2 2 1", "3 1 1"]),
     ("drain-limit", gates::drain_in_time, &["2 2 1", "3 2 1"]),
     ("shut-down", gates::shut_down, &["2 1 1", "3 1 1"]),
+    ("list", lists::list, &["2 1 1", "2 2 1", "3 1 1"]),
+    ("pick", lists::pick, &["3 2 1"]),
+    ("pick-future", lists::pick_by_future, &["3 2 1"]),
     ("join", gates::join_each, &["2 1 1", "2 1 2", "3 1 1", "3 2 2 2"]),
     ("turn-away", gates::turn_away, &["2 1 1", "3 1 1"]),
 ];

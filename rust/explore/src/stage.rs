@@ -82,9 +82,14 @@ impl Stage {
         self.is_late
     }
 
+    /// Whether a lock is held.
+    pub fn is_held(&self, place: usize) -> bool {
+        self.held.contains(&place)
+    }
+
     /// Notes that a lock is held. Returns whether it was free.
     pub fn take(&mut self, place: usize) -> bool {
-        let is_free = !self.held.contains(&place);
+        let is_free = !self.is_held(place);
         assert_eq!(self.held[0], 0, "no more locks are held at a time");
         self.held[0] = place;
         self.held.sort_unstable();
@@ -104,7 +109,7 @@ impl Stage {
 
     /// The threads that need not wait for others, a bit for each.
     pub fn ready(&self) -> u32 {
-        let is_locked_out = |next: Step| next.access == Access::Lock && self.held.contains(&next.place);
+        let is_locked_out = |next: Step| next.access == Access::Lock && self.is_held(next.place);
         self.mask(|it| it.state == State::Ready && !is_locked_out(it.next))
     }
 

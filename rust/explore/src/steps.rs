@@ -63,6 +63,12 @@ pub fn take(place: usize) {
     }
 }
 
+/// Takes a lock if it is free. Returns whether it was.
+pub fn try_take(place: usize) -> bool {
+    step(place, Access::Word);
+    with(|stage| !stage.is_held(place) && stage.take(place))
+}
+
 /// Frees a lock. It is one step with the one before, as nobody could tell the difference.
 pub fn free(place: usize) {
     with(|stage| stage.free(place));

@@ -6,7 +6,7 @@
 //!
 //! All who wait are counted, from before they are listed until they are up. A call that has made tags free loads the count
 //! afterwards, and if it is 0 it tells nobody: whoever is counted later tries each tag after that load. The count is for
-//! reports, too; for threads that wait until all tags are back, which are in no list; and for the tags that hands keep. A hand
+//! reports, too; for threads that wait until tags are back, which are in no list; and for the tags that hands keep. A hand
 //! that was told and found no tag is for a moment in no list either; whoever clears a tag while it is counted keeps none.
 //!
 //! Nor does a call tell anybody while as many threads are waking as there are tags, if only threads wait: each of these
@@ -16,6 +16,7 @@
 use crate::allocator::Due;
 use crate::base::word::{AtomicI32, AtomicU32};
 use crate::gate::Gate;
+use crate::lists::Lists;
 use crate::queue::Queue;
 use crate::sleep::{Sleeper, Token};
 use alloc::vec::Vec;
@@ -36,6 +37,8 @@ pub(crate) struct Bell {
     places: Vec<Place>,
     /// Opened when a tag came back while somebody waits.
     tags: Gate,
+    /// Those who wait for the tags of a list.
+    lists: Lists,
     /// Opened when a hand came back.
     hands: Gate,
     pub sleeper: &'static dyn Sleeper,
@@ -71,6 +74,7 @@ impl Bell {
             stops: AtomicU32::new(0),
             places,
             tags: Gate::default(),
+            lists: Lists::new(sleeper),
             hands: Gate::default(),
             sleeper,
         })
@@ -117,6 +121,11 @@ impl Bell {
     /// Where threads wait until all tags are back.
     pub fn tags(&self) -> &Gate {
         &self.tags
+    }
+
+    /// Where threads wait for the tags of a list.
+    pub fn lists(&self) -> &Lists {
+        &self.lists
     }
 
     /// Where threads wait for a hand.

@@ -36,6 +36,8 @@ pub struct Hand<T = ()> {
     pub(crate) member: Member<T>,
     pub(crate) home: Arc<Home<T>>,
     pub(crate) listening: Cell<Listening>,
+    /// How often those who wait for the tags of lists had looked when this hand looked last.
+    looks: Cell<u32>,
 }
 
 // As with a lock of `std` that is poisoned: what a panic leaves behind beside a tag, its next holder finds.
@@ -48,6 +50,7 @@ impl<T> Hand<T> {
             member,
             home,
             listening: Cell::default(),
+            looks: Cell::default(),
         }
     }
 
@@ -83,7 +86,7 @@ impl<T> Hand<T> {
     }
 
     /// Tells those who wait of tags that became free. What the hand keeps goes back while anybody waits. Threads that wait
-    /// until all tags are back look again.
+    /// until tags are back look again.
     #[cold]
     pub(crate) fn tell(&self, freed: u32) -> Due {
         let bell = &self.home.bell;
@@ -97,7 +100,19 @@ impl<T> Hand<T> {
             self.member.see_to(freed)
         };
         bell.tags().open(bell.sleeper);
+        self.see_to_lists();
         due
+    }
+
+    /// Looks for those who wait for the tags of lists, once after each look of theirs: after tags became free, and after a
+    /// get that may have swept a word, since to a look amid a sweep all tags of that are busy.
+    #[cold]
+    pub(crate) fn see_to_lists(&self) {
+        let bell = &self.home.bell;
+        bell.lists().tags_are_back(bell.sleeper, &self.looks, |busy| {
+            let all = self.member.busy(busy);
+            debug_assert!(all.is_ok(), "there is a bit for each tag");
+        });
     }
 
     /// The futures that wait behind this hand.
@@ -157,7 +172,17 @@ impl<T> Hand<T> {
     /// Takes a free reserved tag. `None` is as from [`get`](Hand::get).
     #[inline]
     pub fn get_reserved(&self) -> Result<Option<Tag<'_, T>>> {
-        Ok(self.member.get_reserved()?.map(|held| Tag::new(self, held)))
+        Ok(self.take_reserved()?.map(|held| Tag::new(self, held)))
+    }
+
+    /// Takes a free reserved tag, for which nobody waits but by a list.
+    #[inline]
+    pub(crate) fn take_reserved(&self) -> Result<Option<Held>> {
+        let found = self.member.get_reserved()?;
+        if found.is_some() && self.home.bell.is_awaited() {
+            self.see_to_lists();
+        }
+        Ok(found)
     }
 
     /// Takes a free ordinary tag out of a part of them: `depth` is how many ordinary tags calls with this depth may

@@ -23,7 +23,8 @@
 //! ```
 //!
 //! A [`Tag`] borrows its hand. To keep a tag in a struct, or to hold it across an await, take it from a [`SharedHand`],
-//! whose [`OwnedTag`]s borrow nothing. [`Pool::open_with`] puts a value of any type beside each tag, for whoever holds
+//! whose [`OwnedTag`]s borrow nothing; and where there are more threads than hands, or they come and go, from
+//! [`SharedHands`]. [`Pool::open_with`] puts a value of any type beside each tag, for whoever holds
 //! the tag. The examples are an I/O queue of threads, tasks on a small executor, and threads that copy a file.
 //!
 //! # Without `std`
@@ -48,6 +49,7 @@ mod future;
 mod gate;
 mod hand;
 mod held;
+mod lists;
 mod options;
 mod owned;
 mod pool;
@@ -61,6 +63,7 @@ mod pool;
 mod proved;
 mod queue;
 mod shared;
+mod shared_hands;
 mod sleep;
 mod tag;
 mod thread;
@@ -74,5 +77,6 @@ pub use options::{Kind, Options, Shift, Sizes, Totals};
 pub use owned::OwnedTag;
 pub use pool::Pool;
 pub use shared::SharedHand;
+pub use shared_hands::SharedHands;
 pub use sleep::{default_sleeper, Sleeper};
 pub use tag::Tag;

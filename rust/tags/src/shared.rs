@@ -96,10 +96,26 @@ impl<T> SharedHand<T> {
         self.bell().wake(due);
     }
 
+    /// Takes the lock of the hand.
+    #[inline]
+    pub(crate) fn lock(&self) -> Guard<'_, Hand<T>> {
+        self.inner.hand.lock()
+    }
+
+    /// The same, unless a call has it.
+    #[inline]
+    pub(crate) fn try_lock(&self) -> Option<Guard<'_, Hand<T>>> {
+        self.inner.hand.try_lock()
+    }
+
     /// Takes a free ordinary tag, as [`Hand::get`] does.
     #[inline]
     pub fn get(&self) -> Result<Option<OwnedTag<T>>> {
-        let hand = self.inner.hand.lock();
+        self.get_with(self.lock())
+    }
+
+    #[inline]
+    pub(crate) fn get_with(&self, hand: Guard<'_, Hand<T>>) -> Result<Option<OwnedTag<T>>> {
         match hand.member.try_get() {
             Some(held) => Ok(Some(OwnedTag::new(self.clone(), held))),
             None => self.outcome(hand),
@@ -116,7 +132,7 @@ impl<T> SharedHand<T> {
 
     /// Takes a free reserved tag, as [`Hand::get_reserved`] does.
     pub fn get_reserved(&self) -> Result<Option<OwnedTag<T>>> {
-        let found = self.look(Member::get_reserved)?;
+        let found = self.lock().take_reserved()?;
         Ok(found.map(|held| OwnedTag::new(self.clone(), held)))
     }
 

@@ -57,6 +57,17 @@ pub trait Sleeper: Send + Sync {
     /// Returns the time by a clock that never goes back, from any beginning. If it returns [`Duration::MAX`] there is
     /// no clock, and a wait with a limit only tries.
     fn now(&self) -> Duration;
+
+    /// Returns the number of the processor that this thread runs on, below [`processors`](Sleeper::processors) if it can
+    /// be, for [`SharedHands`](crate::SharedHands): with another number, or the same for all, they are slower.
+    fn processor(&self) -> usize {
+        0
+    }
+
+    /// Returns how many processors run threads of the program, for [`Pool::share`](crate::Pool::share).
+    fn processors(&self) -> usize {
+        1
+    }
 }
 
 /// Returns how a pool's threads sleep if it was opened without a sleeper of the program's: by the system (a futex on

@@ -61,7 +61,10 @@ impl<T> Hand<T> {
             let (next, due) = self.member.wait_on(List::Sleepers, is_over, turn);
             bell.wake(due);
             match next? {
-                Next::Won(held) => return Ok(Some(held)),
+                Next::Won(held) => {
+                    self.see_to_lists();
+                    return Ok(Some(held));
+                }
                 Next::Over if bell.has_ended(begin) => return Err(Error::Stopped),
                 Next::Over => return Ok(None),
                 Next::Sleep => turn = Turn::Same,
@@ -149,6 +152,9 @@ impl<T> Hand<T> {
             Ok(Next::Sleep) => Listening::Since(begin),
             _ => Listening::Not,
         });
+        if let Ok(Next::Won(_)) = next {
+            self.see_to_lists();
+        }
         (next, due)
     }
 

@@ -1,5 +1,5 @@
-//! Waits for a hand, and for all tags to be back.
-use std::sync::atomic::{AtomicU32, Ordering::SeqCst};
+//! Waits for a hand, and for all tags or those of a list to be back.
+use std::sync::atomic::{AtomicBool, AtomicU32, AtomicU64, Ordering::SeqCst};
 use std::thread;
 use std::time::Duration;
 use tags::{Error, Options, Pool};
@@ -102,4 +102,145 @@ fn a_stop_ends_waits_for_a_hand_and_no_drain() {
     });
     pool.resume();
     assert!(hand.get_blocking().is_ok());
+}
+
+/// Returns once so many wait, and sleep.
+fn await_waits(pool: &Pool, waiting: u32) {
+    while pool.waiting() < waiting {
+        thread::yield_now();
+    }
+    thread::sleep(Duration::from_millis(20));
+}
+
+#[test]
+fn lists_and_their_limits() {
+    let options = Options {
+        reserved: 1,
+        ..Options::new(130, 1)
+    };
+    let pool = Pool::open(&options).unwrap();
+    let hand = pool.join().unwrap();
+    let (reserved, last) = (hand.get_reserved().unwrap(), hand.get_exactly(129).unwrap());
+    let posted = hand.get_exactly(70).unwrap().unwrap().post();
+    for number in [0, 129, 70] {
+        assert_eq!(pool.drain_list_timeout(&[1, number, number], Duration::ZERO), Ok(false));
+    }
+    assert_eq!(
+        pool.drain_list_timeout(&[129, 70, 0], Duration::from_millis(5)),
+        Ok(false)
+    );
+    assert_eq!(pool.drain_list(&[1, 128, 2, 1]), Ok(()));
+    assert_eq!(pool.drain_list(&[]), Ok(()));
+    assert_eq!(pool.drain_list(&[1, 130]), Err(Error::NoSuchTag));
+    assert_eq!(pool.drain_list_timeout(&[u32::MAX], LATE), Err(Error::NoSuchTag));
+    drop((reserved, last, hand.take(posted).unwrap()));
+    assert_eq!(pool.drain_list_timeout(&[129, 70, 0], Duration::ZERO), Ok(true));
+    assert_eq!(pool.waiting(), 0);
+}
+
+/// A tag that was back is not waited for again, though it never was at the same time as the other.
+#[test]
+fn one_after_the_other() {
+    let pool = Pool::open(&Options::new(8, 1)).unwrap();
+    let hand = pool.join().unwrap();
+    let get = |number| hand.get_exactly(number).unwrap().unwrap();
+    let (mut first, mut second, third) = (get(2), get(3), get(4));
+    thread::scope(|threads| {
+        let last = threads.spawn(|| pool.drain_list(&[4]));
+        let both = threads.spawn(|| pool.drain_list_timeout(&[2, 3, 2], LATE));
+        await_waits(&pool, 2);
+        while !both.is_finished() {
+            drop(first);
+            first = get(2);
+            thread::sleep(Duration::from_millis(2));
+            drop(second);
+            second = get(3);
+            thread::sleep(Duration::from_millis(2));
+        }
+        assert_eq!(both.join().unwrap(), Ok(true));
+        // Neither another tag nor a stop ends the wait.
+        drop((first, second));
+        pool.stop();
+        pool.resume();
+        thread::sleep(Duration::from_millis(20));
+        assert!(!last.is_finished());
+        drop(third);
+        assert_eq!(last.join().unwrap(), Ok(()));
+    });
+    assert_eq!(pool.waiting(), 0);
+}
+
+/// What a hand keeps is busy, until it goes back with the hand's next clear, or by a flush.
+#[test]
+fn lists_of_kept_tags() {
+    let options = Options {
+        cache: 4,
+        ..Options::new(8, 1)
+    };
+    for by_flush in [false, true] {
+        let pool = Pool::open(&options).unwrap();
+        let hand = pool.join().unwrap();
+        let other = hand.get_exactly(3).unwrap().unwrap();
+        drop(hand.get_exactly(2).unwrap().unwrap());
+        assert_eq!(pool.drain_list_timeout(&[2], Duration::from_millis(5)), Ok(false));
+        thread::scope(|threads| {
+            threads.spawn(|| pool.drain_list(&[2]).unwrap());
+            await_waits(&pool, 1);
+            if by_flush {
+                hand.flush();
+            }
+            drop(other);
+        });
+    }
+}
+
+/// More threads than tags, so that each tag has a user again at once.
+fn lists_beside_requests(cache: u32) {
+    const TOTAL: usize = 8;
+    let options = Options {
+        cache,
+        ..Options::new(TOTAL as u32, 12)
+    };
+    let pool = Pool::open(&options).unwrap();
+    // The request that has the tag, from 1 on, or 0.
+    let requests = [const { AtomicU64::new(0) }; TOTAL];
+    let (begun, has_ended) = (AtomicU64::new(0), AtomicBool::new(false));
+    let make_requests = || {
+        let hand = pool.join().unwrap();
+        while !has_ended.load(SeqCst) {
+            let tag = hand.get_blocking().unwrap();
+            let request = &requests[tag.number() as usize];
+            request.store(1 + begun.fetch_add(1, SeqCst), SeqCst);
+            thread::sleep(Duration::from_micros(u64::from(tag.number() % 2) * 50));
+            request.store(0, SeqCst);
+        }
+    };
+    // None of the requests that are there now is when the wait has ended.
+    let end_connections = || {
+        for round in 0..40 {
+            let now = requests.each_ref().map(|request| request.load(SeqCst));
+            let numbers: Vec<_> = (0..TOTAL as u32).filter(|it| now[*it as usize] > 0).collect();
+            match round % 2 {
+                0 => pool.drain_list(&numbers).unwrap(),
+                _ => assert_eq!(pool.drain_list_timeout(&numbers, LATE), Ok(true)),
+            }
+            for number in numbers {
+                assert_ne!(requests[number as usize].load(SeqCst), now[number as usize]);
+            }
+        }
+    };
+    thread::scope(|threads| {
+        (0..12).for_each(|_| drop(threads.spawn(make_requests)));
+        let waits = [(); 3].map(|()| threads.spawn(end_connections));
+        let ended = waits.map(|wait| wait.join());
+        has_ended.store(true, SeqCst);
+        assert!(ended.iter().all(Result::is_ok));
+    });
+    assert_eq!(pool.waiting(), 0);
+}
+
+#[test]
+fn lists_beside_threads() {
+    lists_beside_requests(0);
+    lists_beside_requests(2);
 }

@@ -6,6 +6,7 @@ use std::env;
 use std::process::{Command, Output};
 use std::ptr::null_mut;
 use std::sync::atomic::{AtomicI64, Ordering::SeqCst};
+use std::time::Duration;
 use tags::{Error, Kind, Options, Pool};
 
 /// How many allocations succeed until one is refused; below 0 none is.
@@ -84,6 +85,23 @@ fn carry_out(what: &str, allocation: i64) -> bool {
             assert_eq!(hand.get_reserved().unwrap().map(|tag| *tag.value()), Some(0));
             is_refused
         }
+        "share" => {
+            let pool = open();
+            let shared = refusing(allocation, || pool.share(2));
+            let is_refused = shared.as_ref().err() == Some(&Error::NoMemory);
+            assert!(is_refused || shared.is_ok());
+            drop(shared);
+            assert_eq!(pool.share(4).map(|hands| hands.count()).ok(), Some(4));
+            is_refused
+        }
+        "list" => {
+            let pool = open();
+            let drained = refusing(allocation, || pool.drain_list_timeout(&[199, 1], Duration::ZERO));
+            let is_refused = drained == Err(Error::NoMemory);
+            assert!(is_refused || drained == Ok(true));
+            assert_eq!(pool.waiting(), 0);
+            is_refused
+        }
         _ => unreachable!("no such call"),
     }
 }
@@ -105,8 +123,8 @@ fn each_allocation_is_refused() {
         println!("\n{}", if is_refused { "refused" } else { "done" });
         return;
     }
-    // How many allocations can't be refused: the `Arc`s of a pool and of its tags.
-    for (what, arcs) in [("open", 2), ("join", 0), ("resize", 1)] {
+    // How many allocations can't be refused: the `Arc`s of a pool and of its tags, of each shared hand and of all.
+    for (what, arcs) in [("open", 2), ("join", 0), ("resize", 1), ("share", 3), ("list", 0)] {
         let (mut ended, mut refused) = (0, 0);
         for allocation in 0.. {
             let output = run(what, allocation);

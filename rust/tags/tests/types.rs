@@ -4,7 +4,7 @@ use std::cell::Cell;
 use std::fmt::Debug;
 use std::panic::{RefUnwindSafe, UnwindSafe};
 use tags::{Batch, CloseError, Error, GetAsync, GetAsyncOwned, Hand, Kind, Numbers, Options, OwnedTag};
-use tags::{Pool, SharedHand, Sizes, Sleeper, Tag, Totals};
+use tags::{Pool, SharedHand, SharedHands, Sizes, Sleeper, Tag, Totals};
 
 fn goes<T: Send>() {}
 fn is_shared<T: Send + Sync>() {}
@@ -21,6 +21,8 @@ fn what_goes_to_other_threads() {
     is_shared::<Pool<Cell<u8>>>();
     is_shared::<SharedHand>();
     is_shared::<SharedHand<Cell<u8>>>();
+    is_shared::<SharedHands>();
+    is_shared::<SharedHands<Cell<u8>>>();
     is_shared::<OwnedTag>();
     is_shared::<GetAsyncOwned>();
     goes::<OwnedTag<Cell<u8>>>();
@@ -36,6 +38,7 @@ fn what_outlives_a_panic() {
     outlives_panics::<Pool<Vec<u8>>>();
     outlives_panics::<Hand>();
     outlives_panics::<SharedHand>();
+    outlives_panics::<SharedHands>();
     outlives_panics::<Tag<'static>>();
     outlives_panics::<Batch<'static>>();
     outlives_panics::<OwnedTag>();

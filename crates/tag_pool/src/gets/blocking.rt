@@ -5,7 +5,7 @@ ghost use Rattle.refusals.specs.Refusals.{RefusesBy};
 ghost use Rattle.tag_pool.specs.Gets.{Gets};
 ghost use Rattle.tag_pool.specs.Hands.{HasRoom, IsHandOf, IsStillOf};
 ghost use Rattle.tag_pool.specs.Refusals.{blocking_checks};
-ghost use Rattle.tag_pool.specs.Waits.{CanWait, GetsBlocking, GetsUntil, Sleeps};
+ghost use Rattle.tag_pool.specs.Waits.{CanWait, GetsBlocking, GetsUntil, Sleeps, UntilTold};
 ghost use Rattle.tag_pool.specs.declared.kind.Kind.TheVariants.{Ordinary};
 
 use crate::fault::TagFault;
@@ -36,7 +36,7 @@ impl<R: Copy> Pool<R> {
         requires hand { IsHandOf self.now hand.old }
         requires room { HasRoom hand.old Ordinary 1 }
         ensures hand { IsStillOf self.now hand.old hand.new }
-        ensures gets { GetsUntil self.now ⊥ (Some result.0) result.1 hand.old hand.new }
+        ensures gets { GetsUntil self.now UntilTold ⊥ (Some result.0) result.1 hand.old hand.new }
     {
         if let Some(tag) = self.try_get(hand) {
             return (tag, self.see_to_all(hand));
@@ -49,7 +49,7 @@ impl<R: Copy> Pool<R> {
         requires hand { IsHandOf self.now hand.old }
         requires can { CanWait hand.old }
         ensures hand { IsStillOf self.now hand.old hand.new }
-        ensures sleeps { Sleeps self.now ⊥ (Some result.0) result.1 hand.old hand.new }
+        ensures sleeps { Sleeps self.now UntilTold ⊥ (Some result.0) result.1 hand.old hand.new }
     {
         let mut turn = Turn::Next;
         for _ in rt.forever() {

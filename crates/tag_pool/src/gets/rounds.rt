@@ -8,7 +8,7 @@ ghost use Rattle.tag_bell.specs.declared.told.TheConstants.{SLEEPERS};
 ghost use Rattle.tag_search.specs.Vain.{MaySleep};
 ghost use Rattle.tag_pool.specs.Hands.{caller_of, IsHandOf, IsStillOf};
 ghost use Rattle.tag_pool.specs.Refusals.{blocking_checks};
-ghost use Rattle.tag_pool.specs.Waits.{CanWait, EndsWait, GetsUntil, Goes, Sleeps, Tries};
+ghost use Rattle.tag_pool.specs.Waits.{Beside, CanWait, EndsWait, GetsUntil, Goes, Sleeps, Tries};
 ghost use Rattle.tag_pool.specs.declared.gets.rounds.Next.TheVariants.{Over};
 ghost use Rattle.tag_pool.specs.declared.kind.Kind.TheVariants.{Ordinary};
 
@@ -69,7 +69,8 @@ impl<R: Copy> Pool<R> {
         requires hand { IsHandOf self.now hand.old }
         ensures hand { IsStillOf self.now hand.old hand.new }
         ensures refusals { RefusesBy (blocking_checks self.now hand.old) (hand.new ≡ hand.old) result }
-        ensures gets { IfOk result (λ got. GetsUntil self.now (S.has_ended sleeper.new) got.0 got.1 hand.old hand.new) }
+        ensures gets { IfOk result (λ got.
+            GetsUntil self.now Beside (S.has_ended sleeper.new) got.0 got.1 hand.old hand.new) }
     {
         self.check_blocking(hand)?;
         if let Some(tag) = self.try_get(hand) {
@@ -83,7 +84,7 @@ impl<R: Copy> Pool<R> {
         requires hand { IsHandOf self.now hand.old }
         requires can { CanWait hand.old }
         ensures hand { IsStillOf self.now hand.old hand.new }
-        ensures sleeps { Sleeps self.now (S.has_ended sleeper.new) result.0 result.1 hand.old hand.new }
+        ensures sleeps { Sleeps self.now Beside (S.has_ended sleeper.new) result.0 result.1 hand.old hand.new }
     {
         let mut is_over = false;
         let mut turn = Turn::Next;

@@ -1,6 +1,6 @@
 //! Answers to calls.
 
-use tag_pool::{Found, Got, Next, Shown as Sums, TagFault, Told, Woken};
+use tag_pool::{Found, Got, Next, Shown as Sums, TagFault, Woken};
 
 /// The answer to a call. Whom it told is a mask: a bit for the number of each hand, of either list.
 #[derive(Clone, Copy, Debug, PartialEq, Eq)]
@@ -93,16 +93,12 @@ pub(crate) fn answered(called: Result<Answer, TagFault>) -> Answer {
 }
 
 /// Who was told, of both lists.
-fn mask_of(told: Told) -> u64 {
-    told.sleepers | told.listeners
-}
-
-pub(crate) fn told(told: Told) -> Answer {
-    Answer::Told(mask_of(told))
+fn mask_of(woken: &Woken) -> u64 {
+    woken.sleepers() | woken.listeners()
 }
 
 pub(crate) fn woken(woken: Woken) -> Answer {
-    told(woken.told())
+    Answer::Told(mask_of(&woken))
 }
 
 pub(crate) fn tag(found: Option<u32>) -> Answer {
@@ -128,15 +124,15 @@ fn and_told(answer: Option<u32>, mask: u64) -> Answer {
 }
 
 pub(crate) fn got(got: Got<Option<u32>>) -> Answer {
-    and_told(got.answer, mask_of(got.woken.told()))
+    and_told(got.answer, mask_of(&got.woken))
 }
 
 pub(crate) fn got_one(got: Got<u32>) -> Answer {
-    and_told(Some(got.answer), mask_of(got.woken.told()))
+    and_told(Some(got.answer), mask_of(&got.woken))
 }
 
 pub(crate) fn got_batch(got: Got<Option<(u32, u64)>>) -> Answer {
-    match (got.answer, mask_of(got.woken.told())) {
+    match (got.answer, mask_of(&got.woken)) {
         (found, 0) => batch(found),
         (Some((first, mask)), whom) => Answer::BatchAndTold(first, mask, whom),
         (None, whom) => Answer::NothingAndTold(whom),
@@ -151,19 +147,19 @@ pub(crate) fn found(found: Found<u32>) -> Answer {
 }
 
 /// What a round of a wait came to, and whom it told.
-pub(crate) fn waited(next: Next, told: Told) -> Answer {
+pub(crate) fn waited(next: Next, woken: Woken) -> Answer {
     match next {
-        Next::Won(tag) => and_told(Some(tag), mask_of(told)),
-        Next::Over => Answer::Over(mask_of(told)),
+        Next::Won(tag) => and_told(Some(tag), mask_of(&woken)),
+        Next::Over => Answer::Over(mask_of(&woken)),
         Next::Sleep => Answer::Sleeps,
     }
 }
 
 /// The tag that a wait won, or `None` where it is over, and whom it told.
-pub(crate) fn won_or_over(answer: Option<u32>, told: Told) -> Answer {
+pub(crate) fn won_or_over(answer: Option<u32>, woken: Woken) -> Answer {
     match answer {
-        Some(tag) => waited(Next::Won(tag), told),
-        None => waited(Next::Over, told),
+        Some(tag) => waited(Next::Won(tag), woken),
+        None => waited(Next::Over, woken),
     }
 }
 

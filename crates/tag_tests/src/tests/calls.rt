@@ -37,6 +37,8 @@ pub(crate) enum Call {
     Agrees(u32),
     /// Begins to wait in this list.
     ListSelf(u32),
+    /// Waits on in this list, with the turn that the hand had.
+    ListAgain(u32),
     /// Ends a wait in this list.
     GetUp(u32),
     IsTold(u32),

@@ -26,6 +26,10 @@ impl<T> Lock<T> {
         std::ptr::from_ref(self) as usize
     }
 
+    pub fn try_lock(&self) -> Option<Guard<'_, T>> {
+        steps::try_take(self.place()).then(|| Guard { lock: self })
+    }
+
     pub fn lock(&self) -> Guard<'_, T> {
         steps::take(self.place());
         Guard { lock: self }

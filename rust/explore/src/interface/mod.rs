@@ -4,6 +4,7 @@ pub mod batches;
 pub mod caches;
 pub mod futures;
 pub mod gates;
+pub mod lists;
 pub mod locks;
 pub mod passing;
 pub mod shared;
@@ -50,7 +51,11 @@ impl Sleeper for Explored {
 }
 
 fn open(options: &Options) -> Pool {
-    Pool::open_with_sleeper(options, &Explored, |_| 0).unwrap_or_else(|_| fault("the pool was not opened"))
+    open_with(options, &Explored)
+}
+
+fn open_with(options: &Options, sleeper: &'static dyn Sleeper) -> Pool {
+    Pool::open_with_sleeper(options, sleeper, |_| 0).unwrap_or_else(|_| fault("the pool was not opened"))
 }
 
 fn join(pool: &Pool) -> Hand {
@@ -59,7 +64,11 @@ fn join(pool: &Pool) -> Hand {
 
 /// Opens a pool, and has all hands join.
 fn stage(options: &Options) -> (Pool, Vec<Hand>) {
-    let pool = open(options);
+    stage_with(options, &Explored)
+}
+
+fn stage_with(options: &Options, sleeper: &'static dyn Sleeper) -> (Pool, Vec<Hand>) {
+    let pool = open_with(options, sleeper);
     let hands = (0..options.hands).map(|_| join(&pool)).collect();
     (pool, hands)
 }

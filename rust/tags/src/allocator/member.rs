@@ -42,6 +42,11 @@ impl<T> Member<T> {
         self.number
     }
 
+    /// Whether the hand keeps tags.
+    pub fn is_cached(&self) -> bool {
+        self.call(|way, _| matches!(way, Way::Cached(_)))
+    }
+
     /// The tags that the hand belongs to.
     #[inline]
     pub fn set(&self) -> &Arc<Set<T>> {

@@ -124,6 +124,11 @@ impl<T> Roster<T> {
         }
     }
 
+    /// Number of tags of both sets.
+    pub fn total(&self) -> u32 {
+        self.set().core.tags.depth()
+    }
+
     /// Tells which tags are busy, as `Hand::busy` does, but without a hand.
     pub fn busy(&self, into: &mut [u64]) -> Result<u32> {
         let core = &self.set().core;

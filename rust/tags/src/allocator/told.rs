@@ -36,8 +36,8 @@ impl From<Told> for Due {
     #[inline]
     fn from(told: Told) -> Due {
         Due {
-            sleepers: told.sleepers,
-            listeners: told.listeners,
+            sleepers: told.sleepers(),
+            listeners: told.listeners(),
         }
     }
 }

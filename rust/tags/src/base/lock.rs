@@ -51,6 +51,15 @@ impl<T> Lock<T> {
         }
     }
 
+    /// Takes the lock if it is free.
+    #[inline]
+    pub fn try_lock(&self) -> Option<Guard<'_, T>> {
+        self.takes(FREE, HELD).then(|| Guard {
+            lock: self,
+            own: PhantomData,
+        })
+    }
+
     #[inline]
     fn takes(&self, from: u32, to: u32) -> bool {
         self.state.compare_exchange(from, to, Acquire, Relaxed).is_ok()
@@ -123,13 +132,23 @@ mod tests {
     use std::thread;
 
     #[test]
+    fn a_lock_that_is_held_can_not_be_taken() {
+        let lock = Lock::new(0, default_sleeper());
+        let held = lock.try_lock();
+        assert!(held.is_some() && lock.try_lock().is_none() && lock.try_lock().is_none());
+        drop(held);
+        assert!(lock.try_lock().is_some() && lock.try_lock().is_some());
+    }
+
+    #[test]
     fn one_thread_at_a_time() {
         let lock = Lock::new(0_u64, default_sleeper());
         thread::scope(|threads| {
             for _ in 0..8 {
                 threads.spawn(|| {
                     for round in 0..20_000 {
-                        let mut value = lock.lock();
+                        let tried = if round % 3 == 0 { lock.try_lock() } else { None };
+                        let mut value = tried.unwrap_or_else(|| lock.lock());
                         *value += 1;
                         if round % 1000 == 0 {
                             thread::yield_now();

@@ -1,8 +1,9 @@
-//! Waits for a hand and for all tags, and the end of all waits.
+//! Waits for a hand and for tags, and the end of all waits.
 
 use crate::error::{Error, Result};
 use crate::gate::{deadline, Counted};
 use crate::hand::Hand;
+use crate::lists::Busy;
 use crate::options::Kind;
 use crate::pool::Pool;
 use core::time::Duration;
@@ -97,6 +98,60 @@ impl<T> Pool<T> {
             (busy == [0, 0]).then_some(())
         };
         bell.tags().wait(bell.sleeper, end, look).is_some()
+    }
+
+    /// Sleeps until each tag of a list has been back: for the end of a part of the work, such as a connection of a
+    /// server, while the rest goes on. The list may have tags of either set, any number of them, in any order.
+    ///
+    /// It returns once each of these tags was found free at some moment of the call, though not all of them at one
+    /// moment. A tag that others get after it was found is not waited for again; so begin no request of that connection
+    /// any more. A tag that is held, posted or kept in a cache is not free; so for one that this thread itself holds it
+    /// may sleep for ever. Caches and a [`stop`](Pool::stop) are as with [`drain`](Pool::drain).
+    ///
+    /// It looks at the pool at first, and then at most once in a millisecond; and after each of its looks each hand does
+    /// so once, as soon as it gives tags back. So a tag is found if it is the first that its hand gives back, though
+    /// others get it again at once. One that is got again between two looks is busy to the second one, and has to be
+    /// found by a later one.
+    ///
+    /// It returns [`NoSuchTag`](Error::NoSuchTag) if the pool has no tag of one of these numbers.
+    ///
+    /// ```
+    /// # use std::time::Duration;
+    /// # use tags::{Error, Options, Pool};
+    /// # fn main() -> tags::Result<()> {
+    /// let pool = Pool::open(&Options::new(4, 1))?;
+    /// let hand = pool.join()?;
+    /// let (ends, goes_on) = (hand.get_blocking()?, hand.get_blocking()?);
+    /// let request = ends.number();
+    /// assert!(!pool.drain_list_timeout(&[request], Duration::from_millis(5))?);
+    /// drop(ends);
+    /// pool.drain_list(&[request])?;
+    /// assert_eq!(pool.drain_list(&[request, 4]), Err(Error::NoSuchTag));
+    /// # drop(goes_on);
+    /// # Ok(())
+    /// # }
+    /// ```
+    pub fn drain_list(&self, numbers: &[u32]) -> Result<()> {
+        self.drain_list_until(numbers, None).map(|_| ())
+    }
+
+    /// The same, for at most this long. Returns whether each tag has been back.
+    pub fn drain_list_timeout(&self, numbers: &[u32], time: Duration) -> Result<bool> {
+        self.drain_list_until(numbers, deadline(self.home.bell.sleeper, time))
+    }
+
+    fn drain_list_until(&self, numbers: &[u32], end: Option<Duration>) -> Result<bool> {
+        let bell = &self.home.bell;
+        let total = self.home.roster.lock().total();
+        if numbers.iter().any(|number| *number >= total) {
+            return Err(Error::NoSuchTag);
+        }
+        let _counted = Counted::new(bell.waiting());
+        let report = |busy: &mut Busy| {
+            let all = self.busy(busy);
+            debug_assert!(all.is_ok(), "there is a bit for each tag");
+        };
+        Ok(bell.lists().enter(numbers, total)?.wait(bell.sleeper, end, report))
     }
 
     /// Ends every wait for a tag or a hand, now and from now on, as for a shutdown. Threads that sleep for either and

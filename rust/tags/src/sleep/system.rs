@@ -1,6 +1,7 @@
 //! Sleep by the system.
 
 use crate::sleep::Sleeper;
+use core::num::NonZero;
 use core::sync::atomic::AtomicU32;
 use core::time::Duration;
 use std::sync::OnceLock;
@@ -23,6 +24,36 @@ impl Sleeper for System {
         static BEGIN: OnceLock<Instant> = OnceLock::new();
         BEGIN.get_or_init(Instant::now).elapsed()
     }
+
+    #[inline]
+    fn processor(&self) -> usize {
+        processor()
+    }
+
+    fn processors(&self) -> usize {
+        std::thread::available_parallelism().map_or(1, NonZero::get)
+    }
+}
+
+/// The number of the processor that this thread runs on.
+#[cfg(all(target_os = "linux", not(tags_park_threads)))]
+fn processor() -> usize {
+    unsafe extern "C" {
+        safe fn sched_getcpu() -> core::ffi::c_int;
+    }
+    // -1 if the system can't tell.
+    sched_getcpu().try_into().unwrap_or(0)
+}
+
+/// A number of the thread's own, in the order in which threads ask first.
+#[cfg(not(all(target_os = "linux", not(tags_park_threads))))]
+fn processor() -> usize {
+    use core::sync::atomic::{AtomicUsize, Ordering::Relaxed};
+    static NEXT: AtomicUsize = AtomicUsize::new(0);
+    std::thread_local! {
+        static OWN: usize = NEXT.fetch_add(1, Relaxed);
+    }
+    OWN.try_with(|own| *own).unwrap_or(0)
 }
 
 // With `--cfg tags_park_threads` a program does under Linux what it does elsewhere.

@@ -1,7 +1,8 @@
 -- A first try that wins is the whole search, as a hint below the depth is reduced already. One that wins nothing is
 -- the beginning of a pass.
 use Rattle.std.specs.Prelude.{◌<◌, ◌^◌, ◌∷◌, ◌≡◌, ◌≤◌}
-use Rattle.tag_search.proofs.Uses.{[], ap, arith, at_once, Claimed, Layout, Look, pass, refl, rules, Some, subst, wins, word_depth, word_of, ◌∙◌}
+use Rattle.tag_search.proofs.Uses.{[], ap, arith, at_once, Claimed, Hint, hint_after_get, Layout, Look, pass, refl, rules, Some, subst, sym, wins, word_bits-le, word_depth, word_of, ◌∙◌}
+use Rattle.tag_search.specs.Follows.{HintFollows}
 use Rattle.tag_search.proofs.AllPlaces.{whole_won}
 use Rattle.tag_search.proofs.BegunFacts.{begun_full, begun_lost, first_whole}
 use Rattle.tag_search.proofs.GetFacts.{plain_get, plain_follows}
@@ -15,8 +16,8 @@ returns-in_default-clause-begun g c =
     record {
       steps = Look word c.look-found.result ∷ [];
       added = c.look-found.ensures.step;
-      holds = begun_full l c.args.hint.now word c.word_depth.result c.look-found.result is
-          (c.word_depth.ensures.value ∙ (λ z. word_depth (same z) (is z))) c.in_default.ensures;
+      holds = begun_full l c.args.hint.now word (word_depth c.layout-layout.result word) c.look-found.result is
+          (λ z. word_depth (same z) (is z)) c.in_default.ensures.free;
     }
 
 pub returns-in-Err-clause-begun : goal.returns-in-Err-clause-begun
@@ -25,13 +26,15 @@ returns-in-Err-clause-begun g c =
     let same = c.layout-layout.ensures.value in let place = c.in-Some.place in let lost = c.in-Err.ensures.lost in
     let is : word ≡ word_of l at = c.word_of-word.ensures.value ∙ ap (λ (x : Layout). word_of x at) same in
     let look = Look word c.look-found.result in let claim = Claimed word (2 ^ place) c.in-Err.found in
+    let narrow : c.layout-layout.result.shift ≤ 6 = search rules in
+    let few = word_bits-le c.layout-layout.result narrow in
+    let small : word_depth c.layout-layout.result word ≤ 64 = omega arith in
     record {
       steps = look ∷ claim ∷ [];
       added = g.met.P.Port.adds_more c.args.port.now c.look-found.new.self c.claim_one.new.self (look ∷ [])
           (claim ∷ []) c.look-found.ensures.step lost.2;
-      holds = begun_lost l c.args.hint.now word c.word_depth.result c.look-found.result is
-          (c.word_depth.ensures.value ∙ (λ z. word_depth (same z) (is z))) place c.in-Err.found
-          c.word_depth.ensures.within.1 c.in-Some.ensures lost.0;
+      holds = begun_lost l c.args.hint.now word (word_depth c.layout-layout.result word) c.look-found.result is
+          (λ z. word_depth (same z) (is z)) place c.in-Err.found small c.in-Some.ensures.free lost.0;
     }
 
 pub returns-clause-won : goal.returns-clause-won
@@ -51,8 +54,7 @@ returns-clause-won g c =
             c.word_of-word.ensures.value c.if-before.false narrow (omega arith) (Some c.tag_at-tag.result)
             (look ∷ claim ∷ [])
             (rw c.tag_at-tag.ensures.value (whole_won layout word inside (look ∷ claim ∷ []) place (at_once
-            (pass (wins (rw c.word_depth.ensures.value
-            at (first_whole c.look-found.result c.word_depth.result place c.in-Some.ensures)) won.1)))));
+            (pass (wins (first_whole c.look-found.result (word_depth layout word) place c.in-Some.ensures.free) won.1)))));
         freed = refl;
       };
     }
@@ -61,5 +63,7 @@ pub returns-clause-hint : goal.returns-clause-hint
 returns-clause-hint g c =
     let layout = c.layout-layout.result in let hint = c.args.hint.now in let same = c.layout-layout.ensures.value in
     let low : hint.at < layout.depth = let d = c.depth.ensures.value in let f = c.if-before-depth.false in omega arith in
-    plain_follows layout _ hint same (subst (λ (x : Layout). hint.at < x.depth) same low) c.depth-2.result
-    c.after_get-hint.result (Some c.tag_at-tag.result) c.depth-2.ensures.value c.after_get-hint.ensures
+    let won = Some c.tag_at-tag.result in
+    subst (λ (new : Hint). HintFollows (g.P.Port.sizes c.args.port.now).depth hint new won) (sym c.follow_win.ensures)
+    (plain_follows layout _ hint same (subst (λ (x : Layout). hint.at < x.depth) same low) c.depth-2.result
+    (hint_after_get c.depth-2.result hint.round_robin hint.at won) won c.depth-2.ensures.value refl)

@@ -53,6 +53,21 @@ fn a_clear_tells_one_for_each_tag_that_goes_back(rt: HostRuntime) -> Result<(), 
     expect_told(&rt, 1, 7, 0b0110)
 }
 
+/// Who sees to one tag gives back the three that are kept, and tells as many hands.
+#[test]
+fn hands_are_told_of_what_was_kept(rt: HostRuntime) -> Result<(), Fail> {
+    expect_steps(
+        &rt,
+        pool(4, 0, 8).with_caches(1, 8),
+        &[
+            Gets(0, 4),
+            Clears(0, 3),
+            Calls(&LISTED[..5]),
+            Calls(&[(0, SeeTo(1), Told(0b1110)), (0, Kept, Keeps(0, 4, 3, 0))]),
+        ],
+    )
+}
+
 #[test]
 fn a_kept_tag_is_returned_at_once(rt: HostRuntime) -> Result<(), Fail> {
     expect(

@@ -16,7 +16,7 @@ fn the_first_example(rt: HostRuntime) -> Result<(), Fail> {
         pool.write(&mut hand, tag, request)?;
         assert_eq!(rt; (tag, pool.read(&mut hand, tag)?), (2, request));
         let woken = pool.clear(&mut hand, tag)?;
-        assert!(rt; woken.told().is_none());
+        assert!(rt; woken.is_none());
         pool.discard();
         return Ok(());
     }

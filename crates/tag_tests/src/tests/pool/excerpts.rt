@@ -4,7 +4,7 @@ ghost use Rattle.tag_pool.specs.Hands.{IsHandOf, Holds};
 
 use std::test::Fail;
 use tag_pool::{
-    GatherCause, Hand, Kind, Options, Pool, SLEEPERS, Shown, TagFault, Told, Totals, Turn,
+    GatherCause, Hand, Kind, Options, Pool, SLEEPERS, Shown, TagFault, Totals, Turn, Woken,
 };
 
 /// Takes the last of the hands.
@@ -48,20 +48,20 @@ fn pass_on(
     pool.read(second, tag)
 }
 
-/// Has one hand wait while another clears a tag, and returns whom that told.
+/// Has one hand wait while another clears a tag, and returns whom that told and woke.
 fn wait_for_clear(
     pool: &Pool<u64>,
     waiting: &mut Hand<u64>,
     hand: &mut Hand<u64>,
     tag: u32,
-) -> Result<Told, TagFault>
+) -> Result<Woken, TagFault>
     requires { IsHandOf pool.now waiting.old × IsHandOf pool.now hand.old }
     ensures { IsHandOf pool.now waiting.new × IsHandOf pool.now hand.new }
 {
     pool.list_self(waiting, SLEEPERS, Turn::Next);
-    let told = pool.clear(hand, tag)?.told();
+    let woken = pool.clear(hand, tag)?;
     pool.get_up(waiting, SLEEPERS);
-    Ok(told)
+    Ok(woken)
 }
 
 #[test]
@@ -72,8 +72,8 @@ fn a_tag_is_won_passed_on_and_waited_for(rt: HostRuntime) -> Result<(), Fail> {
     let mut first = next_hand(&pool, &mut hands)?;
     let tag = win(&pool, &mut first)?;
     assert_eq!(rt; pass_on(&pool, &mut first, &mut second, tag, 7), Ok(7));
-    let told = wait_for_clear(&pool, &mut first, &mut second, tag)?;
-    assert_eq!(rt; told.sleepers, 1);
+    let woken = wait_for_clear(&pool, &mut first, &mut second, tag)?;
+    assert_eq!(rt; woken.sleepers(), 1);
     Ok(())
 }
 
@@ -84,7 +84,7 @@ fn a_batch_is_won_and_cleared(rt: HostRuntime) -> Result<(), Fail> {
     let mut hand = next_hand(&pool, &mut hands)?;
     assert_eq!(rt; pool.get_batch(&mut hand, 5)?.answer, Some((2, 31)));
     let woken = pool.clear_batch(&mut hand, &[3, 5])?;
-    assert!(rt; woken.told().is_none());
+    assert!(rt; woken.is_none());
     assert_eq!(rt; pool.get_batch(&mut hand, 3)?.answer, Some((3, 5)));
     Ok(())
 }

@@ -4,7 +4,7 @@ use crate::tests::answers::Answer::{
 };
 use crate::tests::calls::Call::{
     Clear, ClearBoth, ClearMask, ClearQuietly, FindsWaiters, Get, GetBatch, GetExactly, GetQuietly,
-    GetReserved, GetShallow, GetUp, IsTold, ListSelf, SeeTo, SeeToAll,
+    GetReserved, GetShallow, GetUp, IsTold, ListAgain, ListSelf, SeeTo, SeeToAll,
 };
 use crate::tests::shared::stages::{expect, expect_steps, pool};
 use crate::tests::steps::Step::{Calls, Gets};
@@ -134,4 +134,28 @@ fn who_was_told_and_has_a_tag_sees_to_the_next(rt: HostRuntime) -> Result<(), Fa
             (3, SeeToAll, Told(0)),
         ],
     )
+}
+
+/// Hand 1 is told first, and again after it listed itself anew with its turn; with the next turn it comes after hand 2.
+#[test]
+fn who_waits_on_keeps_its_turn(rt: HostRuntime) -> Result<(), Fail> {
+    for setting in [pool(3, 0, 3), pool(3, 0, 3).with_caches(3, 1)] {
+        expect_steps(
+            &rt,
+            setting,
+            &[
+                Gets(0, 3),
+                Calls(&[
+                    (1, ListSelf(SLEEPERS), Done),
+                    (2, ListSelf(SLEEPERS), Done),
+                    (0, Clear(0), Told(0b010)),
+                    (1, ListAgain(SLEEPERS), Done),
+                    (0, Clear(1), Told(0b010)),
+                    (1, ListSelf(SLEEPERS), Done),
+                    (0, Clear(2), Told(0b100)),
+                ]),
+            ],
+        )?;
+    }
+    Ok(())
 }

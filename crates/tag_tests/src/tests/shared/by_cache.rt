@@ -46,6 +46,10 @@ fn wait_or_look(pool: &Pool<u64>, cache: &mut Cache<u64>, call: Call) -> Answer
             cache.list_self(pool, list(at), Turn::Next);
             Answer::Done
         }
+        Call::ListAgain(at) => {
+            cache.list_self(pool, list(at), Turn::Same);
+            Answer::Done
+        }
         Call::GetUp(at) => Answer::WasTold(cache.get_up(pool, list(at))),
         Call::IsTold(at) => Answer::WasTold(cache.is_told(pool, list(at))),
         Call::SeeTo(freed) => woken(cache.wake(pool, freed)),

@@ -4,7 +4,7 @@ ghost use Rattle.tag_core.specs.declared.bell.TheConstants.{LISTS};
 ghost use Rattle.tag_pool.specs.Hands.{IsHandOf, Holds};
 
 use crate::tests::answers::{
-    Answer, answered, found, got, got_batch, got_one, shown, tag, told, waited, woken, won_or_over,
+    Answer, answered, found, got, got_batch, got_one, shown, tag, waited, woken, won_or_over,
 };
 use crate::tests::calls::Call;
 use crate::tests::shared::naps::Naps;
@@ -54,6 +54,10 @@ fn wait_or_look(pool: &Pool<u64>, hand: &mut Hand<u64>, call: Call) -> Answer
             pool.list_self(hand, list(at), Turn::Next);
             Answer::Done
         }
+        Call::ListAgain(at) => {
+            pool.list_self(hand, list(at), Turn::Same);
+            Answer::Done
+        }
         Call::GetUp(at) => Answer::WasTold(pool.get_up(hand, list(at))),
         Call::IsTold(at) => Answer::WasTold(pool.is_told(hand, list(at))),
         Call::WaitOn(is_over) => wait_on(pool, hand, is_over),
@@ -100,8 +104,8 @@ fn get_until(pool: &Pool<u64>, hand: &mut Hand<u64>, left: u32) -> Answer
 {
     match pool.get_until(&mut Naps { left }, hand) {
         Ok((answer, whom)) => {
-            pool.wake_told(hand, whom);
-            won_or_over(answer, whom)
+            let woken = pool.wake_told(hand, whom);
+            won_or_over(answer, woken)
         }
         Err(fault) => Answer::Refused(fault),
     }
@@ -116,8 +120,8 @@ fn wait_on(pool: &Pool<u64>, hand: &mut Hand<u64>, is_over: bool) -> Answer
         return Answer::CannotWait;
     }
     let (next, whom) = pool.wait_on(hand, SLEEPERS, is_over, Turn::Next);
-    pool.wake_told(hand, whom);
-    waited(next, whom)
+    let woken = pool.wake_told(hand, whom);
+    waited(next, woken)
 }
 
 /// Begins a wait, and ends it if it goes on. A tag that it wins is cleared.

@@ -3,7 +3,7 @@
 //! How a caller that made tags free sees to them: it tells others that wait.
 
 use crate::proved::tag_bell::told::{Told, LISTENERS, SLEEPERS};
-use crate::proved::tag_core::{Caller, Map};
+use crate::proved::tag_core::{Caller, Map, Unroused};
 
 /// Sees to all that the caller has to see to, after it made `freed` tags free: where somebody waits, it tells up to
 /// `freed` callers of each list, and one at least. Returns those told. Where nobody waits it makes two loads.
@@ -41,13 +41,13 @@ fn tell_each<R>(map: &Map<R>, caller: &mut Caller<R>, freed: u32, sleepers: u64,
 
 /// Tells some callers of a list that was found so, and if all of these were told or got up meanwhile, whoever is listed.
 /// Returns those told.
-fn tell_some<R>(map: &Map<R>, caller: &mut Caller<R>, list: u32, most: u32, listed: u64) -> u64 {
+fn tell_some<R>(map: &Map<R>, caller: &mut Caller<R>, list: u32, most: u32, listed: u64) -> Unroused {
     if listed == 0 {
-        return 0;
+        return Unroused::none();
     }
     let mask = longest_waits(map, listed, most);
-    let told = map.tell(caller, list, mask) & mask;
-    if told != 0 {
+    let told = map.tell(caller, list, mask);
+    if told.callers() != 0 {
         return told;
     }
     map.tell(caller, list, u64::MAX)

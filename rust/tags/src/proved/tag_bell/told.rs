@@ -2,32 +2,44 @@
 
 //! The two lists of the callers that wait, and who was told.
 
+use crate::proved::tag_core::Unroused;
+
 /// The list of the callers that sleep until they are told.
 pub const SLEEPERS: u32 = 0;
 
 /// The list of the callers that learn by other means that they were told.
 pub const LISTENERS: u32 = 1;
 
-/// The callers that a call told, a bit for the number of each: 1 is told. Whoever gets it has to wake them.
-#[derive(Clone, Copy, Debug, PartialEq, Eq)]
+/// The callers that a call told, a bit for the number of each: 1 is told. Whoever gets it has to wake them, and can wake
+/// nobody else by it.
 pub struct Told {
     /// Those that it removed from the list of sleepers.
-    pub sleepers: u64,
+    pub(crate) sleepers: Unroused,
     /// Those that it removed from the list of listeners.
-    pub listeners: u64,
+    pub(crate) listeners: Unroused,
 }
 
 impl Told {
     /// Nobody.
     pub fn none() -> Told {
         Told {
-            sleepers: 0,
-            listeners: 0,
+            sleepers: Unroused::none(),
+            listeners: Unroused::none(),
         }
     }
 
     /// Returns whether nobody was told.
-    pub fn is_none(self) -> bool {
-        self.sleepers == 0 && self.listeners == 0
+    pub fn is_none(&self) -> bool {
+        self.sleepers() == 0 && self.listeners() == 0
+    }
+
+    /// Returns those that were removed from the list of sleepers.
+    pub fn sleepers(&self) -> u64 {
+        self.sleepers.callers()
+    }
+
+    /// Returns those that were removed from the list of listeners.
+    pub fn listeners(&self) -> u64 {
+        self.listeners.callers()
     }
 }

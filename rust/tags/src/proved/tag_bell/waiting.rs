@@ -28,7 +28,9 @@ pub fn get_up<R>(map: &Map<R>, caller: &mut Caller<R>, list: u32) -> bool {
     !map.is_listed(caller, found)
 }
 
-/// Returns whether the caller was told, or does not wait there.
-pub fn is_told<R>(map: &Map<R>, caller: &Caller<R>, list: u32) -> bool {
-    !map.is_listed(caller, map.peek_listed(list))
+/// Looks whether the caller was told: returns whether it does not find itself listed there, so also if it does not wait
+/// there. One step.
+pub fn is_told<R>(map: &Map<R>, caller: &mut Caller<R>, list: u32) -> bool {
+    let listed = map.sight(caller, list);
+    !map.is_listed(caller, listed)
 }

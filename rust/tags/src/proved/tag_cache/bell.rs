@@ -17,9 +17,9 @@ impl<R: Copy> Cache<R> {
         pool.get_up(&mut self.hand, list)
     }
 
-    /// Returns whether the hand was told, or does not wait there, as `Pool::is_told` does.
-    pub fn is_told(&self, pool: &Pool<R>, list: u32) -> bool {
-        pool.is_told(&self.hand, list)
+    /// Looks whether the hand was told, as `Pool::is_told` does.
+    pub fn is_told(&mut self, pool: &Pool<R>, list: u32) -> bool {
+        pool.is_told(&mut self.hand, list)
     }
 
     /// Sees to all that the hand has to see to, after its user gave `freed` ordinary tags back, which became free or are

@@ -31,10 +31,11 @@ impl<R: Copy> Cache<R> {
     /// Has the hand make a round that is not the end of its wait.
     fn try_listed(&mut self, pool: &Pool<R>, list: u32, turn: Turn) -> (Next, Told) {
         let (next, told) = pool.wait_on(&mut self.hand, list, false, turn);
-        if let Next::Won(tag) = next {
-            self.learn(tag);
-        }
-        (next, told)
+        let Next::Won(tag) = next else {
+            return (next, told);
+        };
+        self.learn(tag);
+        (Next::Won(tag), told)
     }
 
     /// Ends a wait: the hand gets up, and then sees to all tags. Returns those told, who are to be woken.

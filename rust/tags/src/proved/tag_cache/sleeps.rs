@@ -29,11 +29,11 @@ impl<R: Copy> Cache<R> {
         Ok(got)
     }
 
-    /// Sleeps until the hand is told. It may sleep only if nothing is kept, and the hand is listed among the sleepers,
-    /// has tried each ordinary tag in vain since, and has nothing to see to, as after a get that found none. It makes
-    /// no step.
-    pub fn sleep<W: Wait>(&self, rt: &W, pool: &Pool<R>) {
-        pool.sleep(rt, &self.hand);
+    /// Sleeps until the hand finds itself told, as `Pool::sleep` does. It may sleep only if nothing is kept, and the hand is
+    /// listed among the sleepers, has tried each ordinary tag in vain since, and has nothing to see to, as after a get that
+    /// found none.
+    pub fn sleep<W: Wait>(&mut self, rt: &W, pool: &Pool<R>) {
+        pool.sleep(rt, &mut self.hand);
     }
 
     /// Wakes the sleepers among those that a call told. It makes no step, and changes nothing if nobody was told.

@@ -10,6 +10,24 @@ use crate::proved::tag_core::spots::{clock_spot, list_spot, turn_spot};
 /// Number of lists of the callers that wait: one of those that sleep, and one of those that are told by other means.
 pub const LISTS: u32 = 2;
 
+/// Callers that were told, a bit for the number of each: 1 is told. Only `tell` makes one that is not 0, and only its
+/// callers can be roused by it.
+pub struct Unroused {
+    callers: u64,
+}
+
+impl Unroused {
+    /// Nobody.
+    pub fn none() -> Unroused {
+        Unroused { callers: 0 }
+    }
+
+    /// Returns the callers that were told.
+    pub fn callers(&self) -> u64 {
+        self.callers
+    }
+}
+
 impl<R> Map<R> {
     /// The caller's bit in a list.
     fn own_bit(&self, caller: &Caller<R>) -> u64 {
@@ -34,11 +52,12 @@ impl<R> Map<R> {
         table.load(&mut caller.seat, list_spot(list))
     }
 
-    /// Removes the callers of a mask from a list, and returns the list as it was. Those of the mask that were listed are
-    /// told by it. One step, `fetch_and`.
-    pub fn tell(&self, caller: &mut Caller<R>, list: u32, mask: u64) -> u64 {
+    /// Removes the callers of a mask from a list. Those of them that were listed are told by it, and returned. One step,
+    /// `fetch_and`.
+    pub fn tell(&self, caller: &mut Caller<R>, list: u32, mask: u64) -> Unroused {
         let table = &self.table.shared;
-        table.fetch_and(&mut caller.seat, list_spot(list), !mask)
+        let found = table.fetch_and(&mut caller.seat, list_spot(list), !mask);
+        Unroused { callers: found & mask }
     }
 
     /// Removes the caller from a list, and returns the list as it was: its own bit is 0 there if somebody has told it. One
@@ -59,10 +78,5 @@ impl<R> Map<R> {
     /// Loads the turn that the caller of this number took last, 0 if none.
     pub fn peek_turn(&self, caller: u32) -> u64 {
         self.table.shared.peek(turn_spot(caller))
-    }
-
-    /// Loads a list without a caller.
-    pub fn peek_listed(&self, list: u32) -> u64 {
-        self.table.shared.peek(list_spot(list))
     }
 }

@@ -28,7 +28,7 @@ mod together;
 mod word_held;
 
 pub use crate::proved::step_ledger::GatherCause;
-pub use bell::LISTS;
+pub use bell::{Unroused, LISTS};
 pub use caller::Caller;
 pub use claims::{Claim, Spent};
 pub use closed::{Closed, GatherFault};
@@ -38,5 +38,5 @@ pub use map::Map;
 pub use opens::OpenFault;
 pub use settled::Settled;
 pub use shape::Shape;
-pub use sleeps::Roused;
+pub use sleeps::{OwnTurn, Roused};
 pub use together::Gathering;

@@ -21,9 +21,10 @@ impl<R: Copy> Pool<R> {
         crate::proved::tag_bell::get_up(&self.ordinary, &mut hand.ordinary.caller, list)
     }
 
-    /// Returns whether the hand was told, or does not wait there.
-    pub fn is_told(&self, hand: &Hand<R>, list: u32) -> bool {
-        crate::proved::tag_bell::is_told(&self.ordinary, &hand.ordinary.caller, list)
+    /// Looks whether the hand was told: returns whether it does not find itself listed there, so also if it does not wait
+    /// there. One that was told gets up. One step.
+    pub fn is_told(&self, hand: &mut Hand<R>, list: u32) -> bool {
+        crate::proved::tag_bell::is_told(&self.ordinary, &mut hand.ordinary.caller, list)
     }
 
     /// Returns whether it finds a hand that waits, by one look at each list. If it finds none, this hand has nothing to see

@@ -18,9 +18,12 @@ impl<R: Copy> Pool<R> {
     /// nothing changes then.
     #[inline]
     pub fn clear_quietly(&self, hand: &mut Hand<R>, tag: u32) -> Result<Kind, TagFault> {
-        let kind = self.find_held(hand, tag)?;
-        self.clear_held_quietly(hand, tag);
-        Ok(kind)
+        if tag < hand.reserved_count {
+            hand.reserved.clear(&self.reserved, tag)?;
+            return Ok(Kind::Reserved);
+        }
+        hand.ordinary.clear(&self.ordinary, tag - hand.reserved_count)?;
+        Ok(Kind::Ordinary)
     }
 
     /// Clears a tag that the hand holds, like `clear_quietly` but for the checks.

@@ -4,6 +4,7 @@
 
 use crate::proved::step_ledger::Numbered;
 use crate::proved::tag_core::{Caller, Map, Spent};
+use crate::proved::tag_pool::fault::TagFault;
 use crate::proved::tag_search::{on_map, Found, Hint};
 
 /// A hand's caller in the map of one set, and where its gets start there.
@@ -46,6 +47,19 @@ impl<R: Copy> Side<R> {
     pub(crate) fn look_both(&mut self, map: &Map<R>, word: u32) -> (u64, u64) {
         let found = map.look(&mut self.caller, word);
         (found, map.look_aside(&mut self.caller, word))
+    }
+
+    /// Clears the tag with this number, as `put` does, or returns its fault: `NoSuchTag` or `NotHeld`.
+    #[inline]
+    pub(crate) fn clear(&mut self, map: &Map<R>, number: u32) -> Result<(), TagFault> {
+        if number >= map.layout().depth() {
+            return Err(TagFault::NoSuchTag);
+        }
+        if !self.caller.holds(number) {
+            return Err(TagFault::NotHeld);
+        }
+        self.put(map, number);
+        Ok(())
     }
 
     /// Sets a held tag aside, and moves the hint to it, unless it is round robin. One step.

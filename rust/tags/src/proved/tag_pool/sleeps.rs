@@ -11,10 +11,11 @@ use crate::proved::tag_pool::kind::Kind;
 use crate::proved::tag_pool::pool::Pool;
 
 impl<R: Copy> Pool<R> {
-    /// Sleeps until the hand is told. It may sleep only if it is listed among the sleepers, has tried each ordinary tag in
-    /// vain since, and has nothing to see to, as after a get that found none. It makes no step.
-    pub fn sleep<W: Wait>(&self, rt: &W, hand: &Hand<R>) {
-        crate::proved::tag_bell::sleep(rt, &self.ordinary, &hand.ordinary.caller);
+    /// Sleeps until the hand finds itself told. It may sleep only if it is listed among the sleepers, has tried each ordinary
+    /// tag in vain since, and has nothing to see to, as after a get that found none. It looks at the list before each time
+    /// that it sleeps, and once more after the last.
+    pub fn sleep<W: Wait>(&self, rt: &W, hand: &mut Hand<R>) {
+        crate::proved::tag_bell::sleep(rt, &self.ordinary, &mut hand.ordinary.caller);
     }
 
     /// Wakes the sleepers among those that a call told. It makes no step.

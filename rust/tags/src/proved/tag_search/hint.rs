@@ -28,6 +28,15 @@ impl Hint {
         self.at = self.after_get(depth, from, answer);
     }
 
+    /// Moves the hint after a search without round robin that began at it and won this tag: it stays unless the tag is its
+    /// own.
+    #[inline]
+    pub(crate) fn follow_win(&mut self, depth: u32, tag: u32) {
+        if tag == self.at {
+            self.at = next_hint(depth, tag);
+        }
+    }
+
     /// Where the hint goes after a search that began at `from`.
     #[inline]
     pub(crate) fn after_get(self, depth: u32, from: u32, answer: Option<u32>) -> u32 {

@@ -3,11 +3,12 @@
 //! Gets: the search for a free tag, from a caller's hint.
 
 use crate::proved::tag_core::Spent;
-use crate::proved::tag_layout::{first_clear, Layout};
+use crate::proved::tag_layout::Layout;
 use crate::proved::tag_search::all_places::search_after;
 use crate::proved::tag_search::batch::search_run;
 use crate::proved::tag_search::hint::Hint;
 use crate::proved::tag_search::pass::Missed;
+use crate::proved::tag_search::place::first_free;
 use crate::proved::tag_search::port::Port;
 use crate::proved::tag_search::rank::Rank;
 use crate::proved::tag_search::scan::Scan;
@@ -47,7 +48,7 @@ pub(crate) fn begin<P: Port>(port: &mut P, hint: &mut Hint) -> Result<u32, Unfin
     }
     let word = layout.word_of(before.at);
     let found = port.look(word);
-    let Some(place) = first_clear(found, 0, layout.word_depth(word)) else {
+    let Some(place) = first_free(layout, word, found) else {
         return Err(Unfinished::Full);
     };
     if let Err(found) = port.claim_one(word, place) {
@@ -55,7 +56,7 @@ pub(crate) fn begin<P: Port>(port: &mut P, hint: &mut Hint) -> Result<u32, Unfin
         return Err(Unfinished::Lost { from, found });
     }
     let tag = layout.tag_at(word, place);
-    hint.at = before.after_get(layout.depth(), before.at, Some(tag));
+    hint.follow_win(layout.depth(), tag);
     Ok(tag)
 }
 

@@ -5,8 +5,8 @@ use Rattle.tag_pool.specs.declared.gets.rounds.Next.{Next}
 use Rattle.tag_cache.proofs.Winning.{tries_in_vain, wins_listed}
 use Rattle.tag_cache.proofs.cache.Cache.try_listed.Goals as goal
 
-pub returns-in-Won-clause-tries : goal.returns-in-Won-clause-tries
-returns-in-Won-clause-tries g c = let old = c.args.self.now in let new = c.learn.new.self in
+pub returns-clause-tries : goal.returns-clause-tries
+returns-clause-tries g c = let old = c.args.self.now in let new = c.learn.new.self in
     let round = c.wait_on-next in let pool = c.args.pool.now in let list = c.args.list in let told = round.result.1 in
     let learns = c.learn.ensures.learns in
     wins_listed pool list told c.in-Won.tag old new c.requires.none (search rules)

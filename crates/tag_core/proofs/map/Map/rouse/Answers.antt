@@ -1,12 +1,14 @@
 -- The rule says nothing of the word that changes.
-use Rattle.std.proofs.Common.{◌+◌, ◌%◌, ◌^◌, arith}
+use Rattle.std.proofs.Common.{◌+◌, ◌/◌, ◌%◌, ◌^◌, ◌≡◌, ap, arith, bit_and, ℕ, ◌∙◌}
+use Rattle.std.proofs.lemmas.Nat.Bits.{bit_at-lt, shr_and_one}
+use Rattle.std.specs.Int.{bit_at}
 use Rattle.tag_core.specs.Spacing.{turn_at}
 use Rattle.tag_core.proofs.Stand.{turn_apart}
 use Rattle.tag_core.proofs.Ticking.{turning}
 use Rattle.tag_core.proofs.map.Map.rouse.Goals as goal
 
-pub fetch_add-requires : goal.fetch_add-requires
-fetch_add-requires g c = let m = c.args.self.now in let seat = c.args.caller.now.seat in
+pub fetch_add-roused-requires : goal.fetch_add-roused-requires
+fetch_add-roused-requires g c = let m = c.args.self.now in let seat = c.args.caller.now.seat in
     let may = turning m seat.id seat.me (λ n. (n + 1) % 2 ^ 64) (turn_at c.args.number) c.turn_spot.result
     c.turn_spot.ensures (turn_apart m.shape.layout c.args.number c.requires.within) in (c.requires.caller.0, may.0, may.1)
 
@@ -14,3 +16,18 @@ pub wake_one-requires : goal.wake_one-requires
 wake_one-requires g c =
     let m = c.args.self.now in let inside = (turn_apart m.shape.layout c.args.number c.requires.within).in_table in
     let is = c.turn_spot-2.ensures in let wide = m.wide.0 in omega arith
+
+-- the test says whether the caller was told
+tested : (told mask n : ℕ) → mask ≡ told → bit_and (mask / 2 ^ n) 1 ≡ bit_at told n
+tested told mask n is = shr_and_one mask n ∙ ap (λ (m : ℕ). bit_at m n) is
+
+pub returns-then-callers-number-eq0-clause-told : goal.returns-then-callers-number-eq0-clause-told
+returns-then-callers-number-eq0-clause-told g c set =
+    let bit = tested c.args.told.now c.callers.result c.args.number c.callers.ensures in
+    let off = c.if-callers-number-eq0.true in absurd (omega arith)
+
+pub returns-clause-others : goal.returns-clause-others
+returns-clause-others g c clear =
+    let bit = tested c.args.told.now c.callers.result c.args.number c.callers.ensures in
+    let low = bit_at-lt c.args.told.now c.args.number in
+    absurd (c.if-callers-number-eq0.false (bit ∙ omega arith))

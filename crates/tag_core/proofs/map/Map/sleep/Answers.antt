@@ -7,5 +7,5 @@ use Rattle.tag_core.proofs.map.Map.sleep.Goals as goal
 pub park-requires : goal.park-requires
 park-requires g c =
     let m = c.args.self.now in let w = c.args.caller.now in
-    let inside = (turn_apart (layout_of m) w.number (few m w c.requires)).in_table in
+    let inside = (turn_apart (layout_of m) w.number (few m w c.requires.caller)).in_table in
     let is = c.turn_spot.ensures in let wide = m.wide.0 in omega arith

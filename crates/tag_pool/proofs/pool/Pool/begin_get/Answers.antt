@@ -1,6 +1,6 @@
 -- A first try that won a tag is the get, and one that won none changes nothing but the hand's steps.
-use Rattle.tag_pool.proofs.Uses.{ap, arith, Err, rules, Some}
-use Rattle.tag_pool.proofs.FirstTry.{begin_same, begins, does_get, same_side, won_gets, won_low}
+use Rattle.tag_pool.proofs.Uses.{ap, arith, Err, rules}
+use Rattle.tag_pool.proofs.FirstTry.{begin_same, begins, does_get_own, same_side, won_gets, won_low}
 use Rattle.tag_pool.proofs.pool.Pool.begin_get.Goals as goal
 
 pub invariant_of-side : goal.invariant_of-side
@@ -12,11 +12,11 @@ pub overflow_add-result : goal.overflow_add-result
 overflow_add-result g c = let pool = c.args.self.now in let side = c.args.hand.now.ordinary in
     let low = won_low pool.ordinary side.caller c.begin.new.caller side.hint c.in-Ok.number c.requires.hand.1
     c.begin.ensures.caller c.in-Ok.ensures.won in
-    let total = pool.total_is in let fits = pool.fits in omega arith
+    let total = pool.total_is in let fits = pool.fits in let split = c.requires.hand.2 in omega arith
 
 pub returns-in-Ok-clause-won : goal.returns-in-Ok-clause-won
 returns-in-Ok-clause-won g c = let pool = c.args.self.now in let hand = c.args.hand.now in
-    does_get pool hand c.requires.hand _ c.begin.ensures.caller (Some c.in-Ok.number) 0
+    does_get_own pool hand c.requires.hand _ c.begin.ensures.caller c.in-Ok.number
     (won_gets pool.ordinary hand.ordinary _ c.in-Ok.number c.requires.hand.1 (c.room.ensures.0 (search rules))
     c.in-Ok.ensures.won c.in-Ok.ensures.hint)
 

@@ -1,10 +1,11 @@
 -- The hand wins a tag at once, or sleeps after a get that found none.
 use Rattle.tag_pool.proofs.Uses.{Some}
-use Rattle.tag_pool.proofs.WaitsKeep.{asleep, at_once, found_none}
+use Rattle.tag_pool.specs.Waits.{Beside}
+use Rattle.tag_pool.proofs.WaitsKeep.{asleep, at_once, beside_keeps, found_none}
 use Rattle.tag_pool.proofs.pool.Pool.get_until.Goals as goal
 
 pub returns-in-Some-clause-gets : goal.returns-in-Some-clause-gets
-returns-in-Some-clause-gets g c = at_once c.args.self.now _ (Some c.in-Some.tag) c.see_to_all.result c.args.hand.now
+returns-in-Some-clause-gets g c = at_once c.args.self.now Beside _ (Some c.in-Some.tag) c.see_to_all.result c.args.hand.now
     c.see_to_all.new.hand (record {
       won = c.try_get.new.hand;
       wins = c.in-Some.ensures.gets;
@@ -18,8 +19,8 @@ sleep_until-requires-clause-can g c =
     c.in_ok-check_blocking.ensures.refusals.passes.1.0
 
 pub returns-clause-gets : goal.returns-clause-gets
-returns-clause-gets g c = let end = c.sleep_until in asleep c.args.self.now _ end.result.0 end.result.1 c.args.hand.now
-    end.new.hand (record {
+returns-clause-gets g c = let end = c.sleep_until in asleep c.args.self.now Beside (beside_keeps c.args.self.now) _
+    end.result.0 end.result.1 c.args.hand.now end.new.hand (record {
       tried = c.try_get.new.hand;
       none = c.in_default.ensures.gets;
       sleeps = end.ensures.sleeps;

@@ -2,6 +2,7 @@
 use Rattle.tag_pool.proofs.Uses.{Option, refl, subst, suc, ℕ, ◌∙◌}
 use Rattle.tag_bell.specs.declared.told.TheConstants.{SLEEPERS}
 use Rattle.tag_pool.specs.Waits.{MaySleepNow, Tries}
+use Rattle.tag_pool.proofs.WaitsKeep.{rested_can}
 use Rattle.tag_pool.proofs.pool.Pool.sleep_for_tag.Goals as goal
 
 pub loop-init : goal.loop-init
@@ -25,12 +26,12 @@ returns-in-Some-default-clause-sleeps g c = let inv = c.loop.invariant in let ro
 
 pub loop-preserved : goal.loop-preserved
 loop-preserved g c = let inv = c.loop.invariant in let round = c.try_listed in let pool = c.args.self.now in
-    let sleep : MaySleepNow pool SLEEPERS c.loop.hand round.new.hand =
+    let rest = c.sleep.ensures in let sleep : MaySleepNow pool SLEEPERS c.loop.hand round.new.hand =
     (subst (λ (a : Option ℕ). Tries pool SLEEPERS a round.result.1 c.loop.hand round.new.hand) c.in-None-default.is-0
     round.ensures.tries).1 in record {
       turns = (tt, tt);
-      hand = (round.ensures.hand.0, round.ensures.hand.1 ∙ inv.hand.1);
-      can = sleep.again;
+      hand = (rest.hand.0, rest.hand.1 ∙ round.ensures.hand.1 ∙ inv.hand.1);
+      can = rested_can pool round.new.hand c.sleep.new.hand rest.sleeps sleep.again;
       sleeps = suc inv.sleeps;
-      slept = (c.loop.hand, inv.slept, sleep);
+      slept = (c.loop.hand, round.new.hand, inv.slept, sleep, rest.sleeps);
     }

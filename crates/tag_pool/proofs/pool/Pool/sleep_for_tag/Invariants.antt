@@ -1,6 +1,6 @@
 -- The hand has slept some times, and can wait again.
 use Rattle.tag_pool.proofs.Uses.{IsStillOf, ℕ}
-use Rattle.tag_pool.specs.Waits.{AreSleeps, CanWait}
+use Rattle.tag_pool.specs.Waits.{AreSleeps, CanWait, UntilTold}
 use Rattle.tag_pool.proofs.pool.Pool.sleep_for_tag.Given as goal
 
 abbrev pub invariant-loop : goal.invariant-loop
@@ -9,5 +9,5 @@ invariant-loop g l = record {
   hand : IsStillOf l.self l.fn.hand l.hand;
   can : CanWait l.hand;
   sleeps : ℕ;
-  slept : AreSleeps sleeps l.self l.fn.hand l.hand;
+  slept : AreSleeps sleeps l.self UntilTold l.fn.hand l.hand;
 }

@@ -45,7 +45,7 @@ loop-preserved g c = let inv = c.loop.invariant in let round = c.wait_on in let 
       over = c.sleep-is_over.ensures.ended;
       sleeps = suc inv.sleeps;
       count = let n = inv.count in omega arith;
-      slept = (c.loop.hand, inv.slept, sleep);
+      slept = (c.loop.hand, round.new.hand, inv.slept, sleep, refl);
     }
 
 pub returns-clause-sleeps : goal.returns-clause-sleeps

@@ -1,7 +1,7 @@
 -- The hand has slept as many times as there were turns, and can wait again; its wait is over if the sleeper ended it.
 use Rattle.std.specs.Prelude.{◌≡◌}
 use Rattle.tag_pool.proofs.Uses.{IsStillOf, IsTrue, ℕ}
-use Rattle.tag_pool.specs.Waits.{AreSleeps, CanWait}
+use Rattle.tag_pool.specs.Waits.{AreSleeps, Beside, CanWait}
 use Rattle.tag_pool.proofs.pool.Pool.sleep_until.Given as goal
 
 abbrev pub invariant-loop : goal.invariant-loop
@@ -11,5 +11,5 @@ invariant-loop g l = record {
   over : IsTrue l.is_over → g.S.Sleeper.has_ended l.sleeper;
   sleeps : ℕ;
   count : sleeps ≡ l.counter;
-  slept : AreSleeps sleeps l.self l.fn.hand l.hand;
+  slept : AreSleeps sleeps l.self Beside l.fn.hand l.hand;
 }

@@ -30,7 +30,7 @@ impl<R: Copy> Pool<R> {
             return Err(Unfinished::NotBegun);
         }
         match on_map::begin(&self.ordinary, &mut side.caller, &mut side.hint) {
-            Ok(number) => Ok(self.reserved_count + number),
+            Ok(number) => Ok(hand.reserved_count + number),
             Err(rest) => Err(rest),
         }
     }
