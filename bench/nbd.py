@@ -39,7 +39,7 @@ def command(who, made, tags):
         return ["nbdkit", "--foreground", "--exit-with-parent", "--unix", at, "memory", str(SIZE)]
     if who == "qemu-nbd":
         return ["qemu-nbd", "--persistent", "--shared=32", "--format=raw", f"--socket={at}", f"{made}/disk"]
-    return [f"{made}/{who}", "--unix", at, "--memory", str(SIZE), "--tags", str(tags), "--connections", "48", "--workers", "4"]
+    return [f"{made}/{who}", "--unix", at, "--memory", str(SIZE), "--tags", str(tags), "--connections", "47", "--workers", "4"]
 
 
 def start(arguments, at):

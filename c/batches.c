@@ -61,6 +61,11 @@ int32_t tags_library_post_mask(struct tags_hand *hand, uint32_t first, uint64_t 
 	return TAGS_OK;
 }
 
+static int32_t take(struct tags_hand *hand, uint32_t tag)
+{
+	return tags_detail_has_queues(hand) ? tags_library_take_unqueued(hand, tag) : tags_library_take(hand, tag);
+}
+
 /*
  * To post again a tag just taken gives no kept tags back: a take does not make it one that the
  * hand got, and only the last of those does that.
@@ -73,7 +78,7 @@ int32_t tags_library_take_mask(struct tags_hand *hand, uint32_t first, uint64_t 
 	while (status == TAGS_OK && left != 0) {
 		const uint64_t before = left;
 
-		status = tags_library_take(hand, next_of(first, &left));
+		status = take(hand, next_of(first, &left));
 		if (status != TAGS_OK)
 			post_all(hand, first, mask & ~before);
 	}

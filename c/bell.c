@@ -1,14 +1,17 @@
 /*
  * The bell of a pool: it wakes those who wait for a tag when they are told of one.
  *
- * Hands that wait are in two lists: sleepers, threads in tags_get_blocking() or tags_get_timed();
- * and listeners, hands that are notified. The lists are words beside those of the tags, and
- * the steps on both are one history, of which crates/tag_bell proves that nobody sleeps beside a
- * free tag unless somebody is on the way to it. A wait goes by rounds, and each of them is a call of
- * the library: it lists the hand and tries each tag, and answers whether the wait is over. If it is,
- * the hand is in no list, and has seen to all tags. Who makes tags free sees to them: it looks
- * whether anybody is listed, and tells as many as there are tags for, the one that has waited
- * longest first.
+ * Hands wait as sleepers, threads in tags_get_blocking() or tags_get_timed(), or as listeners, which
+ * are notified. Each has a berth in the library, a word beside those of the tags by which it is
+ * listed and told, and a bit in the word of all who wait. The steps on these and on the tags are one
+ * history, of which crates/tag_bell proves that nobody sleeps beside a free tag unless somebody is on
+ * the way to it. A wait goes by rounds, and each of them is a call of the library: it lists the hand
+ * and tries each tag, and answers whether the wait is over. If it is, the hand is not listed, and has
+ * seen to all tags. Who makes tags free sees to them: it looks whether anybody waits, and tells as
+ * many sleepers and as many listeners as there are tags for, those who have waited longest first; but
+ * no more sleepers than make, with those that were told and have not begun another round, as many as
+ * the set has tags. All this is of one set of tags: who waits for a reserved tag has a berth for that
+ * set, and is told by those who make reserved tags free, and by nobody else.
  *
  * What is C and not proved is that whoever was told makes another round. Each hand has a place, with
  * a token, which is given to wake it, and which ends its sleep, or lets none begin. So no order is
@@ -18,8 +21,7 @@
  * And so that a call need not ask the library whether anybody waits, all who do are counted, from
  * before their first round to after the last one. Who makes tags free loads the count afterwards.
  * Both are sequentially consistent, as are the steps of the library, so if the count is 0, whoever
- * waits later finds the tags. Nor does it ask while as many threads are waking, woken in their sleep
- * and not out of it, as there are tags: each of them makes a round after the tags became free.
+ * waits later finds the tags.
  *
  * Coroutines and futures, of which a hand may have any number, wait behind their hand, in a queue of
  * their own language: while one of them waits, the hand is listed, or was told and one of them is
@@ -59,8 +61,10 @@ struct bell *tags_library_make_bell(uint32_t hands)
 		return NULL;
 	pthread_mutex_init(&bell->lock, NULL);
 	bell->hands = hands;
-	for (uint32_t i = 0; i < hands; i++)
+	for (uint32_t i = 0; i < hands; i++) {
+		bell->places[i].number = i;
 		make_place(&bell->places[i]);
+	}
 	return bell;
 }
 
@@ -68,7 +72,9 @@ void tags_library_free_bell(struct bell *bell)
 {
 	for (uint32_t i = 0; i < bell->hands; i++)
 		free_place(&bell->places[i]);
+	tags_library_remove_queues(bell);
 	pthread_mutex_destroy(&bell->lock);
+	free(bell->boards);
 	free(bell);
 }
 
@@ -76,38 +82,49 @@ void tags_library_free_bell(struct bell *bell)
  * Hands that wait
  */
 
-static void begin_to_wait(struct bell *bell, bool listens)
-{
-	tags_add(&bell->listening, listens);
-	tags_add(&bell->waits.waiting, 1);
-}
-
-static void end_waiting(struct bell *bell, bool listens)
-{
-	tags_subtract(&bell->waits.waiting, 1);
-	tags_subtract(&bell->listening, listens);
-}
-
 static void add(struct tags_told *due, const struct tags_told *told)
 {
 	due->sleepers |= told->sleepers;
 	due->listeners |= told->listeners;
 }
 
-int32_t tags_library_go_on(struct tags_hand *hand, bool listens, int32_t why, struct tags_told *due)
+/* A thread that waits for a reserved tag makes no clear meanwhile, by which others would learn of what it keeps. */
+int32_t tags_library_get_of(struct tags_hand *hand, enum tags_kind kind)
+{
+	int32_t tag;
+
+	if (kind == TAGS_ORDINARY)
+		return tags_get(hand);
+	tag = tags_get_reserved(hand);
+	if (tag == TAGS_NO_TAG)
+		tags_flush(hand);
+	return tag;
+}
+
+/* Makes a round by the library, for a tag of the set that the hand waits for. */
+static int32_t make_round(struct tags_hand *hand, bool listens, int32_t why, struct tags_told *told)
 {
 	const bool again = hand->place->is_waiting;
-	struct bell *bell = tags_bell_of(hand->waits);
+
+	if (hand->place->kind == TAGS_RESERVED)
+		return listens ? tags_library_listen_on_reserved(hand, why, again, told) :
+				 tags_library_wait_on_reserved(hand, why, again, told);
+	return listens ? tags_library_listen_on(hand, why, again, told) :
+			 tags_library_wait_on(hand, why, again, told);
+}
+
+int32_t tags_library_go_on(struct tags_hand *hand, bool listens, int32_t why, struct tags_told *due)
+{
+	struct tags_place *place = hand->place;
 	struct tags_told told = { 0, 0 };
 	int32_t tag;
 
-	if (!again)
-		begin_to_wait(bell, listens);
-	tag = listens ? tags_library_listen_on(hand, why, again, &told) :
-			tags_library_wait_on(hand, why, again, &told);
-	hand->place->is_waiting = tag == TAGS_NO_TAG;
-	if (!hand->place->is_waiting)
-		end_waiting(bell, listens);
+	if (!place->is_waiting)
+		tags_add(&hand->waits->waiting, 1);
+	tag = make_round(hand, listens, why, &told);
+	place->is_waiting = tag == TAGS_NO_TAG;
+	if (!place->is_waiting)
+		tags_subtract(&hand->waits->waiting, 1);
 	/* its sweeps may have freed others: drains.c */
 	if (tag >= 0)
 		tags_library_see_to_lists(hand);
@@ -115,18 +132,14 @@ int32_t tags_library_go_on(struct tags_hand *hand, bool listens, int32_t why, st
 	return tags_detail_won(tag);
 }
 
-/*
- * Gives a place its token. A thread that sleeps there counts as waking from now on, and is woken
- * without the lock, which it would wait for.
- */
-static void wake_sleeper(struct bell *bell, struct tags_place *place)
+/* Gives a place its token. A thread that sleeps there is woken without the lock, which it would wait for. */
+static void wake_sleeper(struct tags_place *place)
 {
 	pthread_cond_t *bed;
 
 	pthread_mutex_lock(&place->lock);
 	bed = place->is_woken ? NULL : place->bed;
 	place->is_woken = true;
-	tags_add(&bell->waking, bed != NULL);
 	pthread_mutex_unlock(&place->lock);
 	if (bed)
 		pthread_cond_signal(bed);
@@ -199,10 +212,9 @@ static bool notify_listener(struct bell *bell, struct tags_place *place)
  * Who tells
  */
 
-/* Whether as many threads are waking as there are tags, and nobody waits but threads that sleep. */
-static bool are_enough_waking(const struct bell *bell)
+static uint32_t count_tags(const struct bell *bell, enum tags_kind kind)
 {
-	return tags_load(&bell->waking) >= bell->depth && tags_load(&bell->listening) == 0;
+	return kind == TAGS_RESERVED ? bell->reserved : bell->depth;
 }
 
 static uint64_t smaller(uint64_t a, uint64_t b)
@@ -215,32 +227,56 @@ static uint64_t larger(uint64_t a, uint64_t b)
 	return a > b ? a : b;
 }
 
-/*
- * In a pool with caches the hand first gives back what it keeps, which nobody else finds. The lists
- * need not have anybody for that: drains are in none, nor is a hand that was told and found no tag.
- */
-static void tell(struct tags_hand *hand, uint64_t freed, struct tags_told *due)
+/* Tells those who wait for a tag of this set. */
+static void tell(struct tags_hand *hand, enum tags_kind kind, uint64_t freed, struct tags_told *due)
 {
-	struct bell *bell = tags_bell_of(hand->waits);
+	const struct bell *bell = tags_bell_of(hand->waits);
+	const uint32_t most = (uint32_t)smaller(freed, count_tags(bell, kind));
 	struct tags_told told = { 0, 0 };
 
-	if (bell->is_cached)
-		freed = larger(freed, (uint64_t)tags_library_flush(hand));
-	if (are_enough_waking(bell))
-		return;
-	tags_library_see_to(hand, (uint32_t)smaller(freed, bell->depth), &told);
+	if (kind == TAGS_RESERVED)
+		tags_library_see_to_reserved(hand, most, &told);
+	else
+		tags_library_see_to(hand, most, &told);
 	add(due, &told);
 }
 
+/*
+ * In a pool with caches the hand first gives back what it keeps, which nobody else finds. Nobody need
+ * be listed for that: drains never are, nor is a hand that was told and is about to try.
+ */
+static uint64_t give_back_kept(struct tags_hand *hand)
+{
+	return tags_bell_of(hand->waits)->is_cached ? (uint64_t)tags_library_flush(hand) : 0;
+}
+
+/* A call on ordinary tags may also have given kept ones back itself. What is kept is never reserved. */
+static void tell_of(struct tags_hand *hand, enum tags_kind kind, uint64_t freed, struct tags_told *due)
+{
+	const uint64_t kept = give_back_kept(hand);
+
+	if (kind == TAGS_ORDINARY) {
+		tell(hand, TAGS_ORDINARY, larger(freed, kept), due);
+		return;
+	}
+	tell(hand, TAGS_RESERVED, freed, due);
+	if (kept > 0)
+		tell(hand, TAGS_ORDINARY, kept, due);
+}
+
 /* A hand that keeps none and gave none back, as by a post, has nothing to see to. */
+void tags_library_see_of(struct tags_hand *hand, enum tags_kind kind, uint64_t freed,
+			 struct tags_told *due)
+{
+	if (freed == 0 && !tags_bell_of(hand->waits)->is_cached)
+		return;
+	tell_of(hand, kind, freed, due);
+	tags_library_tags_are_back(hand);
+}
+
 void tags_library_see(struct tags_hand *hand, uint64_t freed, struct tags_told *due)
 {
-	struct bell *bell = tags_bell_of(hand->waits);
-
-	if (freed == 0 && !bell->is_cached)
-		return;
-	tell(hand, freed, due);
-	tags_library_tags_are_back(hand);
+	tags_library_see_of(hand, TAGS_ORDINARY, freed, due);
 }
 
 bool tags_library_wake(struct tags_waits *waits, const struct tags_told *due)
@@ -250,45 +286,72 @@ bool tags_library_wake(struct tags_waits *waits, const struct tags_told *due)
 	uint64_t left;
 
 	for (left = due->sleepers; left; left &= left - 1)
-		wake_sleeper(bell, &bell->places[__builtin_ctzll(left)]);
+		wake_sleeper(&bell->places[__builtin_ctzll(left)]);
 	for (left = due->listeners; left; left &= left - 1)
 		all_know &= notify_listener(bell, &bell->places[__builtin_ctzll(left)]);
 	return all_know;
 }
 
+/* Whoever could not be notified may have waited for a tag of either set. */
 void tags_library_wake_told(struct tags_hand *hand, struct tags_told *due)
 {
 	int saved = errno;
 
 	while (!tags_library_wake(hand->waits, due)) {
 		*due = (struct tags_told){ 0, 0 };
-		tell(hand, 1, due);
+		tell_of(hand, TAGS_ORDINARY, 1, due);
+		tell_of(hand, TAGS_RESERVED, 1, due);
 	}
 	errno = saved;
 }
 
-void tags_library_ring(struct tags_hand *hand, uint64_t freed)
+static void ring(struct tags_hand *hand, enum tags_kind kind, uint64_t freed)
 {
 	struct tags_told due = { 0, 0 };
 
 	if (tags_load(&hand->waits->waiting) == 0)
 		return;
-	tags_library_see(hand, freed, &due);
+	tags_library_see_of(hand, kind, freed, &due);
 	tags_library_wake_told(hand, &due);
+}
+
+void tags_library_ring(struct tags_hand *hand, uint64_t freed)
+{
+	ring(hand, TAGS_ORDINARY, freed);
+}
+
+void tags_library_ring_for(struct tags_hand *hand, uint32_t tag, uint64_t freed)
+{
+	ring(hand, tags_kind_of(hand->waits, tag), freed);
 }
 
 /*
  * Stops
  */
 
-/* The count of stops is odd while waits are stopped. Whoever loads it sees what was done before. */
+/*
+ * The count of stops is odd while waits are stopped. Whoever loads it sees what was done before. With the
+ * lock, those of the queues change as well, so that a stop and a resume at once leave all of them alike.
+ */
 static void set_stopped(struct bell *bell, uint32_t is_stopped)
 {
 	TAGS_DETAIL_SHOWS(TAGS_MAX_TOTAL + 1);
 	pthread_mutex_lock(&bell->lock);
 	if (tags_load(&bell->waits.stops) % 2 != is_stopped)
 		tags_add(&bell->waits.stops, 1);
+	for (uint32_t i = 0; i < bell->waits.queues; i++)
+		set_stopped(bell->queue_bells[i], is_stopped);
 	pthread_mutex_unlock(&bell->lock);
+}
+
+static void wake_all(struct bell *bell)
+{
+	for (uint32_t i = 0; i < bell->hands; i++) {
+		wake_sleeper(&bell->places[i]);
+		notify_listener(bell, &bell->places[i]);
+	}
+	for (uint32_t i = 0; i < bell->waits.queues; i++)
+		wake_all(bell->queue_bells[i]);
 }
 
 void tags_library_stop(struct tags_waits *waits)
@@ -297,10 +360,7 @@ void tags_library_stop(struct tags_waits *waits)
 	int saved = errno;
 
 	set_stopped(bell, true);
-	for (uint32_t i = 0; i < bell->hands; i++) {
-		wake_sleeper(bell, &bell->places[i]);
-		notify_listener(bell, &bell->places[i]);
-	}
+	wake_all(bell);
 	tags_library_end_joins(bell, TAGS_STOPPED);
 	errno = saved;
 }

@@ -70,6 +70,8 @@ struct tags_waiter {
 
 /* The place of a hand in the bell. */
 struct tags_place {
+	/* the hand's number, below that of the bell's places */
+	uint32_t number;
 	/* on which of the beds its thread sleeps, or NULL: there is one for each clock */
 	pthread_mutex_t lock;
 	pthread_cond_t *bed;
@@ -80,16 +82,23 @@ struct tags_place {
 	uint32_t running;
 	/* with the bell's lock */
 	struct tags_notice notice;
-	/* for the hand alone: its wait goes on, so that it has a turn */
+	/* for the hand alone: its wait goes on, so that it has a turn; and the set that it waits for a tag of */
 	bool is_waiting;
-	/* the pool's count of stops when its wait began */
+	enum tags_kind kind;
+	/* likewise: the pool's count of stops when its wait began, and its count of looks when the hand looked last */
 	uint32_t stops;
-	/* for the hand alone: the pool's count of looks when it looked last */
 	uint32_t looks;
 };
 
 /* A hand behind a lock: shared.h. */
 struct tags_locked;
+
+/* Where a tag's note is: notes.c. */
+struct tags_board;
+
+/* Queues of submitted tags, and one of them: queues.c. */
+struct tags_queues;
+struct tags_queue;
 
 /* Hands that a call told of tags: bit i is 1 for the hand in place i. Proved in crates/tag_c. */
 struct tags_told {
@@ -114,10 +123,11 @@ struct bell {
 	uint32_t depth;
 	uint32_t reserved;
 	bool is_cached;
-	/* hands that wait to be notified */
-	uint32_t listening;
-	/* threads that were woken in their sleep and have not left it */
-	uint32_t waking;
+	/* one for each tag, or NULL in a pool without notes */
+	struct tags_board *boards;
+	/* the pool's queues, which a resize makes anew, and the bells of those who wait in them, which stay */
+	struct tags_queues *queues;
+	struct bell **queue_bells;
 	/* of the notices, and of the count of stops */
 	pthread_mutex_t lock;
 	/* one for each hand that the pool can give out, by the hand's number */
@@ -131,6 +141,16 @@ static inline uint32_t tags_load(const uint32_t *word)
 }
 
 static inline void tags_store(uint32_t *word, uint32_t number)
+{
+	__atomic_store_n(word, number, __ATOMIC_SEQ_CST);
+}
+
+static inline uint64_t tags_load_wide(const uint64_t *word)
+{
+	return __atomic_load_n(word, __ATOMIC_SEQ_CST);
+}
+
+static inline void tags_store_wide(uint64_t *word, uint64_t number)
 {
 	__atomic_store_n(word, number, __ATOMIC_SEQ_CST);
 }
@@ -171,11 +191,25 @@ static inline struct bell *tags_bell_of(struct tags_waits *waits)
 	return (struct bell *)(void *)((char *)waits - offsetof(struct bell, waits));
 }
 
-/* A hand is about to wait: from now on a stop ends its wait. One that waits already began before. */
-static inline void tags_begin_wait(struct tags_hand *hand)
+/* With the handle's lock: the bell of the pool that is open in it, or NULL. */
+static inline struct bell *tags_bell_in(const struct tags_pool *pool)
 {
-	if (!hand->place->is_waiting)
-		hand->place->stops = tags_load(&hand->waits->stops);
+	return pool->waits && !pool->place ? tags_bell_of(pool->waits) : NULL;
+}
+
+/* The set that a tag is of: the first tags of a pool are reserved. */
+static inline enum tags_kind tags_kind_of(struct tags_waits *waits, uint32_t tag)
+{
+	return tag < tags_bell_of(waits)->reserved ? TAGS_RESERVED : TAGS_ORDINARY;
+}
+
+/* A hand is about to wait: from now on a stop ends its wait. One that waits already began before. */
+static inline void tags_begin_wait(struct tags_hand *hand, enum tags_kind kind)
+{
+	if (hand->place->is_waiting)
+		return;
+	hand->place->kind = kind;
+	hand->place->stops = tags_load(&hand->waits->stops);
 }
 
 /* Whether a stop has ended the hand's wait, also if waits were resumed since. */
@@ -191,17 +225,25 @@ static inline bool tags_is_ended(const struct tags_hand *hand)
 #pragma GCC visibility push(hidden)
 
 /*
- * The waits of hands, by the library. A round of a wait, among the sleepers or the listeners, lists
- * the hand, with the next turn or @again with the one that it had, and tries each tag. It returns a
+ * The waits of hands, by the library. A round of a wait, as a sleeper or as a listener, lists the
+ * hand, with the next turn or @again with the one that it had, and tries each tag. It returns a
  * tag; TAGS_NO_TAG if the hand may sleep, or waits to be notified; or, if @why is not TAGS_OK, that:
- * the wait is over then. With any answer but TAGS_NO_TAG the hand is in no list, and has seen to all
+ * the wait is over then. With any answer but TAGS_NO_TAG the hand is not listed, and has seen to all
  * tags. Whoever makes tags free sees to them. Each call fills in whom it told, who are to be woken.
+ * All this is of one set of tags: a hand has a berth for each, and the first three calls are of the
+ * ordinary ones.
  */
 int32_t tags_library_wait_on(struct tags_hand *hand, int32_t why, uint32_t again,
 			     struct tags_told *told);
 int32_t tags_library_listen_on(struct tags_hand *hand, int32_t why, uint32_t again,
 			       struct tags_told *told);
 int32_t tags_library_see_to(struct tags_hand *hand, uint32_t freed, struct tags_told *told);
+int32_t tags_library_wait_on_reserved(struct tags_hand *hand, int32_t why, uint32_t again,
+				      struct tags_told *told);
+int32_t tags_library_listen_on_reserved(struct tags_hand *hand, int32_t why, uint32_t again,
+					struct tags_told *told);
+int32_t tags_library_see_to_reserved(struct tags_hand *hand, uint32_t freed,
+				     struct tags_told *told);
 
 /* Whether a clock and a time are what they may be, and whether the time has passed. */
 bool tags_library_is_sound(const struct tags_limit *limit);
@@ -215,6 +257,8 @@ bool tags_library_sleep(pthread_cond_t *bed, pthread_mutex_t *lock, const struct
 struct bell *tags_library_make_bell(uint32_t hands);
 void tags_library_free_bell(struct bell *bell);
 
+/* A get from a set, before the hand waits for a tag of that. */
+int32_t tags_library_get_of(struct tags_hand *hand, enum tags_kind kind);
 /*
  * Makes a round of a hand's wait, or if @why is not TAGS_OK ends it, and returns what the library
  * answers. Adds those whom it tells to @due.
@@ -225,9 +269,38 @@ int32_t tags_library_go_on(struct tags_hand *hand, bool listens, int32_t why,
 void tags_library_wake_told(struct tags_hand *hand, struct tags_told *due);
 /* Ends a wait by an eventfd or a function. Returns whether there was one. */
 bool tags_library_cancel(struct tags_hand *hand);
-/* Makes a round of a hand behind a lock, which waits to be notified so. Adds those whom it tells to @due. */
-int32_t tags_library_listen(struct tags_hand *hand, const struct tags_notice *notice,
-			    struct tags_told *due);
+/*
+ * Makes a round of a hand behind a lock, which waits, or is to wait, for a tag of this set and to be
+ * notified so. Adds those whom it tells to @due.
+ */
+int32_t tags_library_listen(struct tags_hand *hand, enum tags_kind kind,
+			    const struct tags_notice *notice, struct tags_told *due);
+
+/* Makes boards without notes for so many tags, or returns NULL. */
+struct tags_board *tags_library_make_boards(uint32_t tags);
+
+/* After a get from this set that found no tag: sleeps until the hand has one, or the wait ends. */
+int32_t tags_library_wait_for(struct tags_hand *hand, enum tags_kind kind,
+			      const struct tags_limit *limit);
+
+/*
+ * Gives a pool so many queues for this many tags, and says whether there was the memory; and frees what was made of
+ * them. The next three make other queues for as many tags, or return NULL; free them; and put them in place.
+ */
+bool tags_library_add_queues(struct bell *bell, uint32_t count, uint32_t total);
+void tags_library_remove_queues(struct bell *bell);
+struct tags_queues *tags_library_make_queues(const struct bell *bell, uint32_t total);
+void tags_library_free_queues(const struct bell *bell, struct tags_queues *queues);
+void tags_library_change_queues(struct bell *bell, struct tags_queues *queues, uint32_t total);
+/* Of a hand with a token of a queue: takes the next tag out of that, and gives it the token. */
+int32_t tags_library_take_next(struct tags_hand *hand, struct tags_queue *queue, uint32_t token);
+/* Ends all waits of a hand in queues. */
+void tags_library_cancel_nexts(const struct tags_hand *hand);
+
+/* Of a pool whose handle nobody else uses now: fills a hand in with its place; empties it; closes the pool. */
+int32_t tags_library_fill_hand(struct tags_pool *pool, struct tags_hand *hand, uint32_t flags);
+int32_t tags_library_empty_hand(struct tags_hand *hand);
+int32_t tags_library_empty_pool(struct tags_pool *pool, struct tags_sums *sums);
 
 /* Sleeps until no function runs that notifies the hand in a place. */
 void tags_library_outwait(const struct tags_place *place);
@@ -280,10 +353,15 @@ void tags_library_flush_all(const struct tags_hands *hands);
 
 /*
  * tags_library_ring() in two parts, for hands behind a lock with which nobody may be woken: adds
- * those whom it tells to @due; and wakes them. The second one returns whether all could be notified.
+ * those whom it tells to @due; and wakes them. The last one returns whether all could be notified.
+ * If not, others of both sets are to be told. The second one is the first one for a set.
  */
 void tags_library_see(struct tags_hand *hand, uint64_t freed, struct tags_told *due);
+void tags_library_see_of(struct tags_hand *hand, enum tags_kind kind, uint64_t freed,
+			 struct tags_told *due);
 bool tags_library_wake(struct tags_waits *waits, const struct tags_told *due);
+/* Looks for those who wait for the tags of lists, once after each look of theirs. */
+void tags_library_see_to_lists(struct tags_hand *hand);
 /* How many wait, as tags_waiting() tells. */
 uint32_t tags_library_count_waiting(struct tags_waits *waits);
 /* Ends all waits, and lets no other begin; lets them begin again. */

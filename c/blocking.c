@@ -10,13 +10,9 @@
 
 #include <time.h>
 
-/* Takes the token, if the sleep was ended by that, and leaves the bed. */
-static void rise(struct tags_hand *hand)
+/* Leaves the bed, and takes the token, if there is one. */
+static void rise(struct tags_place *place)
 {
-	struct tags_place *place = hand->place;
-
-	if (place->bed && place->is_woken)
-		tags_subtract(&tags_bell_of(hand->waits)->waking, 1);
 	place->bed = NULL;
 	place->is_woken = false;
 	pthread_mutex_unlock(&place->lock);
@@ -36,7 +32,7 @@ static void abandon(void *argument)
 {
 	struct tags_hand *hand = argument;
 
-	rise(hand);
+	rise(hand->place);
 	make_round(hand, TAGS_STOPPED);
 	__atomic_store_n(&hand->in_call, 0, __ATOMIC_RELAXED);
 }
@@ -53,7 +49,7 @@ static void sleep_until_woken(struct tags_hand *hand, const struct tags_limit *l
 	if (place->bed)
 		tags_library_sleep(place->bed, &place->lock, limit);
 	pthread_cleanup_pop(0);
-	rise(hand);
+	rise(place);
 }
 
 static int32_t why_over(const struct tags_hand *hand, const struct tags_limit *limit)
@@ -63,15 +59,15 @@ static int32_t why_over(const struct tags_hand *hand, const struct tags_limit *l
 	return tags_library_is_past(limit) ? (int32_t)TAGS_TIMED_OUT : (int32_t)TAGS_OK;
 }
 
-/* After a get that found no tag. */
-static int32_t wait_for_tag(struct tags_hand *hand, const struct tags_limit *limit)
+int32_t tags_library_wait_for(struct tags_hand *hand, enum tags_kind kind,
+			      const struct tags_limit *limit)
 {
 	int saved = errno;
 	int32_t why, tag;
 
 	if (hand->place->is_waiting)
 		return TAGS_WAITING;
-	tags_begin_wait(hand);
+	tags_begin_wait(hand, kind);
 	do {
 		why = why_over(hand, limit);
 		if (why == TAGS_OK && hand->place->is_waiting)
@@ -82,21 +78,42 @@ static int32_t wait_for_tag(struct tags_hand *hand, const struct tags_limit *lim
 	return tag;
 }
 
+static int32_t get_until(struct tags_hand *hand, enum tags_kind kind, const struct tags_limit *limit)
+{
+	int32_t tag;
+
+	if (tags_detail_is_stopped(hand))
+		return TAGS_STOPPED;
+	tag = tags_library_get_of(hand, kind);
+	return tag == TAGS_NO_TAG ? tags_library_wait_for(hand, kind, limit) : tag;
+}
+
+static int32_t get_timed(struct tags_hand *hand, enum tags_kind kind, int32_t clock,
+			 const struct timespec *deadline)
+{
+	const struct tags_limit limit = { clock, deadline };
+
+	return tags_library_is_sound(&limit) ? get_until(hand, kind, &limit) : (int32_t)TAGS_BAD_TIME;
+}
+
 int32_t tags_library_wait(struct tags_hand *hand)
 {
-	return wait_for_tag(hand, &TAGS_NO_LIMIT);
+	return tags_library_wait_for(hand, TAGS_ORDINARY, &TAGS_NO_LIMIT);
 }
 
 int32_t tags_library_get_timed(struct tags_hand *hand, int32_t clock,
 			       const struct timespec *deadline)
 {
-	const struct tags_limit limit = { clock, deadline };
-	int32_t tag;
+	return get_timed(hand, TAGS_ORDINARY, clock, deadline);
+}
 
-	if (!tags_library_is_sound(&limit))
-		return TAGS_BAD_TIME;
-	if (tags_detail_is_stopped(hand))
-		return TAGS_STOPPED;
-	tag = tags_get(hand);
-	return tag == TAGS_NO_TAG ? wait_for_tag(hand, &limit) : tag;
+int32_t tags_library_get_reserved_blocking(struct tags_hand *hand)
+{
+	return get_until(hand, TAGS_RESERVED, &TAGS_NO_LIMIT);
+}
+
+int32_t tags_library_get_reserved_timed(struct tags_hand *hand, int32_t clock,
+					const struct timespec *deadline)
+{
+	return get_timed(hand, TAGS_RESERVED, clock, deadline);
 }

@@ -39,24 +39,31 @@ static int32_t make_round(struct tags_hand *hand, int32_t why, struct tags_told 
 }
 
 /* Whoever tells the hand finds the notice. A stop does, too, or the hand finds the stop. */
-int32_t tags_library_listen(struct tags_hand *hand, const struct tags_notice *notice,
-			    struct tags_told *due)
+int32_t tags_library_listen(struct tags_hand *hand, enum tags_kind kind,
+			    const struct tags_notice *notice, struct tags_told *due)
 {
-	tags_begin_wait(hand);
+	tags_begin_wait(hand, kind);
 	if (hand->place->is_waiting)
 		forget_notice(hand);
 	set_notice(hand, notice);
 	return make_round(hand, tags_is_ended(hand) ? TAGS_STOPPED : TAGS_OK, due);
 }
 
-/* A tag that is free saves the wait. */
-static int32_t get_or_wait(struct tags_hand *hand, const struct tags_notice *notice)
+/* A tag that is free saves the wait. A hand that waits for one of the other set can't wait for this one, too. */
+static int32_t get_or_wait(struct tags_hand *hand, enum tags_kind kind,
+			   const struct tags_notice *notice)
 {
-	int32_t tag = TAGS_NO_TAG;
+	const bool waits = hand->place->is_waiting;
+	int32_t tag;
 
-	if (!hand->place->is_waiting)
-		tag = tags_detail_is_stopped(hand) ? (int32_t)TAGS_STOPPED : tags_get(hand);
-	return tag == TAGS_NO_TAG ? tags_library_listen(hand, notice, NULL) : tag;
+	if (waits && hand->place->kind == kind)
+		return tags_library_listen(hand, kind, notice, NULL);
+	if (tags_detail_is_stopped(hand))
+		return TAGS_STOPPED;
+	tag = tags_library_get_of(hand, kind);
+	if (tag != TAGS_NO_TAG)
+		return tag;
+	return waits ? (int32_t)TAGS_WAITING : tags_library_listen(hand, kind, notice, NULL);
 }
 
 static bool cancel(struct tags_hand *hand, struct tags_told *due)
@@ -71,21 +78,43 @@ static bool cancel(struct tags_hand *hand, struct tags_told *due)
  * Eventfds and functions
  */
 
-int32_t tags_library_get_async(struct tags_hand *hand, int descriptor)
+static int32_t get_async(struct tags_hand *hand, enum tags_kind kind, int descriptor)
 {
 	const struct tags_notice notice = { descriptor, NULL, NULL, false };
 
 	if (!hand->place)
 		return TAGS_BAD_HANDLE;
-	return descriptor < 0 ? (int32_t)TAGS_BAD_EVENT : get_or_wait(hand, &notice);
+	return descriptor < 0 ? (int32_t)TAGS_BAD_EVENT : get_or_wait(hand, kind, &notice);
+}
+
+static int32_t get_notified(struct tags_hand *hand, enum tags_kind kind,
+			    void (*function)(void *argument), void *argument)
+{
+	const struct tags_notice notice = { -1, function, argument, false };
+
+	return hand->place ? get_or_wait(hand, kind, &notice) : (int32_t)TAGS_BAD_HANDLE;
+}
+
+int32_t tags_library_get_async(struct tags_hand *hand, int descriptor)
+{
+	return get_async(hand, TAGS_ORDINARY, descriptor);
 }
 
 int32_t tags_library_get_notified(struct tags_hand *hand, void (*function)(void *argument),
 				  void *argument)
 {
-	const struct tags_notice notice = { -1, function, argument, false };
+	return get_notified(hand, TAGS_ORDINARY, function, argument);
+}
 
-	return hand->place ? get_or_wait(hand, &notice) : (int32_t)TAGS_BAD_HANDLE;
+int32_t tags_library_get_reserved_async(struct tags_hand *hand, int descriptor)
+{
+	return get_async(hand, TAGS_RESERVED, descriptor);
+}
+
+int32_t tags_library_get_reserved_notified(struct tags_hand *hand,
+					   void (*function)(void *argument), void *argument)
+{
+	return get_notified(hand, TAGS_RESERVED, function, argument);
 }
 
 bool tags_library_cancel(struct tags_hand *hand)
@@ -109,7 +138,7 @@ int32_t tags_library_poll(struct tags_hand *hand, void (*function)(void *argumen
 {
 	const struct tags_notice notice = { -1, function, argument, true };
 
-	return tags_library_listen(hand, &notice, due);
+	return tags_library_listen(hand, TAGS_ORDINARY, &notice, due);
 }
 
 void tags_library_end_poll(struct tags_hand *hand, struct tags_told *due)

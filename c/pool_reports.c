@@ -64,8 +64,8 @@ static int32_t number_of(struct tags_pool *pool, uint32_t (*number)(const struct
 	if (!pool)
 		return TAGS_NULL;
 	tags_library_lock_handle(pool);
-	if (pool->waits && !pool->place)
-		answer = (int32_t)number(tags_bell_of(pool->waits));
+	if (tags_bell_in(pool))
+		answer = (int32_t)number(tags_bell_in(pool));
 	tags_library_unlock_handle(pool);
 	return answer;
 }
@@ -80,13 +80,18 @@ static uint32_t batch_of(const struct bell *bell)
 	return bell->waits.batch;
 }
 
-/* Drains are counted by themselves, and not by how a call learns of them: drains.c. */
+/*
+ * Drains are counted by themselves, and not by how a call learns of them: drains.c. Who waits in a queue
+ * does so in a bell of its own.
+ */
 static uint32_t waiting_of(const struct bell *bell)
 {
 	const uint32_t is_armed = tags_load(&bell->is_armed) + tags_load(&bell->listing);
 	const uint32_t uncounted = bell->is_cached ? 0 : tags_load(&bell->draining);
-	const uint32_t waiting = tags_load(&bell->waits.waiting) + uncounted;
+	uint32_t waiting = tags_load(&bell->waits.waiting) + uncounted;
 
+	for (uint32_t i = 0; i < bell->waits.queues; i++)
+		waiting += tags_load(&bell->queue_bells[i]->waits.waiting);
 	return waiting < is_armed ? 0 : waiting - is_armed;
 }
 

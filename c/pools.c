@@ -4,6 +4,8 @@
  */
 #include "bell.h"
 
+#include <stdlib.h>
+
 /*
  * What a call does inside is hidden from the thread sanitizer, if the program brings it: some
  * move a hand by a copy that it would see, and it sees none of the steps that order copies.
@@ -73,7 +75,7 @@ __attribute__((constructor)) static void watch_forks(void)
 /*
  * The options as the library takes them: there a shift of 0 means one tag per word, -1 the
  * default by the number of hands, and TAGS_SHIFT_AS_KERNEL the kernel's. TAGS_KEEP_WHILE_HOLDING
- * is an argument of its own.
+ * is an argument of its own, and TAGS_NOTES is none of its, nor are the queues.
  */
 static struct tags_options asked_for(const struct tags_options *options)
 {
@@ -83,7 +85,7 @@ static struct tags_options asked_for(const struct tags_options *options)
 		asked.shift = -1;
 	else if (options->shift == TAGS_ONE_PER_WORD)
 		asked.shift = 0;
-	asked.flags &= ~(uint32_t)TAGS_KEEP_WHILE_HOLDING;
+	asked.flags &= ~(uint32_t)(TAGS_KEEP_WHILE_HOLDING | TAGS_NOTES);
 	return asked;
 }
 
@@ -103,10 +105,32 @@ static void note_total(struct tags_pool *pool, struct bell *bell, uint32_t total
 	tags_store(&bell->waits.batch, batch > 0 ? batch : 1);
 }
 
+/* Makes the boards of a pool's notes and its queues, if it has any, and says whether there was the memory. */
+static bool make_parts(struct bell *bell, const struct tags_options *options)
+{
+	if (options->flags & TAGS_NOTES) {
+		bell->boards = tags_library_make_boards(options->total);
+		if (!bell->boards)
+			return false;
+	}
+	return options->queues == 0 || tags_library_add_queues(bell, options->queues, options->total);
+}
+
+/* Makes the bell of a pool, with these parts, or returns NULL. */
+static struct bell *make_bell_for(const struct tags_options *options)
+{
+	struct bell *bell = tags_library_make_bell(options->hands);
+
+	if (!bell || make_parts(bell, options))
+		return bell;
+	tags_library_free_bell(bell);
+	return NULL;
+}
+
 /* Gives a pool its bell, or closes it again. */
 static int32_t add_bell(struct tags_pool *pool, const struct tags_options *options)
 {
-	struct bell *bell = tags_library_make_bell(options->hands);
+	struct bell *bell = make_bell_for(options);
 	struct tags_sums unused;
 
 	if (!bell) {
@@ -138,6 +162,8 @@ static int32_t open_locked(struct tags_pool *pool, const struct tags_options *op
 	/* The library refuses one that is too large. */
 	if (!pool->full && asked.flags <= TAGS_ROUND_ROBIN && options->shift < TAGS_SHIFT_AS_KERNEL)
 		return TAGS_BAD_SHIFT;
+	if (!pool->full && asked.flags <= TAGS_ROUND_ROBIN && options->queues > TAGS_MAX_QUEUES)
+		return TAGS_BAD_QUEUE_COUNT;
 	status = tags_library_open_cached(pool, &asked, options->cache,
 					  (options->flags & TAGS_KEEP_WHILE_HOLDING) != 0);
 	return status == TAGS_OK ? add_bell(pool, options) : status;
@@ -157,6 +183,20 @@ int32_t tags_open(struct tags_pool *pool, const struct tags_options *options)
 	return status;
 }
 
+int32_t tags_library_fill_hand(struct tags_pool *pool, struct tags_hand *hand, uint32_t flags)
+{
+	int32_t status;
+
+	begin_hidden();
+	status = end_hidden(tags_library_join(pool, hand, flags));
+	if (status != TAGS_OK)
+		return status;
+	hand->waits = pool->waits;
+	hand->place = &tags_bell_of(pool->waits)->places[tags_library_number(hand)];
+	hand->has_notes = tags_bell_of(pool->waits)->boards != NULL;
+	return status;
+}
+
 int32_t tags_join(struct tags_pool *pool, struct tags_hand *hand, uint32_t flags)
 {
 	int saved = errno;
@@ -168,16 +208,21 @@ int32_t tags_join(struct tags_pool *pool, struct tags_hand *hand, uint32_t flags
 		return hand->full ? TAGS_NOT_EMPTY : TAGS_BAD_HANDLE;
 	TAGS_DETAIL_MARK(hand);
 	tags_library_lock_handle(pool);
-	begin_hidden();
-	status = end_hidden(tags_library_join(pool, hand, flags));
-	if (status == TAGS_OK) {
-		hand->waits = pool->waits;
-		hand->place = &tags_bell_of(pool->waits)->places[tags_library_number(hand)];
-	}
+	status = tags_library_fill_hand(pool, hand, flags);
 	tags_library_unlock_handle(pool);
 	TAGS_DETAIL_SEES(TAGS_MAX_TOTAL);
 	errno = saved;
 	return status;
+}
+
+int32_t tags_library_empty_hand(struct tags_hand *hand)
+{
+	hand->waits = NULL;
+	hand->place = NULL;
+	hand->has_notes = 0;
+	TAGS_DETAIL_SHOWS(TAGS_MAX_TOTAL);
+	begin_hidden();
+	return end_hidden(tags_library_leave(hand));
 }
 
 int32_t tags_library_return_hand(struct tags_hand *hand)
@@ -190,14 +235,63 @@ int32_t tags_library_return_hand(struct tags_hand *hand)
 		return TAGS_BAD_HANDLE;
 	bell = tags_bell_of(hand->waits);
 	tags_library_cancel(hand);
+	tags_library_cancel_nexts(hand);
 	tags_flush(hand);
-	hand->waits = NULL;
-	hand->place = NULL;
-	TAGS_DETAIL_SHOWS(TAGS_MAX_TOTAL);
-	begin_hidden();
-	status = end_hidden(tags_library_leave(hand));
+	status = tags_library_empty_hand(hand);
 	tags_library_tell_first(bell, TAGS_A_HAND);
 	errno = saved;
+	return status;
+}
+
+/* What is made for a number of tags. */
+struct parts {
+	struct tags_board *boards;
+	struct tags_queues *queues;
+};
+
+static void free_parts(const struct bell *bell, const struct parts *parts)
+{
+	tags_library_free_queues(bell, parts->queues);
+	free(parts->boards);
+}
+
+/* Makes what the pool has of these. Returns whether there was the memory. */
+static bool make_parts_anew(const struct bell *bell, uint32_t total, struct parts *parts)
+{
+	if (bell->boards)
+		parts->boards = tags_library_make_boards(total);
+	if (bell->queues)
+		parts->queues = tags_library_make_queues(bell, total);
+	return !bell->boards == !parts->boards && !bell->queues == !parts->queues;
+}
+
+static void change_total(struct tags_pool *pool, uint32_t total, const struct parts *parts)
+{
+	struct bell *bell = tags_bell_of(pool->waits);
+
+	note_total(pool, bell, total);
+	free(bell->boards);
+	bell->boards = parts->boards;
+	tags_library_change_queues(bell, parts->queues, total);
+}
+
+/* No tag is held or posted once it is done, so none has a note, or is in a queue. */
+static int32_t resize_locked(struct tags_pool *pool, uint32_t total)
+{
+	const struct bell *bell = tags_bell_in(pool);
+	struct parts parts = { NULL, NULL };
+	int32_t status = TAGS_NO_MEMORY;
+
+	if (!bell)
+		return TAGS_BAD_HANDLE;
+	if (total > TAGS_MAX_TOTAL || make_parts_anew(bell, total, &parts)) {
+		begin_hidden();
+		status = end_hidden(tags_library_resize(pool, total));
+	}
+	if (status == TAGS_OK)
+		change_total(pool, total, &parts);
+	else
+		free_parts(bell, &parts);
 	return status;
 }
 
@@ -209,14 +303,17 @@ int32_t tags_resize(struct tags_pool *pool, uint32_t total)
 	if (!pool)
 		return TAGS_NULL;
 	tags_library_lock_handle(pool);
-	begin_hidden();
-	status = end_hidden(tags_library_resize(pool, total));
-	if (status == TAGS_OK)
-		note_total(pool, tags_bell_of(pool->waits), total);
+	status = resize_locked(pool, total);
 	tags_library_unlock_handle(pool);
 	TAGS_DETAIL_SEES(TAGS_MAX_TOTAL);
 	errno = saved;
 	return status;
+}
+
+int32_t tags_library_empty_pool(struct tags_pool *pool, struct tags_sums *sums)
+{
+	begin_hidden();
+	return tags_detail_filled(end_hidden(tags_library_close(pool, sums)), sums, sizeof(*sums));
 }
 
 int32_t tags_close(struct tags_pool *pool, struct tags_sums *sums)
@@ -227,8 +324,7 @@ int32_t tags_close(struct tags_pool *pool, struct tags_sums *sums)
 	if (!pool || !sums)
 		return TAGS_NULL;
 	tags_library_lock_handle(pool);
-	begin_hidden();
-	status = tags_detail_filled(end_hidden(tags_library_close(pool, sums)), sums, sizeof(*sums));
+	status = tags_library_empty_pool(pool, sums);
 	if (status == TAGS_OK || status == TAGS_HAND_LOST)
 		remove_bell(pool);
 	tags_library_unlock_handle(pool);
@@ -257,18 +353,12 @@ int32_t tags_resume(struct tags_pool *pool)
 	return TAGS_OK;
 }
 
-/* With the handle's lock. */
-static struct bell *bell_in(const struct tags_pool *pool)
-{
-	return pool->waits && !pool->place ? tags_bell_of(pool->waits) : NULL;
-}
-
 struct tags_waits *tags_library_waits_of(const struct tags_pool *pool)
 {
 	struct bell *bell;
 
 	tags_library_lock_handle(pool);
-	bell = bell_in(pool);
+	bell = tags_bell_in(pool);
 	tags_library_unlock_handle(pool);
 	return bell ? &bell->waits : NULL;
 }
@@ -278,7 +368,7 @@ bool tags_library_is_crowded(const struct tags_pool *pool)
 	bool is_crowded;
 
 	tags_library_lock_handle(pool);
-	is_crowded = bell_in(pool) && tags_library_has_waiters(bell_in(pool));
+	is_crowded = tags_bell_in(pool) && tags_library_has_waiters(tags_bell_in(pool));
 	tags_library_unlock_handle(pool);
 	return is_crowded;
 }
@@ -286,7 +376,7 @@ bool tags_library_is_crowded(const struct tags_pool *pool)
 bool tags_library_come_to_gate(const struct tags_pool *pool, struct tags_waiter *it)
 {
 	tags_library_lock_handle(pool);
-	it->bell = bell_in(pool);
+	it->bell = tags_bell_in(pool);
 	if (it->bell)
 		tags_library_come(it);
 	tags_library_unlock_handle(pool);

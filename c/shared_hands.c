@@ -55,18 +55,20 @@ void tags_library_wake_others(const struct tags_hands *hands, struct tags_told *
 
 		*due = (struct tags_told){ 0, 0 };
 		tags_library_see(&at->hand, 1, due);
+		tags_library_see_of(&at->hand, TAGS_RESERVED, 1, due);
 		tags_unlock(&at->lock);
 	}
 	errno = saved;
 }
 
-/* Ends a call, which made so many tags free. */
-static void leave(const struct tags_hands *hands, struct tags_locked *at, uint64_t freed)
+/* Ends a call, which made so many tags of this set free. */
+static void leave(const struct tags_hands *hands, struct tags_locked *at, enum tags_kind kind,
+		  uint64_t freed)
 {
 	struct tags_told due = { 0, 0 };
 
 	if (freed > 0 && tags_load(&hands->waits->waiting) > 0)
-		tags_library_see(&at->hand, freed, &due);
+		tags_library_see_of(&at->hand, kind, freed, &due);
 	tags_unlock(&at->lock);
 	if ((due.sleepers | due.listeners) != 0)
 		tags_library_wake_others(hands, &due);
@@ -109,13 +111,14 @@ int32_t tags_hands_get(struct tags_hands *hands)
 	at = tags_library_enter(hands);
 	tag = tags_detail_won(tags_library_get(&at->hand, &left));
 	tags_library_note_holder(hands, at, tag);
-	leave(hands, at, left);
+	leave(hands, at, TAGS_ORDINARY, left);
 	return tag;
 }
 
 int32_t tags_hands_get_reserved(struct tags_hands *hands)
 {
 	struct tags_locked *at;
+	uint64_t left = 0;
 	int32_t tag;
 
 	if (!hands)
@@ -123,11 +126,9 @@ int32_t tags_hands_get_reserved(struct tags_hands *hands)
 	if (!hands->full)
 		return TAGS_BAD_HANDLE;
 	at = tags_library_enter(hands);
-	tag = tags_detail_won(tags_library_get_reserved(&at->hand));
+	tag = tags_detail_won(tags_library_get_reserved(&at->hand, &left));
 	tags_library_note_holder(hands, at, tag);
-	if (tag >= 0 && tags_load(&hands->waits->waiting) > 0)
-		tags_library_see_to_lists(&at->hand);
-	tags_unlock(&at->lock);
+	leave(hands, at, TAGS_RESERVED, left);
 	return tag;
 }
 
@@ -149,9 +150,11 @@ int32_t tags_hands_clear(struct tags_hands *hands, uint32_t tag)
 	if (status != TAGS_OK)
 		return status;
 	at = enter_holder(hands, tag);
+	if (at->hand.has_notes)
+		tags_library_withdraw(&at->hand, tag);
 	tags_detail_lost(tag);
 	status = tags_library_clear(&at->hand, tag);
-	leave(hands, at, status == TAGS_OK);
+	leave(hands, at, tags_kind_of(hands->waits, tag), status == TAGS_OK);
 	return status;
 }
 
@@ -184,6 +187,21 @@ int32_t tags_hands_write(struct tags_hands *hands, uint32_t tag, uint64_t value,
 	return tags_detail_filled(status, former, sizeof(*former));
 }
 
+int32_t tags_hands_note(struct tags_hands *hands, uint32_t tag, uint64_t value)
+{
+	int32_t status = check(hands, tag);
+	struct tags_locked *at;
+
+	if (status == TAGS_NO_SUCH_TAG && !tags_bell_of(hands->waits)->boards)
+		return TAGS_NO_NOTES;
+	if (status != TAGS_OK)
+		return status;
+	at = enter_holder(hands, tag);
+	status = tags_library_note(&at->hand, tag, value);
+	tags_unlock(&at->lock);
+	return status;
+}
+
 void tags_library_flush_all(const struct tags_hands *hands)
 {
 	for (uint32_t i = 0; i < hands->count; i++) {
@@ -192,7 +210,7 @@ void tags_library_flush_all(const struct tags_hands *hands)
 
 		tags_lock(&at->lock);
 		freed = tags_library_flush(&at->hand);
-		leave(hands, at, freed > 0 ? (uint64_t)freed : 0);
+		leave(hands, at, TAGS_ORDINARY, freed > 0 ? (uint64_t)freed : 0);
 	}
 }
 

@@ -100,9 +100,11 @@ int32_t tags_hands_open(struct tags_pool *pool, struct tags_hands *hands, uint32
 	if (hands->full)
 		return TAGS_NOT_EMPTY;
 	status = tags_pool_total(pool);
-	if (status >= 0)
-		status = count > TAGS_MAX_HANDS ? (int32_t)TAGS_BAD_HAND_COUNT :
-						  open_hands(pool, hands, count);
+	if (status >= 0 && count > TAGS_MAX_HANDS)
+		status = TAGS_BAD_HAND_COUNT;
+	else if (status >= 0)
+		status = tags_pool_queued(pool, 0) < 0 ? open_hands(pool, hands, count) :
+							 (int32_t)TAGS_BAD_QUEUE_COUNT;
 	errno = saved;
 	return status;
 }

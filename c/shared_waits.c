@@ -68,14 +68,14 @@ static int32_t make_round(struct wait *wait)
 	int32_t tag;
 
 	tags_lock(&wait->at->lock);
-	tag = tags_library_listen(&wait->at->hand, &notice, &due);
+	tag = tags_library_listen(&wait->at->hand, TAGS_ORDINARY, &notice, &due);
 	tags_library_note_holder(wait->hands, wait->at, tag);
 	tags_unlock(&wait->at->lock);
 	tags_library_wake_others(wait->hands, &due);
 	return tag;
 }
 
-/* Afterwards the hand is in no list, and nobody rouses the thread. */
+/* Afterwards the hand is not listed, and nobody rouses the thread. */
 static int32_t end_with(struct wait *wait, int32_t why)
 {
 	struct tags_told due = { 0, 0 };

@@ -4,12 +4,12 @@
  * A tag is a small number with a slot of 64 bits for the hand that holds it. It is free, held by
  * one hand, or posted: offered, with its slot, to the first hand that takes it. A thread makes its
  * calls with a hand; a pool has 1 to 64 of them. The first tags of a pool can be reserved: only
- * tags_get_reserved() takes them. All other tags are ordinary.
+ * tags_get_reserved() and its like take them. All other tags are ordinary.
  *
  * Proved under every schedule of the threads: no tag and no slot ever has two holders, no call
- * changes what another hand holds, and the sums of tags_close() balance; and of the lists of
- * waiting hands, that none waits beside a free tag unless some hand is on the way to it. The code
- * in C, which wakes them, is explored under every schedule of a few threads, and tested.
+ * changes what another hand holds, and the sums of tags_close() balance; and of hands that wait,
+ * that none does so beside a free tag unless some hand is on the way to it. The code in C, which
+ * wakes them, is explored under every schedule of a few threads, and tested.
  *
  * Threads
  *   A hand is in one call at a time. It may move to another thread, if a mutex, pthread_join() or
@@ -22,11 +22,13 @@
  *   latter two beside neither tags_open() nor tags_close(). A call beside tags_close() finds the
  *   pool open, or its handle empty; the handle's memory has to stay until it has returned. Different
  *   handles of one pool may be used at once, on any threads.
- *   Only tags_get_blocking(), tags_hands_get_blocking(), tags_join_blocking(), tags_drain(),
- *   tags_drain_list() and their timed forms sleep until they get what they wait for. While they
- *   sleep, and only then, they are cancellation points.
+ *   Only tags_get_blocking(), tags_get_reserved_blocking(), tags_next_blocking(),
+ *   tags_hands_get_blocking(), tags_join_blocking(), tags_drain(), tags_drain_list() and their timed
+ *   forms sleep until they get what they wait for. While they sleep, and only then, they are
+ *   cancellation points.
  *   Any other call waits for a lock at most, while another one uses a pool's handle, or begins,
- *   ends or notifies a wait by an eventfd, a function or a future of another language. No signal
+ *   ends or notifies a wait by an eventfd, a function or a future of another language; or while
+ *   another one is about to put a tag into the same queue, or to take one out. No signal
  *   ends a wait. Make no call in a signal handler, nor in a thread with the cancellation type
  *   PTHREAD_CANCEL_ASYNCHRONOUS. The forked child of a process with threads may open pools of its
  *   own, but must make no call on a pool from before the fork. Each call preserves errno. Only
@@ -36,19 +38,22 @@
  * Waiting
  *   A thread sleeps in tags_get_blocking() or tags_get_timed() until it gets a tag. An event loop
  *   is notified by an eventfd, see tags_get_async(), and a program that sleeps by means of its own
- *   by a function, see tags_get_notified(). No hand waits beside a free tag unless some thread is
- *   about to look at it. A thread must not sleep for a tag while it holds those that others wait
- *   for, nor be idle while it keeps them (see Caches). tags_stop() ends all waits.
+ *   by a function, see tags_get_notified(). Each of these has a form that waits for a reserved tag,
+ *   such as tags_get_reserved_blocking(), and one that waits for a submitted tag, such as
+ *   tags_next_blocking(). No hand waits beside a free tag of its set unless some thread is about to
+ *   look at it. A thread must not sleep for a tag while it holds those that others wait for, nor be
+ *   idle while it keeps them (see Caches). tags_stop() ends all waits.
  *
  * Caches
  *   In a pool with a cache each hand keeps some of the ordinary tags that it gives back, and its
  *   next gets return those, the lowest first. Neither call makes an atomic read-modify-write then.
  *   A kept tag has no user: any use of it is refused with TAGS_NOT_HELD. But it is busy, and no
  *   other hand can get it. A clear that finds a hand waiting gives all kept tags back with its own
- *   tag, and one that finds no room for its tag gives back those kept before. A hand that makes no
- *   more clears keeps its tags: so call tags_flush() before a thread goes idle, or sleeps
- *   elsewhere, or set TAGS_KEEP_WHILE_HOLDING. If threads wait for tags, set that flag, or give
- *   the pool at least 8 ordinary tags more than all its hands together may keep.
+ *   tag, and one that finds no room for its tag gives back those kept before. A hand that is to
+ *   wait for a reserved or a submitted tag gives them back first. A hand that makes no more clears
+ *   keeps its tags: so call tags_flush() before a thread goes idle, or sleeps elsewhere, or set
+ *   TAGS_KEEP_WHILE_HOLDING. If threads wait for tags, set that flag, or give the pool at least 8
+ *   ordinary tags more than all its hands together may keep.
  *
  * Memory
  *   A tag orders what its holders do. The hand that next gets or takes a tag sees all that the
@@ -66,12 +71,13 @@
  *   @hand: the hand that makes the call,
  *   @hands: hands that threads share,
  *   @tag: a tag that the hand holds, or one of those hands,
+ *   @queue: the number of a queue, below that of the pool's queues,
  *   @clock: CLOCK_MONOTONIC or CLOCK_REALTIME,
  *   @deadline: when to give up, by that clock; if that has passed, the call tries and does not sleep.
  *
  * Numbers
  *   A pool has at most 10,240 tags. In its life a hand may take up to 2^48 ordinary and 2^48
- *   reserved tags.
+ *   reserved tags, and as many out of each queue between two resizes.
  */
 #ifndef TAGS_H
 #define TAGS_H
@@ -112,16 +118,18 @@ enum tags_status {
 		ordinary tag; or the pool has no ordinary tag to wait for */
 	TAGS_NO_RESERVED = -2, /**< the pool was opened without reserved tags */
 	TAGS_NOT_HELD = -3, /**< this hand does not hold the tag */
-	TAGS_NOT_POSTED = -4, /**< the tag is not posted, or another hand took it first */
-	TAGS_BAD_COUNT = -5, /**< a batch or a list of 0 tags, a list of more than TAGS_MAX_BATCH,
-		or an empty mask */
+	TAGS_NOT_POSTED = -4, /**< the tag is not posted, or it is in a queue, or another hand took it
+		first */
+	TAGS_BAD_COUNT = -5, /**< a batch of 0 tags, a list of 0 tags or of more than TAGS_MAX_BATCH to
+		be given back, an empty mask, or more tags at once than are ordinary */
 	TAGS_TOO_SHALLOW = -6, /**< a depth of 0, or one below the pool's min_shallow */
 	TAGS_SPENT = -7, /**< the call could take the hand past its limit, 2^48 ordinary and 2^48
 		reserved tags */
-	TAGS_WAITING = -8, /**< the hand waits already, by an eventfd or a function */
+	TAGS_WAITING = -8, /**< the hand waits already, by an eventfd or a function, and can't wait
+		for another tag meanwhile */
 	TAGS_NOT_WAITING = -9, /**< the hand does not wait */
 	TAGS_NO_TAG = -10, /**< each tag checked was taken at some moment of the call; or no word
-		had a run for the batch */
+		had a run for the batch; or no tag was found in the queue */
 	TAGS_BAD_HANDLE = -12, /**< the handle is empty, or a hand stands in place of a pool or a
 		pool of a hand */
 	TAGS_NOT_EMPTY = -13, /**< the handle to be filled is not empty */
@@ -145,7 +153,11 @@ enum tags_status {
 	TAGS_BAD_EVENT = -33, /**< a descriptor below 0 */
 	TAGS_BAD_SHIFT = -34, /**< a shift below 0 that has no name */
 	TAGS_CACHE_TOO_LARGE = -35, /**< a cache of more than TAGS_MAX_CACHE tags */
-	TAGS_STOPPED = -36 /**< tags_stop() ended all waits */
+	TAGS_STOPPED = -36, /**< tags_stop() ended all waits */
+	TAGS_NO_NOTES = -37, /**< the pool was opened without TAGS_NOTES */
+	TAGS_BAD_QUEUE_COUNT = -38, /**< more than TAGS_MAX_QUEUES queues, or shared hands of a pool
+		with queues */
+	TAGS_NO_SUCH_QUEUE = -39 /**< the pool has no queue of this number */
 };
 
 enum {
@@ -153,7 +165,8 @@ enum {
 	TAGS_MAX_SHIFT = 6, /**< the largest shift: 64 tags in a word */
 	TAGS_MAX_HANDS = 64, /**< the most hands in a pool */
 	TAGS_MAX_BATCH = 64, /**< the most tags in one tags_clear_batch() */
-	TAGS_MAX_CACHE = 64 /**< the most tags that a hand keeps */
+	TAGS_MAX_CACHE = 64, /**< the most tags that a hand keeps */
+	TAGS_MAX_QUEUES = 64 /**< the most queues in a pool */
 };
 
 /** struct tags_pool - a handle for a pool, empty if all its bytes are 0; its members are the library's */
@@ -164,7 +177,7 @@ struct tags_pool {
 	/* of a hand: the members of both kinds are the same */
 	struct tags_place *place;
 	uint32_t in_call;
-	uint32_t mark;
+	uint32_t has_notes;
 };
 
 /** struct tags_hand - a handle for a hand, empty if all its bytes are 0; its members are the library's */
@@ -175,8 +188,8 @@ struct tags_hand {
 	struct tags_place *place;
 	/* 1 in a call that was compiled with TAGS_CHECKED_HANDS */
 	uint32_t in_call;
-	/* what each call writes under the thread sanitizer; always 0 */
-	uint32_t mark;
+	/* 1 in a pool with notes; under the thread sanitizer each call writes it, as it is */
+	uint32_t has_notes;
 };
 
 #ifdef __cplusplus
@@ -204,7 +217,7 @@ struct tags_hands {
 #define TAGS_MUST(call) tags_detail_must((call), #call)
 
 /** initializer of options: no tags and no hands, and the defaults for the rest */
-#define TAGS_OPTIONS_INIT { 0, 0, 0, 0, 0, 0, 0 }
+#define TAGS_OPTIONS_INIT { 0, 0, 0, 0, 0, 0, 0, 0 }
 
 /** a shift of struct tags_options: words of one tag each */
 #define TAGS_ONE_PER_WORD (-1)
@@ -219,8 +232,10 @@ enum tags_option_flags {
 		again once its word has no free tag left. A get after the last tag but one starts
 		at the first tag, so the last tag is mostly won when all others of its word are
 		taken. */
-	TAGS_KEEP_WHILE_HOLDING = 4 /**< A hand keeps tags in its cache only while it holds another
+	TAGS_KEEP_WHILE_HOLDING = 4, /**< A hand keeps tags in its cache only while it holds another
 		one that it got: clearing or posting the last of those gives all kept tags back. */
+	TAGS_NOTES = 8 /**< Tags have notes, see tags_note(). The pool takes 40 bytes more for each
+		tag, and a call that gives a tag back first looks whether that has one. */
 };
 
 /** struct tags_options - the options of tags_open(); all but @total and @hands may stay 0 */
@@ -240,6 +255,8 @@ struct tags_options {
 	uint32_t flags; /**< 0, or any of enum tags_option_flags */
 	uint32_t cache; /**< how many tags each hand may keep, at most TAGS_MAX_CACHE; 0 for
 		no cache */
+	uint32_t queues; /**< how many queues of submitted tags the pool has, at most
+		TAGS_MAX_QUEUES; 0 for none. See tags_submit(). */
 };
 
 /** enum tags_join_flags - flags of tags_join() */
@@ -251,7 +268,7 @@ enum tags_join_flags {
 /** enum tags_kind - one of the two sets of a pool's tags */
 enum tags_kind {
 	TAGS_ORDINARY = 0, /**< those that tags_get() takes */
-	TAGS_RESERVED = 1 /**< those that tags_get_reserved() takes */
+	TAGS_RESERVED = 1 /**< those that tags_get_reserved() and its like take */
 };
 
 /** struct tags_sizes - what tags_show() reports of a set */
@@ -261,6 +278,12 @@ struct tags_sizes {
 	uint32_t cleared; /**< tags found given back but not yet swept for reuse */
 	uint32_t bits_per_word; /**< tags per word; the last word can have fewer */
 	uint32_t words; /**< number of words of the set */
+};
+
+/** struct tags_noted - the note of a tag, as tags_pool_each_noted() passes it */
+struct tags_noted {
+	uint64_t value; /**< what tags_note() was given */
+	uint64_t since; /**< when that was, in nanoseconds of CLOCK_MONOTONIC */
 };
 
 /**
@@ -286,11 +309,12 @@ struct tags_sums {
  *
  * All tags are free and all slots are 0. The pool allocates its memory here: about 8.3 kB, 80
  * bytes for each tag, 128 for each word, and for each hand 2.0 kB and 8 bytes for each word.
- * tags_join() allocates 576 bytes more.
+ * tags_join() allocates 576 bytes more. Each queue takes as much as a pool whose hands have all
+ * joined, and up to 24 bytes more for each tag.
  *
  * Return: TAGS_OK. Otherwise the first of TAGS_NOT_EMPTY, TAGS_BAD_FLAG, TAGS_BAD_SHIFT,
- * TAGS_CACHE_TOO_LARGE, TAGS_TOTAL_TOO_LARGE, TAGS_RESERVED_TOO_LARGE, TAGS_SHIFT_TOO_LARGE,
- * TAGS_BAD_HAND_COUNT and TAGS_NO_MEMORY that applies.
+ * TAGS_BAD_QUEUE_COUNT, TAGS_CACHE_TOO_LARGE, TAGS_TOTAL_TOO_LARGE, TAGS_RESERVED_TOO_LARGE,
+ * TAGS_SHIFT_TOO_LARGE, TAGS_BAD_HAND_COUNT and TAGS_NO_MEMORY that applies.
  */
 TAGS_DETAIL_ANSWER int32_t tags_open(struct tags_pool *pool, const struct tags_options *options);
 
@@ -359,9 +383,9 @@ TAGS_DETAIL_ANSWER struct tags_hand *tags_thread_hand(const struct tags_pool *po
 /**
  * tags_leave() - return a hand to its pool, and empty its handle
  *
- * The hand still holds its tags, and the next thread that joins as this hand can use them. The
- * tags that it keeps go back. A wait by tags_get_async() or tags_get_notified() ends, as by
- * tags_cancel(). One of the threads that sleep for a hand is woken.
+ * The hand still holds its tags, and the next thread that joins as this hand can use them. The tags
+ * that it keeps go back. A wait by an eventfd or a function ends, as by tags_cancel() and
+ * tags_cancel_next(). One of the threads that sleep for a hand is woken.
  *
  * Return: TAGS_OK. TAGS_NO_ROOM should never happen.
  */
@@ -374,7 +398,9 @@ TAGS_DETAIL_CALL int32_t tags_leave(struct tags_hand *hand);
  *
  * The ordinary tags are new: all are free, and their slots are 0. The reserved tags keep their
  * slots, the words their size, the hands their counts and the pool its options, so tags_close()
- * returns the sums over the whole life of the pool. Afterwards the threads join again.
+ * returns the sums over the whole life of the pool. Afterwards the threads join again. A pool with
+ * notes or queues makes those for its new tags first, so it may answer TAGS_NO_MEMORY where another
+ * refusal applies, too.
  *
  * Threads: another call that uses the pool's handle waits until this one has returned, except
  * tags_stop() and tags_resume(), which run beside it.
@@ -389,11 +415,12 @@ TAGS_DETAIL_ANSWER int32_t tags_resize(struct tags_pool *pool, uint32_t total);
 /**
  * tags_stop() - end every wait for a tag or a hand, now and from now on
  *
- * For a shutdown. Threads that sleep for a tag or a hand wake up, and hands that wait by an
- * eventfd or a function are notified. From now on tags_get_blocking(), tags_get_timed(),
- * tags_get_async() and tags_get_notified() return TAGS_STOPPED, even while a tag is free, and
- * tags_join_blocking() and tags_join_timed() where they would have to sleep. A call that was
- * waiting may still return a tag or a hand. All other calls work as before, so that threads can
+ * For a shutdown. Threads that sleep for a tag or a hand wake up, and hands that wait by an eventfd
+ * or a function are notified. From now on tags_get_blocking(), tags_get_timed(), tags_get_async(),
+ * tags_get_notified() and their forms for a reserved tag return TAGS_STOPPED, even while a tag is
+ * free; but those for a submitted tag, tags_join_blocking() and tags_join_timed() where they would
+ * have to sleep or wait, so that what was submitted can still be carried out. A call that
+ * was waiting may still return a tag or a hand. All other calls work as before, so that threads can
  * give tags back and let hands leave. A pool stays stopped, even over a tags_resize(), until
  * tags_resume(). A thread that gets TAGS_STOPPED sees all that this thread wrote before this call.
  *
@@ -563,6 +590,22 @@ TAGS_DETAIL_CHECKED int32_t tags_get_exactly(struct tags_hand *hand, uint32_t ta
  */
 TAGS_DETAIL_CHECKED int32_t tags_get_batch(struct tags_hand *hand, uint32_t n, uint64_t *won);
 
+/**
+ * tags_get_many() - take several ordinary tags, from any words, or none of them
+ * @tags: filled in with the tags; if the call returns TAGS_NO_TAG, it may have written anything there
+ * @count: how many tags, at most as many as the pool has ordinary ones; 0 takes none and succeeds
+ *
+ * This is for what needs several tags at once and can do nothing with fewer. The call takes one
+ * after another as tags_get() does, but no kept tag. If it finds no further one it gives back those
+ * that it has taken, and tells waiting hands of them. Until then other hands lack these: of several
+ * such calls at once each may return TAGS_NO_TAG, though one alone would have found enough. The
+ * tags may go back one by one, or by tags_clear_batch(), in any order.
+ *
+ * Return: TAGS_OK. Otherwise TAGS_NO_TAG if a get found none before there were enough; TAGS_BAD_COUNT
+ * if @count is above the number of ordinary tags, or TAGS_SPENT.
+ */
+TAGS_DETAIL_CHECKED int32_t tags_get_many(struct tags_hand *hand, uint32_t *tags, size_t count);
+
 /*
  * Giving tags back
  */
@@ -570,9 +613,9 @@ TAGS_DETAIL_CHECKED int32_t tags_get_batch(struct tags_hand *hand, uint32_t n, u
 /**
  * tags_clear() - give a held tag back
  *
- * If a hand waits for a tag, this call tells it. A hand with a cache may keep the tag: see Caches
- * in tags(3). A refusal is a mistake of the program, most often a request that completed twice, so
- * the compiler warns if the program ignores the result: see TAGS_MUST().
+ * If a hand waits for a tag of the same set, this call tells it. A hand with a cache may keep the
+ * tag: see Caches in tags(3). A refusal is a mistake of the program, most often a request that
+ * completed twice, so the compiler warns if the program ignores the result: see TAGS_MUST().
  *
  * Return: TAGS_OK. Otherwise TAGS_NO_SUCH_TAG or TAGS_NOT_HELD.
  */
@@ -663,7 +706,7 @@ TAGS_DETAIL_CHECKED int32_t tags_post(struct tags_hand *hand, uint32_t tag);
 
 /**
  * tags_take() - take a posted tag, with its slot
- * @tag: a posted tag
+ * @tag: a posted tag, which is in no queue
  *
  * Return: TAGS_OK. Otherwise TAGS_NO_SUCH_TAG or TAGS_NOT_POSTED.
  */
@@ -698,6 +741,21 @@ TAGS_DETAIL_CHECKED int32_t tags_post_mask(struct tags_hand *hand, uint32_t firs
  * TAGS_NO_SUCH_TAG for a tag out of range, and TAGS_NOT_POSTED that applies to any tag of the mask.
  */
 TAGS_DETAIL_CHECKED int32_t tags_take_mask(struct tags_hand *hand, uint32_t first, uint64_t mask);
+
+/**
+ * tags_note() - publish the note of a held tag, which anybody may read
+ * @value: a number, or a pointer cast to uintptr_t
+ *
+ * For reports while others run, in a pool that was opened with TAGS_NOTES: what the tag is used
+ * for. The call notes the time with it. The note takes the place of the one that the tag had, and
+ * stays with the tag while that is posted and taken, and while its hand has left. It ends just
+ * before the tag goes back, also where that is kept in a cache: whoever gets the tag then has
+ * none until this call. tags_pool_each_noted() passes notes to whoever asks.
+ *
+ * Return: TAGS_OK. Otherwise the first of TAGS_BAD_HANDLE, TAGS_NO_NOTES, TAGS_NO_SUCH_TAG and
+ * TAGS_NOT_HELD that applies.
+ */
+TAGS_DETAIL_CALL int32_t tags_note(struct tags_hand *hand, uint32_t tag, uint64_t value);
 
 /**
  * tags_holds() - whether a hand holds a tag
@@ -735,7 +793,8 @@ TAGS_DETAIL_CALL int32_t tags_show(struct tags_hand *hand, uint32_t kind, struct
  *
  * That is the number of hands that wait for a tag, including those that were told and have not
  * tried again yet. A hand with futures of another language counts once for each of them that
- * waits. Threads that sleep until tags are back count too.
+ * waits, and one that waits in queues once for each of those. Threads that sleep until tags are back
+ * count too.
  *
  * Return: the number.
  */
@@ -770,12 +829,42 @@ int32_t tags_pool_busy(struct tags_pool *pool, uint64_t *into, size_t words);
  * While other threads work, a tag that has gone back may be passed too, and any tag may go back,
  * and have another user, while the function runs. A kept tag is passed, and has no user. So let
  * the function look only at what the program makes atomic, such as an array of atomic words with
- * the tag as the index, which holders set and reset. Only the holder of a tag may use its slot.
+ * the tag as the index, which holders set and reset; or let holders publish notes, which
+ * tags_pool_each_noted() passes. Only the holder of a tag may use its slot.
  *
  * Return: how many times the function was called.
  */
 int32_t tags_pool_each_busy(struct tags_pool *pool, int (*function)(uint32_t tag, void *argument),
 			    void *argument);
+
+/**
+ * tags_pool_each_noted() - call a function for each busy tag of a pool, with its note, without a hand
+ * @function: called with a tag, its note or NULL, and @argument; it returns 0 to go on, and
+ * anything else to stop
+ * @argument: what the function gets, which may be NULL
+ *
+ * As tags_pool_each_busy(), for a pool that was opened with TAGS_NOTES. The call looks at as many
+ * busy tags as it has room for, up to 256, and at their notes, passes these, and looks for the
+ * next ones; so a tag that is busy all the while is passed, once. A note lasts as long as the
+ * function runs, as it is a copy.
+ *
+ * A note was that of the tag's user at one moment of this call. No tag is passed with a note of
+ * somebody who had given it back before the look, nor with the value of one note and the time of
+ * another. A tag that has a note all the while is passed with one: with that one, unless it is
+ * replaced meanwhile. A tag that is passed without a note has just been got, is just going back,
+ * or is kept, or its user published none. The function sees what was written before the note was
+ * published; but as the tag may have gone back since, it may look only at what the next user does
+ * not change, unless that is atomic.
+ *
+ * Threads: a pool that is closed meanwhile ends the call; that is refused with TAGS_BAD_HANDLE only
+ * if no tag was passed before.
+ *
+ * Return: how many times the function was called. Otherwise TAGS_NO_NOTES.
+ */
+int32_t tags_pool_each_noted(struct tags_pool *pool,
+			     int (*function)(uint32_t tag, const struct tags_noted *note,
+					     void *argument),
+			     void *argument);
 
 /**
  * tags_pool_show() - report the sizes of a set of tags of a pool, without a hand
@@ -811,13 +900,14 @@ int32_t tags_pool_total(struct tags_pool *pool);
 int32_t tags_pool_batch(struct tags_pool *pool);
 
 /*
- * Waiting for an ordinary tag. A call that makes tags free tells waiting hands, as many as it
- * freed tags: for each tag one of the threads that sleep, and one of the hands that are notified
- * by an eventfd or a function, each time the one that has waited longest. (If only threads wait,
- * and as many of them are waking as the pool has tags, the call wakes no other: each of those
- * tries after the tag became free.) A hand that was told, and then has a tag or gives up, also by
- * a deadline, a cancel or tags_cancel(), tells another one if it sees a free tag. c/README.md says
- * what of this is proved, and what is only explored and tested.
+ * Waiting for a tag, an ordinary or a reserved one. A call that makes tags free tells hands that
+ * wait for a tag of that set, as many as it freed tags: for each tag one of the threads that
+ * sleep, and one of the hands that are notified by an eventfd or a function, each time the one
+ * that has waited longest. (It wakes no more threads than make, with those that were told and have
+ * not tried since, as many as the set has tags: each of those tries after the tag became free.) A
+ * hand that was told, and then has a tag or gives up, also by a deadline, a cancel or
+ * tags_cancel(), tells another one if it sees a free tag of that set. A hand waits for a tag of one
+ * set at a time. c/README.md says what of this is proved, and what is only explored and tested.
  */
 
 /**
@@ -862,7 +952,8 @@ TAGS_DETAIL_CHECKED int32_t tags_get_timed(struct tags_hand *hand, int32_t clock
  *
  * Return: the tag, or TAGS_NO_TAG. Otherwise TAGS_BAD_EVENT, TAGS_STOPPED, TAGS_SPENT, or
  * TAGS_NO_SUCH_TAG if the pool has no ordinary tag; then the hand does not wait. TAGS_BAD_EVENT
- * changes nothing: a hand that waited still waits.
+ * changes nothing: a hand that waited still waits. So does one that waits for a reserved tag,
+ * whatever the call returns: that is TAGS_WAITING where it would have to wait.
  */
 TAGS_DETAIL_CHECKED int32_t tags_get_async(struct tags_hand *hand, int descriptor);
 
@@ -885,17 +976,189 @@ TAGS_DETAIL_CHECKED int32_t tags_get_async(struct tags_hand *hand, int descripto
  * function that already runs on another thread has returned: hold no lock that it takes.
  *
  * Return: the tag, or TAGS_NO_TAG. Otherwise TAGS_STOPPED, TAGS_SPENT, or TAGS_NO_SUCH_TAG if the
- * pool has no ordinary tag; then the hand does not wait.
+ * pool has no ordinary tag; then the hand does not wait. One that waits for a reserved tag still
+ * waits, whatever the call returns: that is TAGS_WAITING where it would have to wait.
  */
 TAGS_DETAIL_CHECKED int32_t tags_get_notified(struct tags_hand *hand,
 					      void (*function)(void *argument), void *argument);
 
 /**
- * tags_cancel() - end a wait that tags_get_async() or tags_get_notified() began
+ * tags_get_reserved_blocking() - take a free reserved tag, and sleep while there is none
+ *
+ * As tags_get_blocking(), for a reserved tag. A reserved tag that becomes free wakes only those who
+ * wait for one, and an ordinary tag wakes none of them. If no reserved tag is free, the hand gives
+ * back the tags that it keeps before it sleeps.
+ *
+ * Return: the tag. Otherwise TAGS_STOPPED, TAGS_NO_RESERVED, TAGS_SPENT, or TAGS_WAITING if the hand
+ * would have to wait but waits already, by an eventfd or a function.
+ */
+TAGS_DETAIL_CHECKED int32_t tags_get_reserved_blocking(struct tags_hand *hand);
+
+/**
+ * tags_get_reserved_timed() - take a free reserved tag, and sleep until a deadline while there is none
+ *
+ * As tags_get_reserved_blocking(), but it gives up at the deadline.
+ *
+ * Return: the tag. Otherwise TAGS_BAD_TIME, which is checked before the handle; TAGS_TIMED_OUT; or
+ * what tags_get_reserved_blocking() returns.
+ */
+TAGS_DETAIL_CHECKED int32_t tags_get_reserved_timed(struct tags_hand *hand, int32_t clock,
+						    const struct timespec *deadline);
+
+/**
+ * tags_get_reserved_async() - take a free reserved tag, or be notified by an eventfd when to try again
+ * @descriptor: the eventfd, which still belongs to the program; several hands may name one
+ *
+ * As tags_get_async(), for a reserved tag. While it waits, the hand may get and clear tags of either
+ * set, but it can't wait for an ordinary one: end this wait first, by tags_cancel(). If no reserved
+ * tag is free, the hand gives back the tags that it keeps; and while it waits it keeps none.
+ *
+ * Return: the tag, or TAGS_NO_TAG. Otherwise TAGS_BAD_EVENT, TAGS_STOPPED, TAGS_NO_RESERVED or
+ * TAGS_SPENT; then the hand does not wait. TAGS_BAD_EVENT changes nothing: a hand that waited still
+ * waits. So does one that waits for an ordinary tag, whatever the call returns: that is TAGS_WAITING
+ * where it would have to wait.
+ */
+TAGS_DETAIL_CHECKED int32_t tags_get_reserved_async(struct tags_hand *hand, int descriptor);
+
+/**
+ * tags_get_reserved_notified() - take a free reserved tag, or have a function called when to try again
+ * @function: called with @argument, once, when a reserved tag is free for the hand
+ * @argument: what the function gets, which may be NULL
+ *
+ * As tags_get_notified(), for a reserved tag; and as tags_get_reserved_async().
+ *
+ * Return: the tag, or TAGS_NO_TAG. Otherwise TAGS_STOPPED, TAGS_NO_RESERVED or TAGS_SPENT; then the
+ * hand does not wait. One that waits for an ordinary tag still waits, whatever the call returns: that
+ * is TAGS_WAITING where it would have to wait.
+ */
+TAGS_DETAIL_CHECKED int32_t tags_get_reserved_notified(struct tags_hand *hand,
+						       void (*function)(void *argument),
+						       void *argument);
+
+/**
+ * tags_cancel() - end a wait that tags_get_async(), tags_get_notified() or their forms for a reserved tag began
  *
  * Return: TAGS_OK. Otherwise TAGS_NOT_WAITING.
  */
 TAGS_DETAIL_CALL int32_t tags_cancel(struct tags_hand *hand);
+
+/*
+ * Queues of submitted tags, for programs in which some threads submit requests and others carry
+ * them out. A hand submits a tag that it holds, with its slot; and some hand takes the next one out
+ * of that queue, first come, first served. A pool has as many queues as its options say, 0 to
+ * @queues - 1; each has room for all tags of the pool, ordinary and reserved ones.
+ *
+ * A submitted tag is posted: reports count it as busy, tags_drain() waits for it, its note stays
+ * with it, and tags_close() counts it as posted. But it is in its queue alone, and only tags_next()
+ * or its like takes it: tags_take() of it is refused.
+ *
+ * If a submit returned before another one to the same queue began, its tag is taken first. No hand
+ * waits beside a queued tag unless some thread is about to look at it: each submit tells one of the
+ * threads that sleep for the queue, and one of the hands that are notified, each time the one that
+ * has waited longest. In its queues a hand waits apart from its wait for a free tag: it may wait for
+ * one and in several queues at once. It gives back the tags that it keeps before it waits.
+ *
+ * These calls are put together, in C, from the proved calls of a pool and a list of tags: c/README.md
+ * says how that is checked.
+ */
+
+/**
+ * tags_submit() - put a held tag, with its slot, at the end of queue 0
+ *
+ * As tags_submit_to() for queue 0.
+ *
+ * Return: as tags_submit_to().
+ */
+TAGS_DETAIL_CHECKED int32_t tags_submit(struct tags_hand *hand, uint32_t tag);
+
+/**
+ * tags_submit_to() - put a held tag, with its slot, at the end of a queue
+ *
+ * The queue always has room. The tag is in it until some hand takes it, by tags_next() or its like.
+ *
+ * Return: TAGS_OK. Otherwise the first of TAGS_BAD_HANDLE, TAGS_NO_SUCH_QUEUE, TAGS_NO_SUCH_TAG and
+ * TAGS_NOT_HELD that applies.
+ */
+TAGS_DETAIL_CHECKED int32_t tags_submit_to(struct tags_hand *hand, uint32_t tag, uint32_t queue);
+
+/**
+ * tags_next() - take the next tag of a queue, with its slot
+ *
+ * Return: the tag. TAGS_NO_TAG means that the call found none: while others submit and take tags at
+ * once, there may have been one at each moment. Otherwise the first of TAGS_BAD_HANDLE and
+ * TAGS_NO_SUCH_QUEUE that applies; or TAGS_SPENT, if the hand has taken 2^48 tags out of this queue
+ * since the pool was opened or resized.
+ */
+TAGS_DETAIL_CHECKED int32_t tags_next(struct tags_hand *hand, uint32_t queue);
+
+/**
+ * tags_next_blocking() - take the next tag of a queue, and sleep while there is none
+ *
+ * A thread that is cancelled in its sleep has got no tag, and its hand waits no more in the queue.
+ *
+ * Return: the tag. Otherwise TAGS_STOPPED if it would have to sleep and the pool was stopped;
+ * TAGS_WAITING if it would have to sleep, but the hand waits in this queue already, by an eventfd or
+ * a function; TAGS_NO_SUCH_TAG if the pool has no tag at all; or what tags_next() returns, except
+ * TAGS_NO_TAG.
+ */
+TAGS_DETAIL_CHECKED int32_t tags_next_blocking(struct tags_hand *hand, uint32_t queue);
+
+/**
+ * tags_next_timed() - take the next tag of a queue, and sleep until a deadline while there is none
+ *
+ * As tags_next_blocking(), but it gives up at the deadline.
+ *
+ * Return: the tag. Otherwise TAGS_BAD_TIME, which is checked before the handle; TAGS_TIMED_OUT; or
+ * what tags_next_blocking() returns.
+ */
+TAGS_DETAIL_CHECKED int32_t tags_next_timed(struct tags_hand *hand, uint32_t queue, int32_t clock,
+					    const struct timespec *deadline);
+
+/**
+ * tags_next_async() - take the next tag of a queue, or be notified by an eventfd when to try again
+ * @descriptor: the eventfd, which still belongs to the program; several hands and queues may name one
+ *
+ * As tags_get_async(), with a queued tag for a free one: TAGS_NO_TAG means that the hand now waits in
+ * this queue. Repeat the call, for the same queue, when the eventfd is readable, or end the wait by
+ * tags_cancel_next() or tags_leave().
+ *
+ * Return: the tag, or TAGS_NO_TAG. Otherwise the first of TAGS_BAD_HANDLE, TAGS_NO_SUCH_QUEUE and
+ * TAGS_BAD_EVENT that applies, which change nothing; or TAGS_STOPPED where it would have to wait,
+ * TAGS_SPENT, or TAGS_NO_SUCH_TAG if the pool has no tag at all; then the hand does not wait in this
+ * queue.
+ */
+TAGS_DETAIL_CHECKED int32_t tags_next_async(struct tags_hand *hand, uint32_t queue, int descriptor);
+
+/**
+ * tags_next_notified() - take the next tag of a queue, or have a function called when to try again
+ * @function: called with @argument, once, when a tag is queued for the hand
+ * @argument: what the function gets, which may be NULL
+ *
+ * As tags_get_notified(), with a queued tag for a free one; and as tags_next_async(). The function may
+ * run in a call that submits a tag.
+ *
+ * Return: as tags_next_async(), except TAGS_BAD_EVENT.
+ */
+TAGS_DETAIL_CHECKED int32_t tags_next_notified(struct tags_hand *hand, uint32_t queue,
+					       void (*function)(void *argument), void *argument);
+
+/**
+ * tags_cancel_next() - end a wait in a queue that tags_next_async() or tags_next_notified() began
+ *
+ * Return: TAGS_OK. Otherwise the first of TAGS_BAD_HANDLE, TAGS_NO_SUCH_QUEUE and TAGS_NOT_WAITING
+ * that applies.
+ */
+TAGS_DETAIL_CALL int32_t tags_cancel_next(struct tags_hand *hand, uint32_t queue);
+
+/**
+ * tags_pool_queued() - how many tags are in a queue of a pool, without a hand
+ *
+ * As the reports above, at any time. A tag counts from the middle of the call that submits it to that
+ * of the call that takes it.
+ *
+ * Return: the number. Otherwise TAGS_NO_SUCH_QUEUE.
+ */
+int32_t tags_pool_queued(struct tags_pool *pool, uint32_t queue);
 
 /*
  * Hands that threads share, for a program with more threads than hands, or with threads that come
@@ -918,13 +1181,14 @@ TAGS_DETAIL_CALL int32_t tags_cancel(struct tags_hand *hand);
  * One for each processor is the fastest; with fewer, calls meet more often. Other threads may join
  * the pool with hands of their own, and take part as before. A hand that held tags when it left
  * still holds them, and these calls can clear them. The handle allocates 128 bytes for each hand
- * and one for each tag, besides what tags_join() does.
+ * and one for each tag, besides what tags_join() does. These calls use no queues, so the pool has
+ * to have none.
  *
  * Threads: as tags_join() for the pool's handle.
  *
  * Return: TAGS_OK. Otherwise the first of TAGS_NOT_EMPTY, TAGS_BAD_HANDLE (of @pool),
- * TAGS_BAD_HAND_COUNT (more than TAGS_MAX_HANDS) and TAGS_NO_HAND (fewer are free, or none) that
- * applies, or TAGS_NO_MEMORY.
+ * TAGS_BAD_HAND_COUNT (more than TAGS_MAX_HANDS), TAGS_BAD_QUEUE_COUNT (the pool has queues) and
+ * TAGS_NO_HAND (fewer are free, or none) that applies, or TAGS_NO_MEMORY.
  */
 TAGS_DETAIL_ANSWER int32_t tags_hands_open(struct tags_pool *pool, struct tags_hands *hands,
 					   uint32_t count);
@@ -994,6 +1258,17 @@ int32_t tags_hands_read(struct tags_hands *hands, uint32_t tag, uint64_t *value)
  * Return: TAGS_OK. Otherwise TAGS_NO_SUCH_TAG or TAGS_NOT_HELD.
  */
 int32_t tags_hands_write(struct tags_hands *hands, uint32_t tag, uint64_t value, uint64_t *former);
+
+/**
+ * tags_hands_note() - publish the note of a held tag, which anybody may read
+ * @value: a number, or a pointer cast to uintptr_t
+ *
+ * As tags_note().
+ *
+ * Return: TAGS_OK. Otherwise the first of TAGS_BAD_HANDLE, TAGS_NO_NOTES, TAGS_NO_SUCH_TAG and
+ * TAGS_NOT_HELD that applies.
+ */
+int32_t tags_hands_note(struct tags_hands *hands, uint32_t tag, uint64_t value);
 
 /**
  * tags_hands_flush() - give back all tags that the hands keep

@@ -43,8 +43,9 @@
  *   another thread if a mutex, the start of a thread or the like orders the two.
  *
  * Cancellation
- *   What sleeps is a cancellation point while it does: get_blocking(), join_blocking(), drain(),
- *   drain_list() and the forms of them that begin with try. None of those that sleep is noexcept. With glibc
+ *   What sleeps is a cancellation point while it does: get_blocking(), get_reserved_blocking(),
+ *   next_blocking(), join_blocking(), drain(), drain_list() and the forms of them that begin with
+ *   try. None of those that sleep is noexcept. With glibc
  *   pthread_cancel() unwinds the stack: destructors run, so the thread's tags go back and its
  *   hand leaves. Code that is compiled without exceptions runs no destructors then: the tags
  *   stay held, and the hand out. Cancel no thread there; pool::stop() ends its wait.
@@ -58,6 +59,7 @@
 
 #include "tags.h"
 
+#include <array>
 #include <atomic>
 #include <cassert>
 #include <chrono>
@@ -120,7 +122,10 @@ enum class errc : std::int32_t {
 	bad_event = TAGS_BAD_EVENT,
 	bad_shift = TAGS_BAD_SHIFT,
 	cache_too_large = TAGS_CACHE_TOO_LARGE,
-	stopped = TAGS_STOPPED
+	stopped = TAGS_STOPPED,
+	no_notes = TAGS_NO_NOTES,
+	bad_queue_count = TAGS_BAD_QUEUE_COUNT,
+	no_such_queue = TAGS_NO_SUCH_QUEUE
 };
 
 } // namespace tags
@@ -261,8 +266,10 @@ struct joined {
 	opened *pool = nullptr;
 	/// Whether there is a listener that points to it.
 	bool has_listener = false;
-	/// Whether it waits by hand::get_async() or hand::get_notified().
+	/// Whether it waits by hand::get_async() or hand::get_notified(), or by their forms for a
+	/// reserved tag; and whether it is one of the latter.
 	bool is_async = false;
+	bool is_reserving = false;
 	/// A bit for each tag that the hand holds and for which there is no object.
 	std::uint64_t loose[words] = {};
 
@@ -368,6 +375,22 @@ inline tags_hands *raw(shared *hands) noexcept
 	return hands != nullptr ? &hands->handle : nullptr;
 }
 
+/// Calls a look at a busy tag, and returns whether it goes on. What returns nothing does. A number would
+/// be 0 for that in C.
+template <class Look, class... Found>
+bool goes_on(Look &look, const Found &...found)
+{
+	using result = std::invoke_result_t<Look &, const Found &...>;
+	static_assert(std::is_void_v<result> || std::is_same_v<result, bool>,
+		      "a look at a busy tag returns bool, true to go on, or nothing");
+	if constexpr (std::is_void_v<result>) {
+		look(found...);
+		return true;
+	} else {
+		return look(found...);
+	}
+}
+
 /// Which tags of a pool are busy: what tags_pool_busy() answered, and a bit for each. A look at them
 /// may throw, so it is called here and not by the library.
 struct busy_bits {
@@ -395,22 +418,6 @@ struct busy_bits {
 
 	std::uint64_t bits[words];
 	std::int32_t answer;
-
-private:
-	/// What returns nothing goes on. A number would be 0 for that in C.
-	template <class Look>
-	static bool goes_on(Look &look, std::uint32_t tag)
-	{
-		using result = std::invoke_result_t<Look &, std::uint32_t>;
-		static_assert(std::is_void_v<result> || std::is_same_v<result, bool>,
-			      "a look at a busy tag returns bool, true to go on, or nothing");
-		if constexpr (std::is_void_v<result>) {
-			look(tag);
-			return true;
-		} else {
-			return look(tag);
-		}
-	}
 };
 
 /*
@@ -502,7 +509,28 @@ struct for_tag {
 	}
 };
 
-/// The same with shared hands.
+/// Waits for a reserved tag with this hand.
+struct for_reserved_tag {
+	joined *hand;
+
+	std::int32_t operator()(std::int32_t clock, const std::timespec &deadline) const
+	{
+		return tags_get_reserved_timed(raw(hand), clock, &deadline);
+	}
+};
+
+/// Waits for the next tag of a queue with this hand.
+struct for_next_tag {
+	joined *hand;
+	std::uint32_t queue;
+
+	std::int32_t operator()(std::int32_t clock, const std::timespec &deadline) const
+	{
+		return tags_next_timed(raw(hand), queue, clock, &deadline);
+	}
+};
+
+/// Waits for a tag with shared hands.
 struct for_shared_tag {
 	shared *hands;
 
@@ -616,6 +644,10 @@ struct options {
 	/// Whether the default shift is the kernel's, which asks for 4 whole words whatever the
 	/// number of hands: see TAGS_SHIFT_AS_KERNEL. With a shift it changes nothing.
 	bool shift_as_kernel = false;
+	/// Whether tags have notes: see tag::note().
+	bool notes = false;
+	/// How many queues of submitted tags there are, at most 64; 0 for none: see tag::submit().
+	std::uint32_t queues = 0;
 
 	/// The same for tags_open().
 	tags_options native() const noexcept
@@ -632,10 +664,13 @@ struct options {
 		made.min_shallow = min_shallow;
 		made.hands = hands;
 		made.cache = cache;
+		made.queues = queues;
 		if (round_robin)
 			made.flags |= TAGS_ROUND_ROBIN;
 		if (keep_while_holding)
 			made.flags |= TAGS_KEEP_WHILE_HOLDING;
+		if (notes)
+			made.flags |= TAGS_NOTES;
 		return made;
 	}
 };
@@ -652,6 +687,66 @@ enum class kind : std::uint32_t {
 using totals = ::tags_sums;
 /// The sizes of a set of tags.
 using sizes = ::tags_sizes;
+
+/// The note of a tag, as pool::each_noted() passes it.
+struct noted {
+	/// what note() was given
+	std::uint64_t value = 0;
+	/// when that was, by CLOCK_MONOTONIC, which is the clock of std::chrono::steady_clock
+	std::chrono::steady_clock::time_point since;
+};
+
+namespace detail {
+
+/// The busy tags of a pool with their notes, some at a time: the first of them, and then the next ones. A
+/// look at them may throw, so it is called here and not by the library.
+struct noted_tags {
+	static constexpr std::int32_t room = 64;
+
+	explicit noted_tags(tags_pool *pool) noexcept : of(pool) { find(0); }
+
+	/// Calls it for each tag, until it returns false. Returns how many times.
+	template <class Look>
+	std::uint32_t each(Look &look)
+	{
+		std::uint32_t calls = 0;
+		for (std::int32_t i = 0; i < answer; i++) {
+			const tags_found &it = found[i];
+			calls++;
+			if (!goes_on(look, it.tag, note_of(it)))
+				break;
+			if (i + 1 == room) {
+				find(it.tag + 1);
+				i = -1;
+			}
+		}
+		return calls;
+	}
+
+	tags_pool *of;
+	tags_found found[room];
+	/// How many were found, or why none can be.
+	std::int32_t answer = 0;
+
+private:
+	void find(std::uint32_t from) noexcept
+	{
+		answer = of == nullptr ? static_cast<std::int32_t>(TAGS_BAD_HANDLE)
+				       : tags_library_find_noted(of, from, found, room);
+	}
+
+	static std::optional<noted> note_of(const tags_found &it)
+	{
+		using clock = std::chrono::steady_clock;
+		if (it.has_note == 0)
+			return std::nullopt;
+		const std::chrono::nanoseconds since(static_cast<std::int64_t>(it.note.since));
+		return noted{it.note.value,
+			     clock::time_point(std::chrono::duration_cast<clock::duration>(since))};
+	}
+};
+
+} // namespace detail
 
 /*
  * Tags
@@ -728,6 +823,16 @@ public:
 		return former;
 	}
 
+	/// Publishes the tag's note, which anybody may read by pool::each_noted() while others run,
+	/// with the time. It takes the place of the one before, stays with the tag while that is
+	/// posted and taken, and ends just before the tag goes back.
+	///
+	/// Errors: bad_handle; no_notes if the pool was opened without options::notes.
+	void note(std::uint64_t value)
+	{
+		detail::check(tags_note(detail::raw(hand_), number_, value));
+	}
+
 	/// Reads the tag's slot and gives the tag back, in one call. The object is empty then.
 	///
 	/// Errors: bad_handle.
@@ -750,6 +855,19 @@ public:
 		detail::check(try_post());
 		return number;
 	}
+
+	/// Puts the tag, with its slot and what lies beside it, at the end of a queue, which always
+	/// has room, and returns its number. Whoever waits in that queue is told; hand::next() or its
+	/// like takes the tag, first come, first served. The object is empty then, and the value
+	/// beside the tag is no longer this thread's.
+	///
+	/// Errors: bad_handle, no_such_queue.
+	std::uint32_t submit(std::uint32_t queue = 0)
+	{
+		const std::uint32_t number = number_;
+		detail::check(try_submit(queue));
+		return number;
+	}
 #endif
 
 	std::uint64_t read(std::error_code &ec) const noexcept
@@ -766,6 +884,11 @@ public:
 		return former;
 	}
 
+	void note(std::uint64_t value, std::error_code &ec) noexcept
+	{
+		detail::note(tags_note(detail::raw(hand_), number_, value), ec);
+	}
+
 	std::uint64_t read_clear(std::error_code &ec) noexcept
 	{
 		std::uint64_t value = 0;
@@ -777,6 +900,16 @@ public:
 	{
 		const std::uint32_t number = number_;
 		const std::int32_t status = try_post();
+		detail::note(status, ec);
+		return status < 0 ? 0 : number;
+	}
+
+	std::uint32_t submit(std::error_code &ec) noexcept { return submit(0, ec); }
+
+	std::uint32_t submit(std::uint32_t queue, std::error_code &ec) noexcept
+	{
+		const std::uint32_t number = number_;
+		const std::int32_t status = try_submit(queue);
 		detail::note(status, ec);
 		return status < 0 ? 0 : number;
 	}
@@ -814,6 +947,13 @@ private:
 	{
 		return give([](tags_hand *hand, std::uint32_t number) {
 			return tags_post(hand, number);
+		});
+	}
+
+	std::int32_t try_submit(std::uint32_t queue) noexcept
+	{
+		return give([queue](tags_hand *hand, std::uint32_t number) {
+			return tags_submit_to(hand, number, queue);
 		});
 	}
 
@@ -980,6 +1120,11 @@ public:
 		return former;
 	}
 
+	/// Publishes the note of one of the tags, as tag::note() does.
+	///
+	/// Errors: bad_handle, no_notes; no_such_tag if the batch does not have it.
+	void note(std::uint32_t number, std::uint64_t value) { detail::check(try_note(number, value)); }
+
 	/// Offers all tags, with their slots and what lies beside them, to all hands of the pool, and
 	/// returns their numbers, for hand::take_batch(); each can be taken alone, too. The object is
 	/// empty then.
@@ -990,6 +1135,18 @@ public:
 		numbers posted;
 		detail::check(try_post(posted));
 		return posted;
+	}
+
+	/// Puts all tags at the end of a queue, one after the other in ascending order, and returns
+	/// their numbers. Others may submit tags between them, and take each as soon as it is there.
+	/// The object is empty then.
+	///
+	/// Errors, by which no tag is submitted: bad_handle, no_such_queue.
+	numbers submit(std::uint32_t queue = 0)
+	{
+		numbers submitted;
+		detail::check(try_submit(queue, submitted));
+		return submitted;
 	}
 #endif
 
@@ -1007,11 +1164,25 @@ public:
 		return former;
 	}
 
+	void note(std::uint32_t number, std::uint64_t value, std::error_code &ec) noexcept
+	{
+		detail::note(try_note(number, value), ec);
+	}
+
 	numbers post(std::error_code &ec) noexcept
 	{
 		numbers posted;
 		detail::note(try_post(posted), ec);
 		return posted;
+	}
+
+	numbers submit(std::error_code &ec) noexcept { return submit(0, ec); }
+
+	numbers submit(std::uint32_t queue, std::error_code &ec) noexcept
+	{
+		numbers submitted;
+		detail::note(try_submit(queue, submitted), ec);
+		return submitted;
 	}
 
 private:
@@ -1042,6 +1213,12 @@ private:
 		return status < 0 ? status : tags_write(&hand_->handle, number, value, &former);
 	}
 
+	std::int32_t try_note(std::uint32_t number, std::uint64_t value) noexcept
+	{
+		const std::int32_t status = find(number);
+		return status < 0 ? status : tags_note(&hand_->handle, number, value);
+	}
+
 	/// As tag::give() does it: the object is empty while others are told.
 	std::int32_t try_post(numbers &posted) noexcept
 	{
@@ -1053,6 +1230,24 @@ private:
 		if (status < 0)
 			numbers_ = std::exchange(posted, {});
 		return status;
+	}
+
+	/// Only the first can be refused for the queue's sake, of which nobody is told. The object is
+	/// empty while others are.
+	std::int32_t try_submit(std::uint32_t queue, numbers &submitted) noexcept
+	{
+		if (!numbers_)
+			return TAGS_BAD_HANDLE;
+		tags_hand *const hand = &hand_->handle;
+		submitted = std::exchange(numbers_, {});
+		const std::int32_t status = tags_submit_to(hand, *submitted.begin(), queue);
+		if (status < 0) {
+			numbers_ = std::exchange(submitted, {});
+			return status;
+		}
+		for (auto next = ++submitted.begin(); next != submitted.end(); ++next)
+			detail::expect(tags_submit_to(hand, *next, queue));
+		return TAGS_OK;
 	}
 
 	detail::joined *hand_ = nullptr;
@@ -1081,7 +1276,7 @@ public:
 
 	/// Calls std::terminate() if there still is a tag, batch or listener of the hand. To see
 	/// that, it looks at each busy tag of the pool. A wait by get_async() or get_notified()
-	/// ends.
+	/// ends, and so do those in queues.
 	~hand() { end(); }
 
 	/// Whether it has joined.
@@ -1162,6 +1357,37 @@ public:
 		return won_batch(first, won);
 	}
 
+	/// Takes N free ordinary tags, from any words, or none of them, for what can do nothing with
+	/// fewer. It takes no kept tag. No tags: a get found none before there were N, so those taken
+	/// before it went back, and whoever waits was told. Of several such calls at once each may
+	/// find too few, though one alone would have found enough.
+	///
+	/// Errors: bad_handle, spent; bad_count for more than all ordinary tags.
+	template <std::size_t N>
+	[[nodiscard]] std::optional<std::array<tag, N>> get_many()
+	{
+		static_assert(N > 0, "a get of no tags");
+		std::array<std::uint32_t, N> numbers = {};
+		const std::int32_t answer = tags_get_many(raw(), numbers.data(), N);
+		if (answer < 0 && answer != TAGS_NO_TAG)
+			detail::fail(answer);
+		return won_many(answer, numbers, std::make_index_sequence<N>());
+	}
+
+	/// The same of as many tags as there are places for their numbers, which are released: adopt()
+	/// makes an object of each, and clear_batch() gives them back. Returns whether it took them;
+	/// if not, the numbers mean nothing.
+	///
+	/// Errors, by which no number is written: bad_handle, spent; bad_count for more than all ordinary
+	/// tags, or a null pointer.
+	[[nodiscard]] bool get_many(std::uint32_t *numbers, std::size_t count)
+	{
+		const std::int32_t answer = try_get_released(numbers, count);
+		if (answer < 0 && answer != TAGS_NO_TAG)
+			detail::fail(answer);
+		return answer == TAGS_OK;
+	}
+
 	/// Takes a free ordinary tag, and sleeps while there is none. Don't sleep while this thread
 	/// holds the tags that others wait for, nor while it keeps them. While it sleeps it is a
 	/// cancellation point.
@@ -1211,7 +1437,7 @@ public:
 	///
 	/// Errors, after which the hand does not wait: bad_handle, spent, stopped; no_such_tag if the
 	/// pool has no ordinary tag. Errors that change nothing: bad_event for a descriptor below 0;
-	/// waiting if the hand has a listener.
+	/// waiting if the hand has a listener, or would have to wait and waits for a reserved tag.
 	[[nodiscard]] std::optional<tag> get_async(int eventfd)
 	{
 		return found(state_, async(eventfd));
@@ -1231,17 +1457,152 @@ public:
 		return found(state_, notified(function, argument));
 	}
 
-	/// Ends a wait that get_async() or get_notified() began. If the hand was notified of a tag,
-	/// and a tag is free, another hand that waits is told of it.
+	/// Takes a free reserved tag, and sleeps while there is none, as get_blocking() does for an
+	/// ordinary one. What the hand keeps it gives back first.
+	///
+	/// Errors: as of get_blocking(), except no_such_tag; no_reserved if the pool has no reserved tag.
+	tag get_reserved_blocking()
+	{
+		const std::int32_t answer = tags_get_reserved_blocking(raw());
+		detail::check(answer);
+		return tag(state_, static_cast<std::uint32_t>(answer));
+	}
+
+	/// The same, for at most this long, as try_get_for(). No tag: the time is up.
+	///
+	/// Errors: as of get_reserved_blocking().
+	template <class Rep, class Period>
+	[[nodiscard]] std::optional<tag>
+	try_get_reserved_for(const std::chrono::duration<Rep, Period> &time)
+	{
+		return found_in_time(state_, detail::wait_for(detail::for_reserved_tag{state_},
+							      detail::nanoseconds(time)));
+	}
+
+	/// The same, until this moment of any clock, as try_get_until(). No tag: it has come.
+	///
+	/// Errors: as of get_reserved_blocking().
+	template <class Clock, class Duration>
+	[[nodiscard]] std::optional<tag>
+	try_get_reserved_until(const std::chrono::time_point<Clock, Duration> &deadline)
+	{
+		return found_in_time(
+			state_, detail::wait_until(detail::for_reserved_tag{state_}, deadline));
+	}
+
+	/// Takes a free reserved tag, or has an eventfd notified of when to try again, as get_async()
+	/// does for an ordinary one. A hand waits for a tag of one set at a time: while it waits for an
+	/// ordinary one, this call waits for none, and get_async() for none while it waits for a
+	/// reserved one.
+	///
+	/// Errors: as of get_async(), except no_such_tag; no_reserved if the pool has no reserved tag;
+	/// waiting, which changes nothing, if it would have to wait and the hand waits for an ordinary
+	/// tag.
+	[[nodiscard]] std::optional<tag> get_reserved_async(int eventfd)
+	{
+		return found(state_, reserved_async(eventfd));
+	}
+
+	/// The same with a function of the program's in place of the eventfd, as get_notified().
+	///
+	/// Errors: as of get_reserved_async(), except bad_event; bad_handle, by which nothing changes,
+	/// for a null function, too.
+	[[nodiscard]] std::optional<tag> get_reserved_notified(void (*function)(void *argument),
+							       void *argument)
+	{
+		return found(state_, reserved_notified(function, argument));
+	}
+
+	/// Ends a wait that get_async() or get_notified() began, or one of their forms for a reserved
+	/// tag. If the hand was notified of a tag, and a tag is free, another hand that waits is told
+	/// of it.
 	///
 	/// Errors: bad_handle, not_waiting; waiting if the hand has a listener.
 	void cancel() { detail::check(try_cancel()); }
 
+	/// Takes the next tag of a queue, with its slot: the one whose submit came first. Whatever was
+	/// written before the submit is seen after this call. No tag: the call found none. While
+	/// others submit and take tags at once, there may have been one at each moment.
+	///
+	/// Errors: bad_handle, no_such_queue; spent if the hand has taken 2^48 tags out of the queue
+	/// since the pool was opened or resized.
+	[[nodiscard]] std::optional<tag> next(std::uint32_t queue)
+	{
+		return found(state_, tags_next(raw(), queue));
+	}
+
+	/// Takes the next tag of a queue, and sleeps while there is none. What the hand keeps it gives
+	/// back first. After pool::stop() it still returns what is queued. While it sleeps it is a
+	/// cancellation point.
+	///
+	/// Errors: bad_handle, no_such_queue, spent; no_such_tag if the pool has no tag at all; where
+	/// it would have to sleep, stopped, or waiting if the hand waits in this queue already, by
+	/// next_async() or next_notified().
+	tag next_blocking(std::uint32_t queue)
+	{
+		const std::int32_t answer = tags_next_blocking(raw(), queue);
+		detail::check(answer);
+		return tag(state_, static_cast<std::uint32_t>(answer));
+	}
+
+	/// The same, for at most this long, as try_get_for(). No tag: the time is up.
+	///
+	/// Errors: as of next_blocking().
+	template <class Rep, class Period>
+	[[nodiscard]] std::optional<tag>
+	try_next_for(std::uint32_t queue, const std::chrono::duration<Rep, Period> &time)
+	{
+		return found_in_time(state_, detail::wait_for(detail::for_next_tag{state_, queue},
+							      detail::nanoseconds(time)));
+	}
+
+	/// The same, until this moment of any clock, as try_get_until(). No tag: it has come.
+	///
+	/// Errors: as of next_blocking().
+	template <class Clock, class Duration>
+	[[nodiscard]] std::optional<tag>
+	try_next_until(std::uint32_t queue,
+		       const std::chrono::time_point<Clock, Duration> &deadline)
+	{
+		return found_in_time(
+			state_, detail::wait_until(detail::for_next_tag{state_, queue}, deadline));
+	}
+
+	/// Takes the next tag of a queue, or has an eventfd notified of when to try again, as
+	/// get_async() does of a free one. No tag: the hand now waits in this queue. Each submit adds 1
+	/// to the eventfd of the hand that has waited longest there. A hand may wait in several queues
+	/// at once, and for a free tag, also by a listener. cancel_next() ends the wait.
+	///
+	/// Errors that change nothing: bad_handle, no_such_queue; bad_event for a descriptor below 0.
+	/// Errors after which the hand does not wait in this queue: stopped where it would have to,
+	/// spent; no_such_tag if the pool has no tag at all.
+	[[nodiscard]] std::optional<tag> next_async(std::uint32_t queue, int eventfd)
+	{
+		return found(state_, tags_next_async(raw(), queue, eventfd));
+	}
+
+	/// The same with a function of the program's in place of the eventfd, as get_notified(): it is
+	/// called once, in the call that submits a tag, or in pool::stop().
+	///
+	/// Errors: as of next_async(), except bad_event; bad_handle, by which nothing changes, for a
+	/// null function, too.
+	[[nodiscard]] std::optional<tag>
+	next_notified(std::uint32_t queue, void (*function)(void *argument), void *argument)
+	{
+		return found(state_, tags_next_notified(raw(), queue, function, argument));
+	}
+
+	/// Ends a wait in a queue that next_async() or next_notified() began. If the hand was notified
+	/// of a tag, and one is queued, another hand that waits in this queue is told of it.
+	///
+	/// Errors: bad_handle, no_such_queue, not_waiting.
+	void cancel_next(std::uint32_t queue) { detail::check(tags_cancel_next(raw(), queue)); }
+
 	/// Takes a tag that a hand of this pool has posted, with its slot. Whatever was written
 	/// before the post is seen after this call.
 	///
-	/// Errors: bad_handle, no_such_tag; not_posted if the tag is not posted, or another hand
-	/// took it first.
+	/// Errors: bad_handle, no_such_tag; not_posted if the tag is not posted, or is in a queue, or
+	/// another hand took it first.
 	tag take(std::uint32_t number)
 	{
 		detail::check(tags_take(raw(), number));
@@ -1321,7 +1682,7 @@ public:
 	}
 
 	/// How many wait in the pool: for a tag, with those that were told and have not tried again
-	/// yet, or asleep until all tags are back.
+	/// yet, or asleep until all tags are back. A hand counts once for each queue that it waits in.
 	///
 	/// Errors: bad_handle.
 	std::uint32_t waiting()
@@ -1371,6 +1732,24 @@ public:
 		return won_batch(first, won);
 	}
 
+	template <std::size_t N>
+	[[nodiscard]] std::optional<std::array<tag, N>> get_many(std::error_code &ec) noexcept
+	{
+		static_assert(N > 0, "a get of no tags");
+		std::array<std::uint32_t, N> numbers = {};
+		const std::int32_t answer = tags_get_many(raw(), numbers.data(), N);
+		detail::note(answer == TAGS_NO_TAG ? TAGS_OK : answer, ec);
+		return won_many(answer, numbers, std::make_index_sequence<N>());
+	}
+
+	[[nodiscard]] bool get_many(std::uint32_t *numbers, std::size_t count,
+				    std::error_code &ec) noexcept
+	{
+		const std::int32_t answer = try_get_released(numbers, count);
+		detail::note(answer == TAGS_NO_TAG ? TAGS_OK : answer, ec);
+		return answer == TAGS_OK;
+	}
+
 	// The forms that sleep are not noexcept: a thread that is cancelled in them unwinds.
 
 	tag get_blocking(std::error_code &ec) { return owned(tags_get_blocking(raw()), ec); }
@@ -1401,7 +1780,91 @@ public:
 		return found(state_, notified(function, argument), ec);
 	}
 
+	tag get_reserved_blocking(std::error_code &ec)
+	{
+		return owned(tags_get_reserved_blocking(raw()), ec);
+	}
+
+	template <class Rep, class Period>
+	[[nodiscard]] std::optional<tag>
+	try_get_reserved_for(const std::chrono::duration<Rep, Period> &time, std::error_code &ec)
+	{
+		return found_in_time(state_,
+				     detail::wait_for(detail::for_reserved_tag{state_},
+						      detail::nanoseconds(time)),
+				     ec);
+	}
+
+	template <class Clock, class Duration>
+	[[nodiscard]] std::optional<tag>
+	try_get_reserved_until(const std::chrono::time_point<Clock, Duration> &deadline,
+			       std::error_code &ec)
+	{
+		return found_in_time(
+			state_, detail::wait_until(detail::for_reserved_tag{state_}, deadline), ec);
+	}
+
+	[[nodiscard]] std::optional<tag> get_reserved_async(int eventfd, std::error_code &ec) noexcept
+	{
+		return found(state_, reserved_async(eventfd), ec);
+	}
+
+	[[nodiscard]] std::optional<tag> get_reserved_notified(void (*function)(void *argument),
+							       void *argument,
+							       std::error_code &ec) noexcept
+	{
+		return found(state_, reserved_notified(function, argument), ec);
+	}
+
 	void cancel(std::error_code &ec) noexcept { detail::note(try_cancel(), ec); }
+
+	[[nodiscard]] std::optional<tag> next(std::uint32_t queue, std::error_code &ec) noexcept
+	{
+		return found(state_, tags_next(raw(), queue), ec);
+	}
+
+	tag next_blocking(std::uint32_t queue, std::error_code &ec)
+	{
+		return owned(tags_next_blocking(raw(), queue), ec);
+	}
+
+	template <class Rep, class Period>
+	[[nodiscard]] std::optional<tag>
+	try_next_for(std::uint32_t queue, const std::chrono::duration<Rep, Period> &time,
+		     std::error_code &ec)
+	{
+		return found_in_time(state_,
+				     detail::wait_for(detail::for_next_tag{state_, queue},
+						      detail::nanoseconds(time)),
+				     ec);
+	}
+
+	template <class Clock, class Duration>
+	[[nodiscard]] std::optional<tag>
+	try_next_until(std::uint32_t queue, const std::chrono::time_point<Clock, Duration> &deadline,
+		       std::error_code &ec)
+	{
+		return found_in_time(
+			state_, detail::wait_until(detail::for_next_tag{state_, queue}, deadline), ec);
+	}
+
+	[[nodiscard]] std::optional<tag> next_async(std::uint32_t queue, int eventfd,
+						    std::error_code &ec) noexcept
+	{
+		return found(state_, tags_next_async(raw(), queue, eventfd), ec);
+	}
+
+	[[nodiscard]] std::optional<tag> next_notified(std::uint32_t queue,
+						       void (*function)(void *argument),
+						       void *argument, std::error_code &ec) noexcept
+	{
+		return found(state_, tags_next_notified(raw(), queue, function, argument), ec);
+	}
+
+	void cancel_next(std::uint32_t queue, std::error_code &ec) noexcept
+	{
+		detail::note(tags_cancel_next(raw(), queue), ec);
+	}
 
 	tag take(std::uint32_t number, std::error_code &ec) noexcept
 	{
@@ -1491,31 +1954,50 @@ private:
 		return TAGS_OK;
 	}
 
-	/// Notes whether the hand waits after this call. A refusal of what the call was given changes
-	/// nothing.
-	std::int32_t noted(std::int32_t answer) noexcept
+	/// Why the hand can't begin a wait of its own, if it can't.
+	std::int32_t can_listen() const noexcept
 	{
-		if (answer != TAGS_NULL && answer != TAGS_BAD_EVENT)
-			state_->is_async = answer == TAGS_NO_TAG;
+		if (state_ == nullptr)
+			return TAGS_BAD_HANDLE;
+		return state_->has_listener ? TAGS_WAITING : TAGS_OK;
+	}
+
+	/// Notes whether the hand waits for a tag of this set after this call. A refusal of what the
+	/// call was given changes nothing, nor does a call for this set while it waits for the other.
+	std::int32_t noted(std::int32_t answer, bool reserving) noexcept
+	{
+		const bool is_of_other = state_->is_async && state_->is_reserving != reserving;
+		if (answer == TAGS_NULL || answer == TAGS_BAD_EVENT || is_of_other)
+			return answer;
+		state_->is_async = answer == TAGS_NO_TAG;
+		state_->is_reserving = reserving;
 		return answer;
 	}
 
 	std::int32_t async(int eventfd) noexcept
 	{
-		if (state_ == nullptr)
-			return TAGS_BAD_HANDLE;
-		if (state_->has_listener)
-			return TAGS_WAITING;
-		return noted(tags_get_async(raw(), eventfd));
+		const std::int32_t status = can_listen();
+		return status < 0 ? status : noted(tags_get_async(raw(), eventfd), false);
+	}
+
+	std::int32_t reserved_async(int eventfd) noexcept
+	{
+		const std::int32_t status = can_listen();
+		return status < 0 ? status : noted(tags_get_reserved_async(raw(), eventfd), true);
 	}
 
 	std::int32_t notified(void (*function)(void *argument), void *argument) noexcept
 	{
-		if (state_ == nullptr)
-			return TAGS_BAD_HANDLE;
-		if (state_->has_listener)
-			return TAGS_WAITING;
-		return noted(tags_get_notified(raw(), function, argument));
+		const std::int32_t status = can_listen();
+		return status < 0 ? status :
+				    noted(tags_get_notified(raw(), function, argument), false);
+	}
+
+	std::int32_t reserved_notified(void (*function)(void *argument), void *argument) noexcept
+	{
+		const std::int32_t status = can_listen();
+		return status < 0 ? status :
+				    noted(tags_get_reserved_notified(raw(), function, argument), true);
 	}
 
 	std::int32_t try_cancel() noexcept
@@ -1585,6 +2067,26 @@ private:
 		if (first < 0)
 			return std::nullopt;
 		return batch(state_, {static_cast<std::uint32_t>(first), won});
+	}
+
+	template <std::size_t N, std::size_t... I>
+	std::optional<std::array<tag, N>> won_many(std::int32_t answer,
+						   const std::array<std::uint32_t, N> &numbers,
+						   std::index_sequence<I...>) const noexcept
+	{
+		if (answer != TAGS_OK)
+			return std::nullopt;
+		return std::array<tag, N>{{tag(state_, numbers[I])...}};
+	}
+
+	std::int32_t try_get_released(std::uint32_t *numbers, std::size_t count) noexcept
+	{
+		if (state_ != nullptr && numbers == nullptr)
+			return count == 0 ? TAGS_OK : TAGS_BAD_COUNT;
+		const std::int32_t answer = tags_get_many(raw(), numbers, count);
+		for (std::size_t i = 0; answer == TAGS_OK && i < count; i++)
+			state_->let_go(numbers[i]);
+		return answer;
 	}
 
 	static std::optional<tag> found(detail::joined *state, std::int32_t answer,
@@ -1697,6 +2199,14 @@ public:
 		detail::check(tags_hands_write(detail::raw(hands_), number_, value, &former));
 		return former;
 	}
+
+	/// Publishes the tag's note, as tag::note() does.
+	///
+	/// Errors: bad_handle, no_notes.
+	void note(std::uint64_t value)
+	{
+		detail::check(tags_hands_note(detail::raw(hands_), number_, value));
+	}
 #endif
 
 	std::uint64_t read(std::error_code &ec) const noexcept
@@ -1711,6 +2221,11 @@ public:
 		std::uint64_t former = 0;
 		detail::note(tags_hands_write(detail::raw(hands_), number_, value, &former), ec);
 		return former;
+	}
+
+	void note(std::uint64_t value, std::error_code &ec) noexcept
+	{
+		detail::note(tags_hands_note(detail::raw(hands_), number_, value), ec);
 	}
 
 private:
@@ -1976,8 +2491,8 @@ public:
 #ifdef TAGS_THROWS
 	/// Opens a pool. All tags are free, and all slots are 0.
 	///
-	/// Errors: cache_too_large, total_too_large, reserved_too_large, shift_too_large,
-	/// bad_hand_count, no_memory.
+	/// Errors: bad_queue_count, cache_too_large, total_too_large, reserved_too_large,
+	/// shift_too_large, bad_hand_count, no_memory.
 	explicit pool(const options &asked) { detail::check(open(asked)); }
 
 	/// Returns a hand for one thread. Its gets start in its own part of the tags, which reduces
@@ -2028,9 +2543,11 @@ public:
 	}
 
 	/// Returns so many hands that any number of threads share; 0 for one for each processor, or for
-	/// all that are vacant if these are fewer. Threads may join with hands of their own, too.
+	/// all that are vacant if these are fewer. Threads may join with hands of their own, too. The
+	/// pool has to have no queues, which these hands don't use.
 	///
-	/// Errors: bad_handle, bad_hand_count, no_memory; no_hand if fewer are vacant, or none.
+	/// Errors: bad_handle, bad_hand_count, no_memory; bad_queue_count if the pool has queues;
+	/// no_hand if fewer are vacant, or none.
 	[[nodiscard]] shared_hands share(std::uint32_t count = 0)
 	{
 		shared_hands made;
@@ -2107,8 +2624,9 @@ public:
 	void resize(std::uint32_t total) { detail::check(try_resize(total)); }
 
 	/// Ends every wait for a tag or a hand, now and from now on, as for a shutdown. Who waits is
-	/// woken, and refused with stopped; so is who begins to wait, even while a tag is free. A
-	/// call that was waiting may still return a tag or a hand. All other calls work as before.
+	/// woken, and refused with stopped; so is who begins to wait, even while a tag is free. Only
+	/// what is queued is still returned by the waits for it. A call that was waiting may still
+	/// return a tag or a hand. All other calls work as before.
 	///
 	/// Errors: bad_handle.
 	void stop() { detail::check(try_stop()); }
@@ -2139,13 +2657,32 @@ public:
 	/// While other threads work, a tag that has gone back may be passed too, and any tag may go
 	/// back, and have another user, while look() runs. A kept tag is passed, and has no user. So
 	/// look only at what the program makes atomic, such as an array of std::atomic with the number
-	/// as the index; a slot and a value are for whoever holds the tag.
+	/// as the index, or let holders publish notes, for each_noted(); a slot and a value are for
+	/// whoever holds the tag.
 	///
 	/// Errors: bad_handle; and what look throws.
 	template <class Look>
 	std::uint32_t each_busy(Look look) const
 	{
 		const detail::busy_bits found(raw());
+		detail::check(found.answer);
+		return found.each(look);
+	}
+
+	/// Calls look(number, note) for each busy tag, as each_busy() does, of a pool with
+	/// options::notes. The note is an std::optional<noted>: what the tag's user published by
+	/// note(), or nothing, as of a tag that has just been got, or is kept.
+	///
+	/// It was that of the tag's user at one moment of this call: never that of one who had given
+	/// the tag back before, nor the value of one note and the time of another. A tag that has a
+	/// note all the while is passed with one. This call finds some tags, with their notes, and
+	/// passes these before it looks for the next ones.
+	///
+	/// Errors: bad_handle, no_notes; and what look throws.
+	template <class Look>
+	std::uint32_t each_noted(Look look) const
+	{
+		detail::noted_tags found(raw());
 		detail::check(found.answer);
 		return found.each(look);
 	}
@@ -2166,6 +2703,17 @@ public:
 	std::uint32_t waiting() const
 	{
 		const std::int32_t answer = tags_pool_waiting(raw());
+		detail::check(answer);
+		return counted(answer);
+	}
+
+	/// How many tags are in a queue, at any time and without a hand. A tag counts from the middle of
+	/// the call that submits it to that of the call that takes it.
+	///
+	/// Errors: bad_handle, no_such_queue.
+	std::uint32_t queued(std::uint32_t queue) const
+	{
+		const std::int32_t answer = tags_pool_queued(raw(), queue);
 		detail::check(answer);
 		return counted(answer);
 	}
@@ -2304,6 +2852,15 @@ public:
 		return found.each(look);
 	}
 
+	/// Throws nothing but what look throws. Then ec is set already.
+	template <class Look>
+	std::uint32_t each_noted(Look look, std::error_code &ec) const
+	{
+		detail::noted_tags found(raw());
+		detail::note(found.answer, ec);
+		return found.each(look);
+	}
+
 	sizes show(kind of, std::error_code &ec) const noexcept
 	{
 		sizes made = {};
@@ -2314,6 +2871,13 @@ public:
 	std::uint32_t waiting(std::error_code &ec) const noexcept
 	{
 		const std::int32_t answer = tags_pool_waiting(raw());
+		detail::note(answer, ec);
+		return counted(answer);
+	}
+
+	std::uint32_t queued(std::uint32_t queue, std::error_code &ec) const noexcept
+	{
+		const std::int32_t answer = tags_pool_queued(raw(), queue);
 		detail::note(answer, ec);
 		return counted(answer);
 	}

@@ -23,12 +23,22 @@ struct tags_waits {
 	uint32_t stops;
 	/* the most tags that tags_get_batch() returns; only a resize changes it */
 	uint32_t batch;
+	/* how many queues the pool has */
+	uint32_t queues;
+};
+
+/* A tag that was found busy, and its note, if it has one. */
+struct tags_found {
+	uint32_t tag;
+	uint32_t has_note;
+	struct tags_noted note;
 };
 
 /*
  * The exports of the library. They do not check for NULL, as the calls below do; that costs nothing
  * if the compiler sees that a pointer is not NULL. A get fills in @left, whatever it returns: how
- * many tags it made free and did not take. A flush returns how many tags it gave back.
+ * many tags of the set that it gets from it made free and did not take. A flush returns how many
+ * tags it gave back.
  */
 int32_t tags_library_open_cached(struct tags_pool *pool, const struct tags_options *options,
 				 uint32_t cache, uint32_t keeping);
@@ -37,11 +47,13 @@ int32_t tags_library_leave(struct tags_hand *hand);
 int32_t tags_library_resize(struct tags_pool *pool, uint32_t total);
 int32_t tags_library_close(struct tags_pool *pool, struct tags_sums *sums);
 int32_t tags_library_get(struct tags_hand *hand, uint64_t *left);
-int32_t tags_library_get_reserved(struct tags_hand *hand);
+int32_t tags_library_get_reserved(struct tags_hand *hand, uint64_t *left);
 int32_t tags_library_get_shallow(struct tags_hand *hand, uint32_t depth, uint64_t *left);
 int32_t tags_library_get_exactly(struct tags_hand *hand, uint32_t tag, uint64_t *left);
 int32_t tags_library_get_batch(struct tags_hand *hand, uint32_t n, uint64_t *won,
 			       uint64_t *left);
+int32_t tags_library_get_many(struct tags_hand *hand, uint32_t *tags, size_t count,
+			      uint64_t *left);
 int32_t tags_library_clear(struct tags_hand *hand, uint32_t tag);
 int32_t tags_library_clear_batch(struct tags_hand *hand, const uint32_t *tags, size_t count);
 int32_t tags_library_clear_mask(struct tags_hand *hand, uint32_t first, uint64_t mask);
@@ -59,21 +71,50 @@ int32_t tags_library_pool_busy(struct tags_pool *pool, uint64_t *into, size_t wo
 int32_t tags_library_pool_show(struct tags_pool *pool, uint32_t kind, struct tags_sizes *sizes);
 
 /*
- * What the calls below use of the C files. The first one tells waiting hands of @freed tags that
- * this hand gave back or made free; if any hand waits, it gives back the tags that this hand keeps.
+ * What the calls below use of the C files. The first one tells hands that wait for an ordinary tag of
+ * @freed ordinary tags that this hand gave back or made free, and the second one those that wait for
+ * a tag of the set that @tag is of. If any hand waits, they give back the tags that this hand keeps.
  */
 void tags_library_ring(struct tags_hand *hand, uint64_t freed);
-/* Looks for those who wait for the tags of lists, once after each look of theirs: after a get that swept and tells nobody. */
-void tags_library_see_to_lists(struct tags_hand *hand);
+void tags_library_ring_for(struct tags_hand *hand, uint32_t tag, uint64_t freed);
 int32_t tags_library_wait(struct tags_hand *hand);
 int32_t tags_library_get_timed(struct tags_hand *hand, int32_t clock,
 			       const struct timespec *deadline);
 int32_t tags_library_get_async(struct tags_hand *hand, int descriptor);
 int32_t tags_library_get_notified(struct tags_hand *hand, void (*function)(void *argument),
 				  void *argument);
+int32_t tags_library_get_reserved_blocking(struct tags_hand *hand);
+int32_t tags_library_get_reserved_timed(struct tags_hand *hand, int32_t clock,
+					const struct timespec *deadline);
+int32_t tags_library_get_reserved_async(struct tags_hand *hand, int descriptor);
+int32_t tags_library_get_reserved_notified(struct tags_hand *hand,
+					   void (*function)(void *argument), void *argument);
 int32_t tags_library_cancel_wait(struct tags_hand *hand);
 int32_t tags_library_waiting(const struct tags_hand *hand);
 int32_t tags_library_return_hand(struct tags_hand *hand);
+/*
+ * Of a hand in a pool with notes, before a call that gives tags back: ends the notes of these tags, unless that
+ * call will be refused.
+ */
+void tags_library_withdraw(struct tags_hand *hand, uint32_t tag);
+void tags_library_withdraw_all(struct tags_hand *hand, const uint32_t *tags, size_t count);
+void tags_library_withdraw_mask(struct tags_hand *hand, uint32_t first, uint64_t mask);
+int32_t tags_library_note(struct tags_hand *hand, uint32_t tag, uint64_t value);
+/* Finds the busy tags of a pool from @from on, as many as there is room for. Returns how many, or a refusal. */
+int32_t tags_library_find_noted(struct tags_pool *pool, uint32_t from, struct tags_found *found,
+				int32_t room);
+/* The calls on queues, as below. */
+int32_t tags_library_submit(struct tags_hand *hand, uint32_t tag, uint32_t queue);
+int32_t tags_library_next(struct tags_hand *hand, uint32_t queue);
+int32_t tags_library_next_blocking(struct tags_hand *hand, uint32_t queue);
+int32_t tags_library_next_timed(struct tags_hand *hand, uint32_t queue, int32_t clock,
+				const struct timespec *deadline);
+int32_t tags_library_next_async(struct tags_hand *hand, uint32_t queue, int descriptor);
+int32_t tags_library_next_notified(struct tags_hand *hand, uint32_t queue,
+				   void (*function)(void *argument), void *argument);
+int32_t tags_library_cancel_next(struct tags_hand *hand, uint32_t queue);
+/* In a pool with queues: takes a posted tag, unless it is in one of them. */
+int32_t tags_library_take_unqueued(struct tags_hand *hand, uint32_t tag);
 int32_t tags_library_post_mask(struct tags_hand *hand, uint32_t first, uint64_t mask);
 int32_t tags_library_take_mask(struct tags_hand *hand, uint32_t first, uint64_t mask);
 /* End the program: a hand is in two calls, or a call of TAGS_MUST() was refused. */
@@ -144,19 +185,19 @@ void __msan_unpoison(const volatile void *start, size_t size);
 #endif
 
 /*
- * A hand is in one call at a time. Under the thread sanitizer each call writes a field of its
- * hand, so that it reports two threads on one hand, with both stacks. In a program that is
+ * A hand is in one call at a time. Under the thread sanitizer each call writes a field of its hand,
+ * as it is, so that it reports two threads on one hand, with both stacks. In a program that is
  * compiled with TAGS_CHECKED_HANDS, a call that finds its hand in another one ends the program.
  */
 #ifdef TAGS_LIBRARY
 __attribute__((weak)) void __tsan_write4(void *address);
-#define TAGS_DETAIL_MARK(hand) (__tsan_write4 ? __tsan_write4(&(hand)->mark) : (void)0)
+#define TAGS_DETAIL_MARK(hand) (__tsan_write4 ? __tsan_write4(&(hand)->has_notes) : (void)0)
 #elif defined TAGS_DETAIL_SANITIZED
 static inline void tags_detail_mark(struct tags_hand *hand)
 {
-	volatile uint32_t *mark = &hand->mark;
+	volatile uint32_t *has_notes = &hand->has_notes;
 
-	*mark = 0;
+	*has_notes = *has_notes;
 }
 #define TAGS_DETAIL_MARK(hand) tags_detail_mark(hand)
 #else
@@ -255,7 +296,7 @@ static inline void tags_detail_lost_mask(uint32_t first, uint64_t mask)
  * are sequentially consistent, as is each step of the library on its tags. They end a call.
  */
 
-/* After a get that returned @tag, and freed @left tags that it did not take. */
+/* After a get that returned @tag, and freed @left ordinary tags that it did not take. */
 static inline int32_t tags_detail_swept(struct tags_hand *hand, int32_t tag, uint64_t left)
 {
 	if (left > 0)
@@ -263,7 +304,24 @@ static inline int32_t tags_detail_swept(struct tags_hand *hand, int32_t tag, uin
 	return tags_detail_end(hand, tags_detail_won(tag));
 }
 
-/* After a call that gave @freed tags back, and may have kept others or given kept ones back. */
+/* The same after a get from the set that the tag @of is of. */
+static inline int32_t tags_detail_swept_for(struct tags_hand *hand, int32_t tag, uint64_t left,
+					    uint32_t of)
+{
+	if (left > 0)
+		tags_library_ring_for(hand, of, left);
+	return tags_detail_end(hand, tags_detail_won(tag));
+}
+
+/* After a clear of a tag, of whichever set it is: that matters only if somebody waits. */
+static inline int32_t tags_detail_cleared(struct tags_hand *hand, int32_t status, uint32_t tag)
+{
+	if (status >= 0 && __atomic_load_n(&hand->waits->waiting, __ATOMIC_SEQ_CST) > 0)
+		tags_library_ring_for(hand, tag, 1);
+	return tags_detail_end(hand, status);
+}
+
+/* After a call that gave @freed ordinary tags back, and may have kept others or given kept ones back. */
 static inline int32_t tags_detail_gave(struct tags_hand *hand, int32_t status, uint64_t freed)
 {
 	if (status >= 0 && __atomic_load_n(&hand->waits->waiting, __ATOMIC_SEQ_CST) > 0)
@@ -289,6 +347,12 @@ static inline int32_t tags_detail_must(int32_t status, const char *call)
 	if (status < 0)
 		tags_library_end_refused(status, call);
 	return status;
+}
+
+/* An empty handle has none. */
+static inline int tags_detail_has_queues(const struct tags_hand *hand)
+{
+	return hand->waits && hand->waits->queues > 0;
 }
 
 /* The count of stops of the hand's pool. */
@@ -332,14 +396,14 @@ TAGS_DETAIL_CALL int32_t tags_get(struct tags_hand *hand)
 
 TAGS_DETAIL_CALL int32_t tags_get_reserved(struct tags_hand *hand)
 {
+	TAGS_DETAIL_TO_FILL(uint64_t, left);
 	int32_t tag;
 
 	if (!tags_detail_begin(hand))
 		return TAGS_NULL;
-	tag = tags_library_get_reserved(hand);
-	if (tag >= 0 && __atomic_load_n(&hand->waits->waiting, __ATOMIC_SEQ_CST) > 0)
-		tags_library_see_to_lists(hand);
-	return tags_detail_end(hand, tags_detail_won(tag));
+	tag = tags_library_get_reserved(hand, &left);
+	/* tag 0 is reserved if any tag is */
+	return tags_detail_swept_for(hand, tag, left, 0);
 }
 
 TAGS_DETAIL_CALL int32_t tags_get_shallow(struct tags_hand *hand, uint32_t depth)
@@ -361,7 +425,7 @@ TAGS_DETAIL_CALL int32_t tags_get_exactly(struct tags_hand *hand, uint32_t tag)
 	if (!tags_detail_begin(hand))
 		return TAGS_NULL;
 	won = tags_library_get_exactly(hand, tag, &left);
-	return tags_detail_swept(hand, won, left);
+	return tags_detail_swept_for(hand, won, left, tag);
 }
 
 TAGS_DETAIL_CALL int32_t tags_get_batch(struct tags_hand *hand, uint32_t n, uint64_t *won)
@@ -384,12 +448,32 @@ TAGS_DETAIL_CALL int32_t tags_get_batch(struct tags_hand *hand, uint32_t n, uint
 	return tags_detail_end(hand, first);
 }
 
+TAGS_DETAIL_CALL int32_t tags_get_many(struct tags_hand *hand, uint32_t *tags, size_t count)
+{
+	TAGS_DETAIL_TO_FILL(uint64_t, left);
+	int32_t status;
+
+	if (!tags || !tags_detail_begin(hand))
+		return TAGS_NULL;
+	status = tags_detail_filled(tags_library_get_many(hand, tags, count, &left), tags,
+				    count * sizeof(*tags));
+	if (left > 0)
+		tags_library_ring(hand, left);
+#if defined TAGS_DETAIL_SANITIZED || defined TAGS_LIBRARY
+	for (size_t i = 0; status >= 0 && i < count; i++)
+		TAGS_DETAIL_SEES(tags[i]);
+#endif
+	return tags_detail_end(hand, status);
+}
+
 TAGS_DETAIL_CALL int32_t tags_clear(struct tags_hand *hand, uint32_t tag)
 {
 	if (!tags_detail_begin(hand))
 		return TAGS_NULL;
+	if (hand->has_notes)
+		tags_library_withdraw(hand, tag);
 	tags_detail_lost(tag);
-	return tags_detail_gave(hand, tags_library_clear(hand, tag), 1);
+	return tags_detail_cleared(hand, tags_library_clear(hand, tag), tag);
 }
 
 TAGS_DETAIL_CALL int32_t tags_clear_batch(struct tags_hand *hand, const uint32_t *tags,
@@ -397,6 +481,8 @@ TAGS_DETAIL_CALL int32_t tags_clear_batch(struct tags_hand *hand, const uint32_t
 {
 	if (!tags || !tags_detail_begin(hand))
 		return TAGS_NULL;
+	if (hand->has_notes)
+		tags_library_withdraw_all(hand, tags, count);
 	tags_detail_lost_all(tags, count);
 	return tags_detail_gave(hand, tags_library_clear_batch(hand, tags, count), count);
 }
@@ -405,6 +491,8 @@ TAGS_DETAIL_CALL int32_t tags_clear_mask(struct tags_hand *hand, uint32_t first,
 {
 	if (!tags_detail_begin(hand))
 		return TAGS_NULL;
+	if (hand->has_notes)
+		tags_library_withdraw_mask(hand, first, mask);
 	tags_detail_lost_mask(first, mask);
 	return tags_detail_gave_mask(hand, tags_library_clear_mask(hand, first, mask), mask);
 }
@@ -436,11 +524,13 @@ TAGS_DETAIL_CALL int32_t tags_read_clear(struct tags_hand *hand, uint32_t tag, u
 {
 	if (!value || !tags_detail_begin(hand))
 		return TAGS_NULL;
+	if (hand->has_notes)
+		tags_library_withdraw(hand, tag);
 	tags_detail_lost(tag);
-	return tags_detail_gave(hand,
-				tags_detail_filled(tags_library_read_clear(hand, tag, value), value,
-						   sizeof(*value)),
-				1);
+	return tags_detail_cleared(hand,
+				   tags_detail_filled(tags_library_read_clear(hand, tag, value),
+						      value, sizeof(*value)),
+				   tag);
 }
 
 TAGS_DETAIL_CALL int32_t tags_read(struct tags_hand *hand, uint32_t tag, uint64_t *value)
@@ -477,7 +567,8 @@ TAGS_DETAIL_CALL int32_t tags_take(struct tags_hand *hand, uint32_t tag)
 
 	if (!tags_detail_begin(hand))
 		return TAGS_NULL;
-	status = tags_library_take(hand, tag);
+	status = tags_detail_has_queues(hand) ? tags_library_take_unqueued(hand, tag) :
+						tags_library_take(hand, tag);
 	if (status == TAGS_OK && tag < TAGS_MAX_TOTAL)
 		TAGS_DETAIL_SEES(tag);
 	return tags_detail_end(hand, status);
@@ -497,6 +588,13 @@ TAGS_DETAIL_CALL int32_t tags_take_mask(struct tags_hand *hand, uint32_t first, 
 		return TAGS_NULL;
 	return tags_detail_end(hand, tags_detail_won_mask(tags_library_take_mask(hand, first, mask),
 							  first, mask));
+}
+
+TAGS_DETAIL_CALL int32_t tags_note(struct tags_hand *hand, uint32_t tag, uint64_t value)
+{
+	if (!tags_detail_begin(hand))
+		return TAGS_NULL;
+	return tags_detail_end(hand, tags_library_note(hand, tag, value));
 }
 
 TAGS_DETAIL_CALL int32_t tags_holds(struct tags_hand *hand, uint32_t tag)
@@ -566,11 +664,104 @@ TAGS_DETAIL_CALL int32_t tags_get_notified(struct tags_hand *hand,
 	return tags_detail_end(hand, tags_library_get_notified(hand, function, argument));
 }
 
+TAGS_DETAIL_CALL int32_t tags_get_reserved_blocking(struct tags_hand *hand)
+{
+	if (!tags_detail_begin(hand))
+		return TAGS_NULL;
+	return tags_detail_end(hand, tags_library_get_reserved_blocking(hand));
+}
+
+TAGS_DETAIL_CALL int32_t tags_get_reserved_timed(struct tags_hand *hand, int32_t clock,
+						 const struct timespec *deadline)
+{
+	if (!deadline || !tags_detail_begin(hand))
+		return TAGS_NULL;
+	return tags_detail_end(hand, tags_library_get_reserved_timed(hand, clock, deadline));
+}
+
+TAGS_DETAIL_CALL int32_t tags_get_reserved_async(struct tags_hand *hand, int descriptor)
+{
+	if (!tags_detail_begin(hand))
+		return TAGS_NULL;
+	return tags_detail_end(hand, tags_library_get_reserved_async(hand, descriptor));
+}
+
+TAGS_DETAIL_CALL int32_t tags_get_reserved_notified(struct tags_hand *hand,
+						    void (*function)(void *argument),
+						    void *argument)
+{
+	if (!function || !tags_detail_begin(hand))
+		return TAGS_NULL;
+	return tags_detail_end(hand,
+			       tags_library_get_reserved_notified(hand, function, argument));
+}
+
 TAGS_DETAIL_CALL int32_t tags_cancel(struct tags_hand *hand)
 {
 	if (!tags_detail_begin(hand))
 		return TAGS_NULL;
 	return tags_detail_end(hand, tags_library_cancel_wait(hand));
+}
+
+TAGS_DETAIL_CALL int32_t tags_submit_to(struct tags_hand *hand, uint32_t tag, uint32_t queue)
+{
+	if (!tags_detail_begin(hand))
+		return TAGS_NULL;
+	tags_detail_lost(tag);
+	return tags_detail_end(hand, tags_library_submit(hand, tag, queue));
+}
+
+TAGS_DETAIL_CALL int32_t tags_submit(struct tags_hand *hand, uint32_t tag)
+{
+	return tags_submit_to(hand, tag, 0);
+}
+
+TAGS_DETAIL_CALL int32_t tags_next(struct tags_hand *hand, uint32_t queue)
+{
+	if (!tags_detail_begin(hand))
+		return TAGS_NULL;
+	return tags_detail_end(hand, tags_detail_won(tags_library_next(hand, queue)));
+}
+
+TAGS_DETAIL_CALL int32_t tags_next_blocking(struct tags_hand *hand, uint32_t queue)
+{
+	if (!tags_detail_begin(hand))
+		return TAGS_NULL;
+	return tags_detail_end(hand, tags_detail_won(tags_library_next_blocking(hand, queue)));
+}
+
+TAGS_DETAIL_CALL int32_t tags_next_timed(struct tags_hand *hand, uint32_t queue, int32_t clock,
+					 const struct timespec *deadline)
+{
+	if (!deadline || !tags_detail_begin(hand))
+		return TAGS_NULL;
+	return tags_detail_end(hand, tags_detail_won(tags_library_next_timed(hand, queue, clock,
+									      deadline)));
+}
+
+TAGS_DETAIL_CALL int32_t tags_next_async(struct tags_hand *hand, uint32_t queue, int descriptor)
+{
+	if (!tags_detail_begin(hand))
+		return TAGS_NULL;
+	return tags_detail_end(hand,
+			       tags_detail_won(tags_library_next_async(hand, queue, descriptor)));
+}
+
+TAGS_DETAIL_CALL int32_t tags_next_notified(struct tags_hand *hand, uint32_t queue,
+					    void (*function)(void *argument), void *argument)
+{
+	if (!function || !tags_detail_begin(hand))
+		return TAGS_NULL;
+	return tags_detail_end(hand, tags_detail_won(tags_library_next_notified(hand, queue,
+										 function,
+										 argument)));
+}
+
+TAGS_DETAIL_CALL int32_t tags_cancel_next(struct tags_hand *hand, uint32_t queue)
+{
+	if (!tags_detail_begin(hand))
+		return TAGS_NULL;
+	return tags_detail_end(hand, tags_library_cancel_next(hand, queue));
 }
 
 #endif

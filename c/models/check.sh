@@ -1,6 +1,6 @@
 #!/usr/bin/env bash
 # Verifies the small settings of the models, and that each mutant is found. A line for each, and a last one that counts them. Needs
-# Debian's spin, and gcc; one processor, for two minutes, and 2 GB. With --large SECONDS it explores each of the large settings for
+# Debian's spin, and gcc; one processor, for five minutes, and 2 GB. With --large SECONDS it explores each of the large settings for
 # that long, as far as it comes: with a bit for each state, so that a few states in a thousand may be missed.
 set -uo pipefail
 here=$(cd "$(dirname "$0")" && pwd)
@@ -63,6 +63,8 @@ small() {
 mutants() {
   level=-O2 finds duties 91 sees_to_no_other_tag $TOLD -DLONGEST
   finds duties 92 gives_up_and_sees_to_nothing $TOLD
+  finds duties 93 waits_where_nobody_looks $TOLD
+  finds duties 94 fails_to_tell_one_and_is_done $TOLD
   local two="-DTHREADS=2 -DGROUPS=2 -DPLACES=2 -DHIDERS=1 $WHOLE"
   finds groups 31 looks_before_the_spill $two
   finds groups 32 won_nothing_and_does_not_look $two

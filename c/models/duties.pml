@@ -1,15 +1,17 @@
 /*
  * The duties by which crates/tag_bell says who is on the way to a tag: whoever makes a tag free has to see to it, and whoever was
- * told, to every tag. That ends for a tag that it finds taken, and for all tags once it finds nobody listed or tells somebody.
- * A look at a tag is one step, in any order of the tags: nothing relies on hints or turns.
+ * told, to every tag. That ends for a tag that it finds taken, and for all tags once it finds that nobody waits, tells somebody, finds
+ * that as many as there are tags were told before, or has tried to tell each that it found listed. Whoever waits has a berth, in
+ * which it is listed until it is told, and is among all who wait from before that until it is up. A look at a tag is one step, in any
+ * order of the tags: nothing relies on hints.
  *
  * The rule: nobody sleeps beside a free tag while nobody is on the way to it. It is looked at whenever no process can go on.
  *
  * Settings (-D):
  *  THREADS, TAGS   threads, up to 4, that get one of up to 3 tags, sleep where they find none, and hold it for ever or give it back
- *  ONCE            a thread gets one tag; at first all tags are held, and each may be given back, or never
- *  TIMED           the first TIMED threads have a deadline, which may pass after a try in vain, and while they sleep
- *  LONGEST         who has waited longest is told; otherwise any that is listed
+ *  ONCE            a thread waits for one tag; at first all tags are held, and each may be given back, or never
+ *  TIMED           the first TIMED threads have a deadline, which may pass while they sleep
+ *  LONGEST         those found listed are told in the order of their turns; otherwise in any order
  *  MUTANT          a wrong step: README.md says which
  */
 #ifndef TIMED
@@ -26,36 +28,44 @@ byte free;                /* the words, turned round: 1 is free */
 #else
 byte free = ALL;
 #endif
-byte list;                /* who waits and has not been told */
+byte waiters;             /* who waits, told or not */
+#define UP 0
+#define LISTED 1
+#define TOLD 2
+byte berth[4];
+byte found[THREADS + TAGS]; /* whom each process found listed, and has not tried to tell */
 #ifdef LONGEST
 byte turn[4];             /* 1 has waited longest; 0 does not wait */
 byte waiting;
-#define BEFORE(i, j) (!(found & (1 << j)) || turn[i] <= turn[j])
-#define MAY_BE_TOLD(i) (found & (1 << i)) && BEFORE(i, 0) && BEFORE(i, 1) && BEFORE(i, 2) && BEFORE(i, 3)
+#define BEFORE(i, j) (!(found[self] & (1 << j)) || turn[i] <= turn[j])
+#define IS_NEXT(i) (found[self] & (1 << i)) && BEFORE(i, 0) && BEFORE(i, 1) && BEFORE(i, 2) && BEFORE(i, 3)
 #else
-#define MAY_BE_TOLD(i) found & (1 << i)
+#define IS_NEXT(i) found[self] & (1 << i)
 #endif
 
-/* A thread begins to wait, and ends its wait. */
+/*
+ * A thread takes a turn, and ends its wait. With its new turn its berth is not as anybody found it before, so that no tell of theirs
+ * succeeds.
+ */
 inline begin() {
+  for (other : 0 .. THREADS + TAGS - 1) { found[other] = found[other] & ~BIT }
 #ifdef LONGEST
-  if :: turn[me] == 0 -> waiting++; turn[me] = waiting :: else fi;
+  waiting++;
+  turn[me] = waiting;
 #endif
-  list = list | BIT
+  other = 0
 }
 
 inline end() {
 #ifdef LONGEST
-  d_step {
-    if
-    :: turn[me] ->
-       for (other : 0 .. THREADS - 1) { if :: turn[other] > turn[me] -> turn[other]-- :: else fi }
-       turn[me] = 0;
-       waiting--
-    :: else
-    fi;
-    other = 0
-  }
+  if
+  :: turn[me] ->
+     for (other : 0 .. THREADS - 1) { if :: turn[other] > turn[me] -> turn[other]-- :: else fi }
+     turn[me] = 0;
+     waiting--
+  :: else
+  fi;
+  other = 0
 #else
   skip
 #endif
@@ -101,35 +111,45 @@ inline look() {
   od
 }
 
-/* Tells one of those that a load of the list finds. If another thread told that one first, it loads the list again. */
-inline tell() {
+/* A look at the berth of the first one left of those that a load found waiting. If as many come as there are tags, nobody is told. */
+#define LOOKS(i) d_step { (left & ((2 << i) - 1)) == (1 << i) -> left = left & ~(1 << i); \
+  if :: berth[i] == LISTED -> found[self] = found[self] | (1 << i) :: berth[i] == TOLD -> coming++ :: else fi; \
+  if :: left == 0 -> if :: coming >= TAGS -> found[self] = 0 :: else fi; coming = 0 :: else fi }
+
+/* A tell, after which nobody else need be told. It fails if that one is not listed any more, and then the next one is tried. */
+#if MUTANT == 94
+#define TELLS(i) d_step { IS_NEXT(i) -> if :: berth[i] == LISTED -> berth[i] = TOLD :: else fi; found[self] = 0 }
+#else
+#define TELLS(i) d_step { IS_NEXT(i) -> \
+  if :: berth[i] == LISTED -> berth[i] = TOLD; found[self] = 0 :: else -> found[self] = found[self] & ~(1 << i) fi }
+#endif
+
+/* Whoever made a tag free: looks at each that a load finds waiting, and tells one of those listed. */
+inline see_to(self) {
+  left = waiters;
   do
-  :: atomic {
-       found = list;
-       if
-       :: found == 0 -> break
-       :: MAY_BE_TOLD(0) -> whom = 0
-       :: MAY_BE_TOLD(1) -> whom = 1
-       :: MAY_BE_TOLD(2) -> whom = 2
-       :: MAY_BE_TOLD(3) -> whom = 3
-       fi
-     };
-     d_step { found = list & (1 << whom); list = list & ~(1 << whom); whom = 0 };
-     if
-     :: found -> break
-     :: else
-     fi
+  :: LOOKS(0)
+  :: LOOKS(1)
+  :: LOOKS(2)
+  :: LOOKS(3)
+  :: left == 0 -> break
   od;
-  found = 0
+  do
+  :: TELLS(0)
+  :: TELLS(1)
+  :: TELLS(2)
+  :: TELLS(3)
+  :: found[self] == 0 -> break
+  od
 }
 
-/* Whoever was told, and has a tag or gives up: if somebody is listed and a tag is free, tells one. */
+/* Whoever was told, and has a tag or gives up: if somebody waits and a tag is free, tells one. */
 inline see_to_all() {
   if
-  :: list ->
+  :: waiters ->
      look();
      if
-     :: seen -> seen = 0; tell()
+     :: seen -> seen = 0; see_to(me)
      :: else
      fi
   :: else
@@ -138,7 +158,7 @@ inline see_to_all() {
 }
 
 proctype Thread(byte me) {
-  byte tag = NONE, untried, found, whom, other;
+  byte tag = NONE, untried, left, coming, other;
   bit told, seen, late;
 
 idle:
@@ -149,60 +169,61 @@ idle:
   :: goto done
   :: skip
   fi;
-#endif
-first:
   try();
   if
-#if MUTANT == 91
-  :: tag != NONE -> told = 0; goto hold                       /* mutant 91: does not see to the other tags */
-#else
   :: tag != NONE -> goto hold
+  :: else
+  fi;
+#endif
+  d_step {
+    begin();
+#if MUTANT != 93
+    waiters = waiters | BIT;
+#endif
+  };
+
+round:
+  atomic { told = (berth[me] == TOLD); berth[me] = LISTED };  /* lists itself, one that was told with the turn that it had */
+  try();
+#if MUTANT == 93
+  waiters = waiters | BIT;                                    /* mutant 93: only now, after its try */
+#endif
+  if
+#if MUTANT == 91
+  :: tag != NONE -> told = 0; goto rise                       /* mutant 91: does not see to the other tags */
+#else
+  :: tag != NONE -> goto rise
 #endif
   :: else -> told = 0                                         /* it has found each taken */
   fi;
-#if TIMED
-  if
-  :: me < TIMED -> end(); goto gone
-  :: skip
-  fi;
-#endif
-  d_step { begin() };
-  try();
-  if
-  :: tag != NONE
-  :: else ->
 end_asleep:
-     if
-     :: !(list & BIT)
-#if TIMED
-     :: (list & BIT) && me < TIMED -> late = 1
-#endif
-     fi
-  fi;
-  d_step { told = !(list & BIT); list = list & ~BIT };         /* gets up */
   if
-  :: tag == NONE && !late -> goto first
-  :: tag == NONE && late ->
-     late = 0;
-     end();
-#if MUTANT != 92
-     if :: told -> see_to_all() :: else fi;                   /* mutant 92: does not */
+  :: berth[me] == TOLD -> goto round
+#if TIMED
+  :: berth[me] == LISTED && me < TIMED -> late = 1
 #endif
-     told = 0;
-     goto gone
+  fi;
+
+rise:
+  atomic { told = told || (berth[me] == TOLD); berth[me] = UP }; /* gets up */
+  d_step { waiters = waiters & ~BIT; end() };
+#if MUTANT == 92
+  if :: late -> told = 0 :: else fi;                          /* mutant 92: does not see to any */
+#endif
+  if :: told -> see_to_all() :: else fi;
+  if
+  :: late -> late = 0; goto gone
   :: else
   fi;
 
 hold:
-  end();
-  if :: told -> see_to_all() :: else fi;
 #ifndef ONCE
   if
   :: goto done                                                /* it holds the tag for ever */
   :: skip
   fi;
   d_step { free = free | (1 << tag); tag = NONE };
-  tell();
+  see_to(me);
 #endif
 gone:
 #ifndef ONCE
@@ -215,9 +236,9 @@ done:
 
 #ifdef ONCE
 proctype Holder(byte tag) {
-  byte found, whom;
+  byte left, coming;
   if
-  :: free = free | (1 << tag); tell()
+  :: free = free | (1 << tag); see_to((THREADS + tag))
   :: skip
   fi
 }
@@ -232,5 +253,6 @@ init {
 #endif
     i = 0
   };
-  timeout -> assert(!list || !free)                           /* no process can go on */
+  timeout ->                                                  /* no process can go on */
+    assert(!free || (berth[0] != LISTED && berth[1] != LISTED && berth[2] != LISTED && berth[3] != LISTED))
 }

@@ -37,8 +37,8 @@ SECTIONS = ["NAME", "SYNOPSIS", "DESCRIPTION", "RETURN VALUE", "ERRORS", "NOTES"
 # Pages of calls that return a pointer.
 WITHOUT_ERRORS = ["tags_strerror.3", "tags_thread_hand.3"]
 # Verbs that begin a summary, or go on in it behind "and" or "or".
-VERBS = "fill change end let sleep close take give read write offer report call describe return empty be have".split()
-THIRD = {"empty": "empties", "be": "is", "have": "has"}
+VERBS = "fill change end let sleep close take give put read write offer report call describe return publish empty be have".split()
+THIRD = {"empty": "empties", "publish": "publishes", "be": "is", "have": "has"}
 # When a call returns a status, as its own text says.
 WHEN = re.compile(r"(TAGS_\w+) (?:(?:if|for) (.*?)(?=,? (?:or|and) TAGS_|, TAGS_|[;.])|\((?!of )(.*?)\))")
 

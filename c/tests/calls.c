@@ -85,6 +85,16 @@ static int32_t get_for_flush(struct tags_hand *hand)
 	return tag == TAGS_NO_TAG ? tags_get_blocking(hand) : tag;
 }
 
+/* One that must go ahead and is not to queue with others waits for a reserved tag, if no tag is free. */
+static int32_t get_ahead(struct tags_hand *hand)
+{
+	int32_t tag = tags_get_reserved(hand);
+
+	if (tag == TAGS_NO_TAG)
+		tag = tags_get(hand);
+	return tag == TAGS_NO_TAG ? tags_get_reserved_blocking(hand) : tag;
+}
+
 /* Requests of low priority use 16 of the ordinary tags, and leave the others to tags_get(). */
 static int32_t get_for_readahead(struct tags_hand *hand)
 {
@@ -111,6 +121,17 @@ static uint32_t carry_out_eight(struct tags_hand *hand)
 			requests++; /* request tag first + i */
 	TAGS_MUST(tags_clear_mask(hand, (uint32_t)first, won));
 	return requests;
+}
+
+/* A request in parts, each of which needs a tag: it begins once there is one for every part. */
+static bool carry_out_in_parts(struct tags_hand *hand, size_t parts)
+{
+	uint32_t tags[TAGS_MAX_BATCH];
+
+	if (parts > TAGS_MAX_BATCH || tags_get_many(hand, tags, parts) != TAGS_OK)
+		return false;
+	/* part i of the request has tags[i] */
+	return tags_clear_batch(hand, tags, parts) >= 0;
 }
 
 /* Gives back the tags of completions that came together. */
@@ -175,6 +196,23 @@ static int32_t get_soon(struct tags_hand *hand)
 	return tags_get_timed(hand, CLOCK_MONOTONIC, &end);
 }
 
+/* Waits for a reserved tag, but no longer than until this moment. */
+static int32_t get_reserved_until(struct tags_hand *hand, const struct timespec *end)
+{
+	return tags_get_reserved_timed(hand, CLOCK_MONOTONIC, end);
+}
+
+/* An event loop has a reserved tag, or waits for one by a non-blocking eventfd, and asks again when that is readable. */
+static bool has_reserved(struct tags_hand *hand, int event, int32_t *tag)
+{
+	uint64_t told;
+
+	if (read(event, &told, sizeof(told)) < 0)
+		told = 0;
+	*tag = tags_get_reserved_async(hand, event);
+	return *tag != TAGS_NO_TAG;
+}
+
 /* An event loop waits for a tag by a non-blocking eventfd, and gives up after a second. */
 static int32_t get_in_loop(struct tags_hand *hand, int event)
 {
@@ -224,6 +262,12 @@ static int32_t get_with_own_sleep(struct tags_hand *hand, struct bed *bed)
 		pthread_mutex_unlock(&bed->lock);
 	}
 	return tag;
+}
+
+/* The same for a reserved tag. It asks once more each time that wake() was called. */
+static int32_t ask_for_reserved(struct tags_hand *hand, struct bed *bed)
+{
+	return tags_get_reserved_notified(hand, wake, bed);
 }
 
 /* A thread that keeps tags gives them back before it sleeps elsewhere. */
@@ -294,6 +338,59 @@ static uint32_t count_late(struct tags_pool *pool, uint64_t now)
 
 	tags_pool_each_busy(pool, watch_tag, &watch);
 	return watch.late;
+}
+
+/* Opens a pool in which anybody can read what each tag is used for, and since when. */
+static bool open_noted_pool(struct tags_pool *pool)
+{
+	const struct tags_options options = { .total = 64, .hands = 8, .flags = TAGS_NOTES };
+
+	return tags_open(pool, &options) == TAGS_OK;
+}
+
+/* A request with a number: until its tag goes back, reports pass it. */
+static int32_t submit_noted(struct tags_hand *hand, uint64_t request)
+{
+	int32_t tag = tags_get_blocking(hand);
+
+	if (tag >= 0)
+		TAGS_MUST(tags_note(hand, (uint32_t)tag, request));
+	return tag;
+}
+
+/* The same with hands that threads share. */
+static int32_t submit_noted_shared(struct tags_hands *hands, uint64_t request)
+{
+	int32_t tag = tags_hands_get_blocking(hands);
+
+	if (tag >= 0)
+		TAGS_MUST(tags_hands_note(hands, (uint32_t)tag, request));
+	return tag;
+}
+
+/* The request that has taken longest, and the time of its note. */
+struct slowest {
+	uint32_t tag;
+	struct tags_noted note;
+};
+
+static int compare_note(uint32_t tag, const struct tags_noted *note, void *argument)
+{
+	struct slowest *slowest = argument;
+
+	/* a tag without a note has just been got, or is kept */
+	if (note && note->since < slowest->note.since)
+		*slowest = (struct slowest){ tag, *note };
+	return 0;
+}
+
+/* Finds the request that has taken longest, while others run: compare_note() looks at each. */
+static struct slowest find_slowest(struct tags_pool *pool)
+{
+	struct slowest slowest = { 0, { 0, UINT64_MAX } };
+
+	tags_pool_each_noted(pool, compare_note, &slowest);
+	return slowest;
 }
 
 /* A thread of a program with more threads than hands: it sleeps until a hand is free. */
@@ -384,6 +481,91 @@ static bool close_shared(struct tags_hands *hands)
 	return tags_hands_close(hands) == TAGS_OK; /* TAGS_IN_USE: a tag was not given back */
 }
 
+/* Opens a pool with two queues: for requests, and for those that were carried out. */
+static bool open_queued_pool(struct tags_pool *pool)
+{
+	const struct tags_options options = { .total = 64, .hands = 8, .queues = 2 };
+
+	return tags_open(pool, &options) == TAGS_OK;
+}
+
+/* Leaves a request to the threads that carry requests out. */
+static int32_t hand_over(struct tags_hand *hand, uint64_t request)
+{
+	int32_t tag = tags_get_write(hand, request);
+
+	if (tag >= 0)
+		TAGS_MUST(tags_submit(hand, (uint32_t)tag));
+	return tag;
+}
+
+/* Passes on what was carried out. */
+static void report_done(struct tags_hand *hand, uint32_t tag)
+{
+	TAGS_MUST(tags_submit_to(hand, tag, 1));
+}
+
+/* A thread that carries requests out, until the pool is stopped and no request is left. */
+static uint32_t serve(struct tags_hand *hand)
+{
+	uint32_t served = 0;
+	uint64_t request;
+	int32_t tag;
+
+	while ((tag = tags_next_blocking(hand, 0)) >= 0) {
+		tags_read(hand, (uint32_t)tag, &request);
+		/* carry it out here */
+		served++;
+		report_done(hand, (uint32_t)tag);
+	}
+	return served;
+}
+
+/* Ends the requests that were carried out, if there are any. */
+static uint32_t end_done(struct tags_hand *hand)
+{
+	uint32_t ended = 0;
+	int32_t tag;
+
+	while ((tag = tags_next(hand, 1)) >= 0) {
+		TAGS_MUST(tags_clear(hand, (uint32_t)tag));
+		ended++;
+	}
+	return ended;
+}
+
+/* The next request, within a second. */
+static int32_t next_soon(struct tags_hand *hand)
+{
+	const struct timespec end = in_a_second();
+
+	return tags_next_timed(hand, 0, CLOCK_MONOTONIC, &end);
+}
+
+/* An event loop carries out the next request, or is told by its eventfd when to repeat this. */
+static int32_t next_in_loop(struct tags_hand *hand, int event)
+{
+	return tags_next_async(hand, 0, event);
+}
+
+/* The same where wake() tells. */
+static int32_t next_when_told(struct tags_hand *hand, struct bed *bed)
+{
+	return tags_next_notified(hand, 0, wake, bed);
+}
+
+/* It carries out no more requests: others are told of the next one. */
+static bool serve_no_more(struct tags_hand *hand)
+{
+	return tags_cancel_next(hand, 0) == TAGS_OK; /* TAGS_NOT_WAITING: it does not wait for one */
+}
+
+/* How many requests nobody has begun with. */
+static int32_t count_requests(struct tags_pool *pool)
+{
+	return tags_pool_queued(pool, 0);
+}
+
 /* Ends all waits for a tag, waits until all tags are back, and lets waits begin again. */
 static bool pause_pool(struct tags_pool *pool)
 {
@@ -460,6 +642,23 @@ static bool passes_eight(struct tags_hand *hand, struct tags_hand *other)
 	return tags_clear_mask(other, (uint32_t)first, won) >= 0 && request == 7;
 }
 
+/* The pool has four reserved tags. */
+static bool gets_reserved(struct tags_hand *hand, int event, struct bed *bed)
+{
+	const struct timespec past = { 0, 0 };
+	int32_t tags[4];
+
+	tags[0] = get_ahead(hand);
+	tags[1] = get_reserved_until(hand, &past);
+	tags[2] = ask_for_reserved(hand, bed);
+	if (!has_reserved(hand, event, &tags[3]))
+		return false;
+	for (int i = 0; i < 4; i++)
+		if (tags[i] < 0 || tags[i] > 3 || tags_clear(hand, (uint32_t)tags[i]) < 0)
+			return false;
+	return true;
+}
+
 static bool runs_with(struct tags_hand *hand, struct tags_hand *other, int event)
 {
 	const struct timespec past = { 0, 0 };
@@ -473,6 +672,7 @@ static bool runs_with(struct tags_hand *hand, struct tags_hand *other, int event
 	for (int i = 0; i < 5; i++)
 		tags[i] = (uint32_t)tags_get(hand);
 	if (!complete_all(hand, tags, 5) || carry_out_eight(hand) != 8 ||
+	    !carry_out_in_parts(hand, 12) ||
 	    !passes_eight(hand, other) || !carry_out_by_pairs(hand, 9))
 		return false;
 	tag = submit(hand, 11);
@@ -494,6 +694,8 @@ static bool runs_with(struct tags_hand *hand, struct tags_hand *other, int event
 	for (int i = 0; i < 5; i++)
 		if (tags_clear(hand, tags[i]) < 0)
 			return false;
+	if (!gets_reserved(hand, event, &bed))
+		return false;
 	if (!take_up_again(hand, 40) || take_up_again(other, 40) || tags_clear(hand, 40) < 0)
 		return false;
 	return tags_get_timed(hand, CLOCK_MONOTONIC, &past) >= 0;
@@ -536,6 +738,60 @@ static bool runs_shared(struct tags_pool *pool)
 	return close_shared(&hands);
 }
 
+static bool runs_with_notes(void)
+{
+	struct tags_pool pool = TAGS_EMPTY;
+	struct tags_hand hand = TAGS_EMPTY;
+	struct tags_hands hands = TAGS_EMPTY;
+	struct slowest slowest;
+	int32_t tags[2];
+	bool is_well;
+
+	if (!open_noted_pool(&pool) || tags_join(&pool, &hand, 0) != TAGS_OK || !share_hands(&pool, &hands))
+		return false;
+	tags[0] = submit_noted_shared(&hands, 70);
+	tags[1] = submit_noted(&hand, 71);
+	slowest = find_slowest(&pool);
+	is_well = slowest.tag == (uint32_t)tags[0] && slowest.note.value == 70;
+	TAGS_MUST(tags_hands_clear(&hands, (uint32_t)tags[0]));
+	slowest = find_slowest(&pool);
+	is_well = is_well && slowest.tag == (uint32_t)tags[1] && slowest.note.value == 71;
+	TAGS_MUST(tags_clear(&hand, (uint32_t)tags[1]));
+	is_well = is_well && find_slowest(&pool).note.since == UINT64_MAX;
+	return close_shared(&hands) && tags_leave(&hand) == TAGS_OK && close_pool(&pool) && is_well;
+}
+
+static bool runs_in_order(struct tags_hand *hand, int event, struct bed *bed)
+{
+	const int32_t first = hand_over(hand, 80), second = hand_over(hand, 81);
+	int32_t tags[2];
+
+	tags[0] = next_soon(hand);
+	tags[1] = next_in_loop(hand, event);
+	if (tags[0] != first || tags[1] != second || next_when_told(hand, bed) != TAGS_NO_TAG || !serve_no_more(hand))
+		return false;
+	for (int i = 0; i < 2; i++)
+		TAGS_MUST(tags_clear(hand, (uint32_t)tags[i]));
+	return true;
+}
+
+static bool runs_with_queues(int event)
+{
+	struct bed bed = { PTHREAD_MUTEX_INITIALIZER, PTHREAD_COND_INITIALIZER, false };
+	struct tags_pool pool = TAGS_EMPTY;
+	struct tags_hand hand = TAGS_EMPTY;
+	bool is_well;
+
+	if (!open_queued_pool(&pool) || tags_join(&pool, &hand, 0) != TAGS_OK || !runs_in_order(&hand, event, &bed))
+		return false;
+	for (uint64_t request = 82; request < 87; request++)
+		hand_over(&hand, request);
+	is_well = count_requests(&pool) == 5;
+	shut_down(&pool);
+	is_well = is_well && serve(&hand) == 5 && count_requests(&pool) == 0 && end_done(&hand) == 5;
+	return tags_leave(&hand) == TAGS_OK && close_pool(&pool) && is_well;
+}
+
 int main(void)
 {
 	struct tags_pool pool = TAGS_EMPTY;
@@ -546,8 +802,8 @@ int main(void)
 	int event = eventfd(0, EFD_NONBLOCK);
 	bool is_well = open_pool(&pool) && open_cached_pool(&cached) && close_pool(&cached) &&
 		       work(&pool) && join_in_turn(&pool, &hand) && join_soon(&pool, &other) &&
-		       runs_with(&hand, &other, event) && runs_on_a_thread(&pool) && runs_shared(&pool) &&
-		       !grow(&pool, 128);
+		       runs_with(&hand, &other, event) && runs_on_a_thread(&pool) && runs_shared(&pool) && runs_with_notes() &&
+		       runs_with_queues(event) && !grow(&pool, 128);
 
 	monitor(&pool);
 	begun[63] = 50000;

@@ -1,4 +1,4 @@
-// A thread that is cancelled by pthread_cancel() while it sleeps for a tag unwinds: its tags go
+// A thread that is cancelled by pthread_cancel() while it sleeps for a tag, free or submitted, unwinds: its tags go
 // back, its hand leaves, and what it was told goes to another thread. That needs exceptions.
 #include "check.hpp"
 
@@ -8,7 +8,18 @@
 
 using namespace std::chrono_literals;
 
-enum way { BLOCKING, BLOCKING_WITH_CODE, FOR, UNTIL, UNTIL_BY_ANOTHER_CLOCK, WAYS };
+enum way {
+	BLOCKING,
+	BLOCKING_WITH_CODE,
+	FOR,
+	UNTIL,
+	UNTIL_BY_ANOTHER_CLOCK,
+	NEXT,
+	NEXT_WITH_CODE,
+	NEXT_FOR,
+	NEXT_UNTIL,
+	WAYS
+};
 
 struct other_clock : std::chrono::steady_clock {
 	using time_point = std::chrono::time_point<other_clock>;
@@ -50,13 +61,25 @@ static void get(tags::hand &hand, way how)
 	case UNTIL:
 		found = hand.try_get_until(std::chrono::system_clock::now() + 1h);
 		break;
-	default:
+	case UNTIL_BY_ANOTHER_CLOCK:
 		found = hand.try_get_until(other_clock::now() + 1h, failure);
+		break;
+	case NEXT:
+		tag = hand.next_blocking(0);
+		break;
+	case NEXT_WITH_CODE:
+		tag = hand.next_blocking(0, failure);
+		break;
+	case NEXT_FOR:
+		found = hand.try_next_for(0, 1h);
+		break;
+	default:
+		found = hand.try_next_until(0, other_clock::now() + 1h, failure);
 		break;
 	}
 }
 
-// It holds the only ordinary tag but one, and sleeps for another.
+// It holds the only ordinary tag but one, and sleeps for another, or in a queue.
 static void *sleep_for_tag(void *argument)
 {
 	sleeper &self = *static_cast<sleeper *>(argument);
@@ -76,7 +99,9 @@ static void *sleep_for_tag(void *argument)
 
 static void a_cancelled_sleeper(way how)
 {
-	tags::pool pool(sized(2, 3));
+	tags::options options = sized(2, 3);
+	options.queues = 1;
+	tags::pool pool(options);
 	tags::hand hand = pool.join();
 	tags::hand other = pool.join();
 	tags::tag tag = *hand.get();

@@ -147,6 +147,56 @@ static void is_woken(Get get)
 	giver.join();
 }
 
+// The forms for a reserved tag, beside an ordinary one that is free.
+static void reserved_tags()
+{
+	tags::pool pool(sized(2, 2, 1), ec);
+	tags::hand holder = pool.join(ec);
+	tags::tag tag = *holder.get_reserved(ec);
+	tags::hand hand = pool.join(ec);
+	const auto begin = steady_clock::now();
+	CHECK(!hand.try_get_reserved_for(20ms, ec) && !ec);
+	CHECK(!hand.try_get_reserved_until(steady_clock::now() + 20ms, ec) && !ec);
+	CHECK(!hand.try_get_reserved_until(std::chrono::system_clock::now() + 20ms, ec) && !ec);
+	CHECK(steady_clock::now() - begin >= 50ms);
+	std::thread giver([&] {
+		std::this_thread::sleep_for(20ms);
+		tag.clear();
+	});
+	const std::optional<tags::tag> found = hand.try_get_reserved_for(hours::max(), ec);
+	CHECK(found && !ec && found->number() == 0);
+	giver.join();
+}
+
+// The forms for a submitted tag, with times that overflow and a clock of which nothing is known.
+static void submitted_tags()
+{
+	tags::options options = sized(2, 2);
+	options.queues = 1;
+	tags::pool pool(options, ec);
+	tags::hand submitter = pool.join(ec);
+	tags::hand hand = pool.join(ec);
+	const auto begin = steady_clock::now();
+	CHECK(!hand.try_next_for(0, 0s, ec) && !ec && !hand.try_next_for(0, -1h, ec) && !ec);
+	CHECK(!hand.try_next_for(0, 10ms, ec) && !ec);
+	CHECK(!hand.try_next_until(0, slow_clock::now() + 10ms, ec) && !ec);
+	CHECK(steady_clock::now() - begin >= 20ms);
+	for (int i = 0; i < 2; i++) {
+		tags::tag tag = *submitter.get(ec);
+		std::thread giver([&tag] {
+			std::error_code own;
+			std::this_thread::sleep_for(20ms);
+			tag.submit(own);
+			CHECK(!own);
+		});
+		const std::optional<tags::tag> found =
+			i == 0 ? hand.try_next_for(0, hours::max(), ec)
+			       : hand.try_next_until(0, slow_clock::time_point::max(), ec);
+		CHECK(found && !ec);
+		giver.join();
+	}
+}
+
 template <class Time>
 static void is_long(Time time)
 {
@@ -214,6 +264,8 @@ int main()
 {
 	nanoseconds_of();
 	times_up();
+	reserved_tags();
+	submitted_tags();
 	no_time();
 	deadlines<steady_clock>();
 	deadlines<system_clock>();

@@ -18,10 +18,11 @@
 
 #include "../tags.h"
 
+#include "checks.h"
+
 enum { MOST = 8 };
 
 static long rounds = 200;
-static uint64_t wrong;
 
 static struct tags_pool pool;
 static struct tags_hand hands[MOST + 1];
@@ -29,23 +30,6 @@ static int events[MOST];
 /* threads that are about to wait, and what they were returned */
 static uint32_t begun;
 static int32_t answers[MOST];
-
-static void check(bool is_well, const char *what)
-{
-	if (is_well)
-		return;
-	__atomic_fetch_add(&wrong, 1, __ATOMIC_RELAXED);
-	fprintf(stderr, "wrong: %s\n", what);
-}
-
-#define CHECK(what) check(what, #what)
-
-static void nap(long us)
-{
-	struct timespec time = { us / 1000000, us % 1000000 * 1000 };
-
-	nanosleep(&time, NULL);
-}
 
 /* What was added to the eventfd since it was read last. */
 static uint64_t told(int event)

@@ -17,7 +17,7 @@ static std::error_code ec;
 static void errors_have_texts()
 {
 	CHECK(std::string(tags::category().name()) == "tags");
-	for (std::int32_t status = TAGS_STOPPED; status < 0; status++) {
+	for (std::int32_t status = TAGS_NO_SUCH_QUEUE; status < 0; status++) {
 		const std::error_code code = static_cast<errc>(status);
 		CHECK(code && code.value() == status && code.category() == tags::category());
 		CHECK(code.message() == tags_strerror(status));
@@ -56,6 +56,9 @@ static void pools_that_do_not_open()
 	options = sized(4, 1);
 	options.cache = 65;
 	CHECK(opened(options) == errc::cache_too_large);
+	options = sized(4, 1);
+	options.queues = 65;
+	CHECK(opened(options) == errc::bad_queue_count);
 	CHECK(opened(tags::options()) == errc::bad_hand_count);
 }
 
@@ -70,6 +73,7 @@ static void empty_objects()
 	tags::batch batch;
 	std::uint64_t bits = 0;
 	const std::uint32_t number = 0;
+	std::uint32_t filled = 0;
 	const auto soon = std::chrono::steady_clock::now() + 1ms;
 
 	REFUSED(errc::bad_handle, pool.join(CODE));
@@ -78,8 +82,10 @@ static void empty_objects()
 	REFUSED(errc::bad_handle, pool.stop(CODE));
 	REFUSED(errc::bad_handle, pool.busy(&bits, 1, CODE));
 	REFUSED(errc::bad_handle, pool.each_busy([](std::uint32_t) { CHECK(false); }, CODE));
+	REFUSED(errc::bad_handle, pool.each_noted([](std::uint32_t, const auto &) { CHECK(false); }, CODE));
 	REFUSED(errc::bad_handle, pool.show(tags::kind::ordinary, CODE));
 	REFUSED(errc::bad_handle, pool.waiting(CODE));
+	REFUSED(errc::bad_handle, pool.queued(0, CODE));
 	REFUSED(errc::bad_handle, pool.close(CODE));
 	REFUSED(errc::bad_handle, hand.leave(CODE));
 	REFUSED(errc::bad_handle, hand.get(CODE));
@@ -88,17 +94,34 @@ static void empty_objects()
 	REFUSED(errc::bad_handle, hand.get_shallow(1, CODE));
 	REFUSED(errc::bad_handle, hand.get_exactly(1, CODE));
 	REFUSED(errc::bad_handle, hand.get_batch(1, CODE));
+	REFUSED(errc::bad_handle, hand.get_many<1>(CODE));
+	REFUSED(errc::bad_handle, hand.get_many(&filled, 1, CODE));
+	REFUSED(errc::bad_handle, hand.get_many(nullptr, 0, CODE));
 	REFUSED(errc::bad_handle, hand.get_blocking(CODE));
 	REFUSED(errc::bad_handle, hand.try_get_for(1ms, CODE));
 	REFUSED(errc::bad_handle, hand.try_get_until(soon, CODE));
 	REFUSED(errc::bad_handle, hand.get_async(0, CODE));
 	REFUSED(errc::bad_handle, hand.cancel(CODE));
 	REFUSED(errc::bad_handle, hand.get_notified(ignore, nullptr, CODE));
+	REFUSED(errc::bad_handle, hand.get_reserved_blocking(CODE));
+	REFUSED(errc::bad_handle, hand.try_get_reserved_for(1ms, CODE));
+	REFUSED(errc::bad_handle, hand.try_get_reserved_until(soon, CODE));
+	REFUSED(errc::bad_handle, hand.get_reserved_async(0, CODE));
+	REFUSED(errc::bad_handle, hand.get_reserved_notified(ignore, nullptr, CODE));
+	REFUSED(errc::bad_handle, hand.next(0, CODE));
+	REFUSED(errc::bad_handle, hand.next_blocking(0, CODE));
+	REFUSED(errc::bad_handle, hand.try_next_for(0, 1ms, CODE));
+	REFUSED(errc::bad_handle, hand.try_next_until(0, soon, CODE));
+	REFUSED(errc::bad_handle, hand.next_async(0, 0, CODE));
+	REFUSED(errc::bad_handle, hand.next_notified(0, ignore, nullptr, CODE));
+	REFUSED(errc::bad_handle, hand.cancel_next(0, CODE));
 	REFUSED(errc::bad_handle, hand.take(0, CODE));
 	REFUSED(errc::bad_handle, hand.take_batch({0, 1}, CODE));
 	REFUSED(errc::bad_handle, batch.read(0, CODE));
 	REFUSED(errc::bad_handle, batch.write(0, 1, CODE));
+	REFUSED(errc::bad_handle, batch.note(0, 1, CODE));
 	REFUSED(errc::bad_handle, batch.post(CODE));
+	REFUSED(errc::bad_handle, batch.submit(CODE));
 	REFUSED(errc::bad_handle, hand.adopt(0, CODE));
 	REFUSED(errc::bad_handle, hand.clear_batch(&number, 1, CODE));
 	REFUSED(errc::bad_handle, hand.holds(0, CODE));
@@ -108,8 +131,10 @@ static void empty_objects()
 	REFUSED(errc::bad_handle, hand.waiting(CODE));
 	REFUSED(errc::bad_handle, tag.read(CODE));
 	REFUSED(errc::bad_handle, tag.write(1, CODE));
+	REFUSED(errc::bad_handle, tag.note(1, CODE));
 	REFUSED(errc::bad_handle, tag.read_clear(CODE));
 	REFUSED(errc::bad_handle, tag.post(CODE));
+	REFUSED(errc::bad_handle, tag.submit(CODE));
 	CHECK(!tags::batch().pop() && tags::batch().size() == 0);
 }
 
@@ -148,9 +173,17 @@ static void gets()
 	tags::pool pool(options, ec);
 	tags::hand hand = pool.join(ec);
 	REFUSED(errc::no_reserved, hand.get_reserved(CODE));
+	REFUSED(errc::no_reserved, hand.get_reserved_blocking(CODE));
+	REFUSED(errc::no_reserved, hand.try_get_reserved_for(1h, CODE));
+	REFUSED(errc::no_reserved, hand.get_reserved_async(0, CODE));
 	REFUSED(errc::too_shallow, hand.get_shallow(0, CODE));
 	REFUSED(errc::too_shallow, hand.get_shallow(2, CODE));
 	REFUSED(errc::bad_count, hand.get_batch(0, CODE));
+	REFUSED(errc::bad_count, hand.get_many<13>(CODE));
+	std::uint32_t number = 77;
+	REFUSED(errc::bad_count, hand.get_many(&number, 13, CODE));
+	REFUSED(errc::bad_count, hand.get_many(nullptr, 1, CODE));
+	CHECK(number == 77);
 	REFUSED(errc::no_such_tag, hand.get_exactly(12, CODE));
 	CHECK(hand.show(tags::kind::ordinary, ec).busy == 0);
 	tags::pool reserved(sized(2, 1, 2), ec);
@@ -232,6 +265,9 @@ static void batches_that_pass()
 	CHECK(batch.size() == 2 && batch.has(2) && batch.has(3));
 	REFUSED(errc::no_such_tag, batch.read(4, CODE));
 	REFUSED(errc::no_such_tag, batch.write(1, 7, CODE));
+	REFUSED(errc::no_such_tag, batch.note(1, 7, CODE));
+	REFUSED(errc::no_notes, batch.note(2, 7, CODE));
+	REFUSED(errc::no_notes, pool.each_noted([](std::uint32_t, const auto &) { CHECK(false); }, CODE));
 	REFUSED(errc::not_posted, other.take_batch({2, 3}, CODE));
 	tags::batch moved = std::move(batch);
 	REFUSED(errc::bad_handle, batch.post(CODE));
@@ -281,6 +317,37 @@ static void waits()
 	CHECK(!other.get(ec) && !ec);
 }
 
+// A hand waits for a tag of one set at a time, but gets those that are free.
+static void waits_for_one_set()
+{
+	tags::pool pool(sized(2, 2, 1), ec);
+	tags::hand one = pool.join(ec);
+	tags::hand other = pool.join(ec);
+	const tags::tag reserved = one.get_reserved_blocking(ec);
+	tags::tag tag = one.get_blocking(ec);
+	CHECK(!ec && reserved.number() == 0 && tag.number() == 1);
+	REFUSED(errc::bad_event, other.get_reserved_async(-1, CODE));
+	REFUSED(errc::bad_handle, other.get_reserved_notified(nullptr, nullptr, CODE));
+	CHECK(!other.get_reserved_notified(ignore, nullptr, ec) && !ec);
+	REFUSED(errc::waiting, other.get_async(0, CODE));
+	REFUSED(errc::waiting, other.get_notified(ignore, nullptr, CODE));
+	REFUSED(errc::waiting, other.get_blocking(CODE));
+	REFUSED(errc::waiting, other.get_reserved_blocking(CODE));
+	REFUSED(errc::waiting, other.try_get_reserved_for(1h, CODE));
+	tag.clear();
+	tag = *other.get_notified(ignore, nullptr, ec);
+	CHECK(!ec && pool.waiting(ec) == 1);
+	other.cancel(ec);
+	CHECK(!ec && !other.get_async(0, ec) && !ec);
+	REFUSED(errc::waiting, other.get_reserved_async(0, CODE));
+	other.cancel(ec);
+	CHECK(!ec);
+	pool.stop(ec);
+	REFUSED(errc::stopped, other.get_reserved_blocking(CODE));
+	REFUSED(errc::stopped, other.try_get_reserved_until(std::chrono::system_clock::now(), CODE));
+	REFUSED(errc::stopped, other.get_reserved_async(0, CODE));
+}
+
 static void a_stop_ends_waits()
 {
 	tags::pool pool(sized(1, 3), ec);
@@ -306,6 +373,7 @@ int main()
 	batches_of_numbers();
 	batches_that_pass();
 	waits();
+	waits_for_one_set();
 	a_stop_ends_waits();
 	return report();
 }

@@ -20,6 +20,8 @@
 
 #include "../tags.h"
 
+#include "checks.h"
+
 enum { HANDS = 4, THREADS = 4 };
 
 struct thread {
@@ -28,17 +30,6 @@ struct thread {
 };
 
 static long rounds = 2000;
-static uint64_t wrong;
-
-static void check(bool is_well, const char *what)
-{
-	if (is_well)
-		return;
-	__atomic_fetch_add(&wrong, 1, __ATOMIC_RELAXED);
-	fprintf(stderr, "wrong: %s\n", what);
-}
-
-#define CHECK(what) check(what, #what)
 
 /* What was added to the eventfd since it was read last. */
 static uint64_t told(int event)

@@ -3,6 +3,7 @@
 
 #include <atomic>
 #include <chrono>
+#include <map>
 #include <poll.h>
 #include <sys/eventfd.h>
 #include <thread>
@@ -75,6 +76,20 @@ static void a_limit()
 	CHECK(is_late);
 }
 
+static void a_reserved_tag()
+{
+	tags::options options;
+	options.total = 2;
+	options.reserved = 1;
+	options.hands = 2;
+	tags::pool pool(options);
+	tags::hand hand = pool.join();
+	std::optional<tags::tag> reserved = hand.try_get_reserved_for(5ms);
+	CHECK(reserved && reserved->number() == 0);
+	tags::hand other = pool.join();
+	CHECK(!other.try_get_reserved_for(5ms));
+}
+
 static void in_flight()
 {
 	tags::pool pool = opened(16, 1);
@@ -111,6 +126,17 @@ static void several_at_once()
 	CHECK(most && most->size() == pool.batch_limit());
 }
 
+static void all_or_none()
+{
+	tags::pool pool = opened(64, 1);
+	tags::hand hand = pool.join();
+	std::uint32_t sum = 0;
+	if (std::optional<std::array<tags::tag, 3>> parts = hand.get_many<3>())
+		for (const tags::tag &part : *parts)
+			sum += part.number();
+	CHECK(sum == 3 && hand.show(tags::kind::ordinary).busy == 0);
+}
+
 static void passed_together()
 {
 	tags::pool pool = opened(64, 2);
@@ -126,6 +152,48 @@ static void passed_together()
 	for (const std::uint32_t number : taken)
 		sum += taken.read(number);
 	CHECK(sum == 828 && !batch && completer.holds(7));
+}
+
+static void submit_all(tags::hand &hand, std::uint64_t &count, tags::values<std::uint64_t> &sectors)
+{
+	for (std::uint64_t sector = 8; sector < 800; sector += 8) {
+		tags::tag tag = hand.get_blocking();
+		sectors[tag] = sector;
+		tag.submit();
+		count++;
+	}
+}
+
+// Until the pool is stopped and all that was submitted is carried out.
+static std::uint64_t carry_out_all(tags::hand &hand, const tags::values<std::uint64_t> &sectors)
+{
+	std::uint64_t count = 0, last = 0;
+	std::error_code ec;
+	while (tags::tag tag = hand.next_blocking(0, ec)) {
+		CHECK(sectors[tag] > last);
+		last = sectors[tag];
+		count++;
+	} // here the tag goes back
+	CHECK(ec == tags::errc::stopped);
+	return count;
+}
+
+static void submitted()
+{
+	tags::options options{16, 2};
+	options.queues = 1;
+	tags::pool pool(options);
+	tags::values<std::uint64_t> sectors(pool);
+	std::uint64_t made = 0, carried = 0;
+	tags::hand hand = pool.join();
+	std::thread carrier([&] {
+		tags::hand own = pool.join();
+		carried = carry_out_all(own, sectors);
+	});
+	submit_all(hand, made, sectors);
+	pool.stop();
+	carrier.join();
+	CHECK(made == 99 && carried == made && pool.queued(0) == 0);
 }
 
 static int event_loop()
@@ -204,6 +272,24 @@ static void watched()
 	CHECK(late == std::vector<std::uint32_t>{early.number()} && idle.number() == 2);
 }
 
+static void noted()
+{
+	using clock = std::chrono::steady_clock;
+	tags::options options{4, 1};
+	options.notes = true;
+	tags::pool pool(options);
+	tags::hand hand = pool.join_in_place();
+	const std::uint64_t sector = 2048;
+	tags::tag tag = hand.get_blocking();
+	tag.note(sector);
+	std::map<std::uint64_t, clock::duration> ages;
+	pool.each_noted([&](std::uint32_t, const std::optional<tags::noted> &note) {
+		if (note)
+			ages[note->value] = clock::now() - note->since;
+	});
+	CHECK(ages.size() == 1 && ages.count(sector) == 1 && ages[sector] >= clock::duration::zero());
+}
+
 // What a function throws passes through.
 static void interrupted()
 {
@@ -234,14 +320,18 @@ int main()
 	CHECK(serve(pool));
 	a_misuse();
 	a_limit();
+	a_reserved_tag();
 	many_threads();
 	in_flight();
 	several_at_once();
+	all_or_none();
 	passed_together();
+	submitted();
 	CHECK(event_loop() == 0);
 	resized();
 	cached();
 	watched();
+	noted();
 	interrupted();
 	return report();
 }

@@ -183,6 +183,8 @@ static struct tags_options any_options(void)
 		options.cache = seldom(30) ? odd_number() : below(seldom(2) ? 4 : TAGS_MAX_CACHE + 1);
 	if (seldom(3))
 		options.flags |= TAGS_KEEP_WHILE_HOLDING;
+	if (seldom(2))
+		options.flags |= TAGS_NOTES;
 	if (seldom(30))
 		options.hands = odd_number();
 	if (seldom(60))
@@ -239,21 +241,11 @@ static uint32_t count_in(uint64_t mask)
  * Pools and hands
  */
 
-/* A flush of the model, which tells those who wait. */
-static int32_t flush(struct model *hand)
-{
-	uint32_t kept = 0;
-
-	if (is_hand(hand))
-		kept = (uint32_t)__builtin_popcountll(member_of(hand)->kept);
-	return model_gave(hand, model_flush(hand), kept);
-}
-
 static void leave(uint32_t at)
 {
 	if (is_hand(&models[at])) {
 		model_cancel(&models[at]);
-		flush(&models[at]);
+		model_flush_and_tell(&models[at]);
 	}
 	compare("leave", tags_leave(&handles[at].hand), model_leave(&models[at]));
 }
@@ -320,7 +312,7 @@ static void try_get_reserved(void)
 	uint32_t at = hand_handle();
 
 	compare("get_reserved", tags_get_reserved(&handles[at].hand),
-		model_get_reserved(&models[at]));
+		model_swept_reserved(&models[at], model_get_reserved(&models[at])));
 }
 
 static void try_get_shallow(void)
@@ -338,7 +330,7 @@ static void try_get_exactly(void)
 	uint32_t tag = seldom(2) ? any_tag(at) : below(total_behind(at) + 2);
 
 	compare("get_exactly", tags_get_exactly(&handles[at].hand, tag),
-		model_swept(&models[at], model_get_exactly(&models[at], tag)));
+		model_swept_for(&models[at], model_get_exactly(&models[at], tag), tag));
 }
 
 static void try_get_batch(void)
@@ -354,13 +346,29 @@ static void try_get_batch(void)
 	compare_filled("get_batch", &found, &wanted, sizeof(found));
 }
 
+static void try_get_many(void)
+{
+	static uint32_t found[TAGS_MAX_TOTAL];
+	static uint32_t wanted[TAGS_MAX_TOTAL];
+	uint32_t at = hand_handle();
+	/* more than all ordinary tags are refused before anything is filled in */
+	size_t n = seldom(20) ? odd_number() : below(12);
+	uint32_t left;
+	int32_t status = model_get_many(&models[at], wanted, n, &left);
+
+	compare("get_many", tags_get_many(&handles[at].hand, found, n),
+		model_left_free(&models[at], status, left));
+	if (status == TAGS_OK)
+		compare_filled("get_many", found, wanted, n * sizeof(*found));
+}
+
 static void try_clear(void)
 {
 	uint32_t at = hand_handle();
 	uint32_t tag = any_tag(at);
 
 	compare("clear", tags_clear(&handles[at].hand, tag),
-		model_gave(&models[at], model_clear(&models[at], tag), 1));
+		model_cleared(&models[at], model_clear(&models[at], tag), tag));
 }
 
 static void try_flush(void)
@@ -368,7 +376,7 @@ static void try_flush(void)
 	uint32_t at = hand_handle();
 
 	if (seldom(3))
-		compare("flush", tags_flush(&handles[at].hand), flush(&models[at]));
+		compare("flush", tags_flush(&handles[at].hand), model_flush_and_tell(&models[at]));
 }
 
 static void try_read_clear(void)
@@ -379,7 +387,7 @@ static void try_read_clear(void)
 	uint64_t wanted = 5;
 
 	compare("read_clear", tags_read_clear(&handles[at].hand, tag, &found),
-		model_gave(&models[at], model_read_clear(&models[at], tag, &wanted), 1));
+		model_cleared(&models[at], model_read_clear(&models[at], tag, &wanted), tag));
 	compare_filled("read_clear", &found, &wanted, sizeof(found));
 }
 
@@ -473,6 +481,15 @@ static void try_write(void)
 	compare_filled("write", &found, &wanted, sizeof(found));
 }
 
+static void try_note(void)
+{
+	uint32_t at = hand_handle();
+	uint32_t tag = any_tag(at);
+	uint64_t value = (uint64_t)draw() << 32 | draw();
+
+	compare("note", tags_note(&handles[at].hand, tag, value), model_note(&models[at], tag, value));
+}
+
 static void try_post(void)
 {
 	uint32_t at = hand_handle();
@@ -538,13 +555,21 @@ static void try_holds(void)
  * Waits and reports
  */
 
+/* Which set a wait is for. */
+static enum tags_kind any_kind(void)
+{
+	return seldom(3) ? TAGS_RESERVED : TAGS_ORDINARY;
+}
+
 static void try_get_timed(void)
 {
 	static const int clocks[] = { CLOCK_MONOTONIC, CLOCK_REALTIME };
 	uint32_t at = hand_handle();
 	struct timespec end = { 0, (long)below(1000000000) };
 	int clock = clocks[below(2)];
+	const enum tags_kind kind = any_kind();
 	bool is_sound = true;
+	int32_t tag;
 
 	if (seldom(12)) {
 		is_sound = false;
@@ -553,19 +578,21 @@ static void try_get_timed(void)
 		else
 			end.tv_nsec = seldom(2) ? -1 : 1000000000;
 	}
-	compare("get_timed", tags_get_timed(&handles[at].hand, clock, &end),
-		is_sound ? model_wait(&models[at], true) : (int32_t)TAGS_BAD_TIME);
+	tag = kind == TAGS_RESERVED ? tags_get_reserved_timed(&handles[at].hand, clock, &end) :
+				      tags_get_timed(&handles[at].hand, clock, &end);
+	compare("get_timed", tag,
+		is_sound ? model_wait(&models[at], kind, true) : (int32_t)TAGS_BAD_TIME);
 }
 
-/* Whether a thread that waits for a tag might sleep, here for ever. A get by round robin may miss a free tag. */
-static bool might_sleep(uint32_t at)
+/* Whether a thread that waits for a tag of a set might sleep, here for ever. A get by round robin may miss a free tag. */
+static bool might_sleep(uint32_t at, enum tags_kind kind)
 {
 	const struct set *set;
 
 	if (!is_hand(&models[at]) || member_of(&models[at])->bell != IDLE ||
 	    models[at].pool->is_stopped)
 		return false;
-	set = &models[at].pool->set[TAGS_ORDINARY];
+	set = &models[at].pool->set[kind];
 	for (uint32_t tag = 0; tag < set->depth; tag++)
 		if (!set->round_robin && (set->place[tag] == FREE || set->place[tag] == ASIDE))
 			return false;
@@ -575,30 +602,48 @@ static bool might_sleep(uint32_t at)
 static void try_get_blocking(void)
 {
 	uint32_t at = hand_handle();
+	const enum tags_kind kind = any_kind();
 
-	if (!might_sleep(at))
+	if (might_sleep(at, kind))
+		return;
+	if (kind == TAGS_RESERVED)
+		compare("get_reserved_blocking", tags_get_reserved_blocking(&handles[at].hand),
+			model_wait(&models[at], kind, false));
+	else
 		compare("get_blocking", tags_get_blocking(&handles[at].hand),
-			model_wait(&models[at], false));
+			model_wait(&models[at], kind, false));
 }
 
 static void try_get_async(void)
 {
 	uint32_t at = hand_handle();
 	int32_t event = seldom(20) ? -1 - (int32_t)below(3) : (int32_t)below(EVENTS);
+	const int descriptor = event < 0 ? event : events[pool_of(at)][event];
+	const enum tags_kind kind = any_kind();
 
-	compare("get_async",
-		tags_get_async(&handles[at].hand, event < 0 ? event : events[pool_of(at)][event]),
-		model_get_async(&models[at], event));
+	if (kind == TAGS_RESERVED)
+		compare("get_reserved_async", tags_get_reserved_async(&handles[at].hand, descriptor),
+			model_get_async(&models[at], kind, event));
+	else
+		compare("get_async", tags_get_async(&handles[at].hand, descriptor),
+			model_get_async(&models[at], kind, event));
 }
 
 static void try_get_notified(void)
 {
 	uint32_t at = hand_handle();
 	uint32_t i = below(ARGUMENTS);
+	uint64_t *argument = &told[pool_of(at)][i];
+	const int32_t event = EVENTS + (int32_t)i;
+	const enum tags_kind kind = any_kind();
 
-	compare("get_notified",
-		tags_get_notified(&handles[at].hand, note_call, &told[pool_of(at)][i]),
-		model_get_async(&models[at], EVENTS + (int32_t)i));
+	if (kind == TAGS_RESERVED)
+		compare("get_reserved_notified",
+			tags_get_reserved_notified(&handles[at].hand, note_call, argument),
+			model_get_async(&models[at], kind, event));
+	else
+		compare("get_notified", tags_get_notified(&handles[at].hand, note_call, argument),
+			model_get_async(&models[at], kind, event));
 }
 
 static void try_cancel(void)
@@ -692,6 +737,74 @@ static void try_each_busy(uint32_t at)
 	compare_filled("pool_each_busy", passed.bits, wanted, sizeof(wanted));
 }
 
+/* The notes that are passed. */
+struct noted {
+	struct passed passed;
+	uint64_t has_note[WORDS];
+	uint64_t note[TAGS_MAX_TOTAL];
+};
+
+static uint64_t now(void)
+{
+	struct timespec time;
+
+	clock_gettime(CLOCK_MONOTONIC, &time);
+	return (uint64_t)time.tv_sec * 1000000000 + (uint64_t)time.tv_nsec;
+}
+
+static int take_note(uint32_t tag, const struct tags_noted *note, void *noted)
+{
+	struct noted *into = noted;
+
+	if (note && note->since > now())
+		fail("pool_each_noted", "the time is", (int64_t)note->since, (int64_t)now());
+	if (note) {
+		into->has_note[tag / 64] |= UINT64_C(1) << tag % 64;
+		into->note[tag] = note->value;
+	}
+	return note_tag(tag, &into->passed);
+}
+
+/* What the model has of each tag that is passed. */
+static void take_notes_of(const struct model *pool, struct noted *noted)
+{
+	for (uint32_t tag = 0; tag < TAGS_MAX_TOTAL; tag++) {
+		const struct set *set;
+
+		if (!(noted->passed.bits[tag / 64] >> tag % 64 & 1))
+			continue;
+		set = set_of(pool, tag);
+		if (set->has_note[tag - set->first]) {
+			noted->has_note[tag / 64] |= UINT64_C(1) << tag % 64;
+			noted->note[tag] = set->note[tag - set->first];
+		}
+	}
+}
+
+static void try_each_noted(uint32_t at)
+{
+	static struct noted found, wanted;
+	const int32_t most = seldom(2) ? 1 + (int32_t)below(8) : INT32_MAX;
+	int32_t busy;
+
+	memset(&found, 0, sizeof(found));
+	memset(&wanted, 0, sizeof(wanted));
+	found.passed.left = most;
+	busy = model_pool_busy(&models[at], wanted.passed.bits, WORDS);
+	if (busy >= 0 && !models[at].pool->has_notes)
+		busy = TAGS_NO_NOTES;
+	if (busy < 0)
+		memset(&wanted, 0, sizeof(wanted));
+	keep_lowest(wanted.passed.bits, most);
+	if (busy >= 0)
+		take_notes_of(&models[at], &wanted);
+	compare("pool_each_noted", tags_pool_each_noted(&handles[at].pool, take_note, &found),
+		busy < most ? busy : most);
+	compare_filled("pool_each_noted", found.passed.bits, wanted.passed.bits, sizeof(found.passed.bits));
+	compare_filled("pool_each_noted", found.has_note, wanted.has_note, sizeof(found.has_note));
+	compare_filled("pool_each_noted", found.note, wanted.note, sizeof(found.note));
+}
+
 static void try_pool_busy(void)
 {
 	uint64_t found[WORDS];
@@ -705,6 +818,7 @@ static void try_pool_busy(void)
 		model_pool_busy(&models[at], wanted, words));
 	compare_filled("pool_busy", found, wanted, sizeof(found));
 	try_each_busy(at);
+	try_each_noted(at);
 }
 
 static void try_pool_show(void)
@@ -743,7 +857,7 @@ static void empty_hand(uint32_t at)
 				model_take(&models[at], tag));
 		if (model_holds(&models[at], tag) == 1)
 			compare("clear", tags_clear(&handles[at].hand, tag),
-				model_gave(&models[at], model_clear(&models[at], tag), 1));
+				model_cleared(&models[at], model_clear(&models[at], tag), tag));
 	}
 }
 
@@ -783,21 +897,21 @@ static const struct {
 	{ try_open, 2 }, { try_join, 2 }, { try_leave, 1 },
 	{ try_close, 1 }, { try_get, 4 }, { try_get_reserved, 1 },
 	{ try_get_shallow, 1 }, { try_get_batch, 1 }, { try_clear, 5 },
-	{ try_get_exactly, 1 },
+	{ try_get_exactly, 1 }, { try_get_many, 1 },
 	{ try_clear_batch, 1 }, { try_read, 1 }, { try_write, 1 },
 	{ try_post, 1 }, { try_take, 3 }, { try_holds, 1 },
-	{ try_get_notified, 2 }, { try_busy, 1 }, { try_show, 1 },
+	{ try_get_notified, 3 }, { try_busy, 1 }, { try_show, 1 },
 	{ try_waiting, 1 }, { try_resize, 1 }, { try_read_clear, 1 },
-	{ try_get_write, 1 }, { try_stop, 1 }, { try_get_timed, 1 },
-	{ try_get_blocking, 1 }, { try_get_async, 4 }, { try_cancel, 1 },
+	{ try_get_write, 1 }, { try_stop, 1 }, { try_get_timed, 2 },
+	{ try_get_blocking, 2 }, { try_get_async, 6 }, { try_cancel, 1 },
 	{ try_events, 1 }, { try_clear_mask, 1 }, { try_flush, 1 },
 	{ try_pool_busy, 1 }, { try_pool_show, 1 }, { try_pool_waiting, 1 },
-	{ try_post_mask, 1 }, { try_take_mask, 1 },
+	{ try_post_mask, 1 }, { try_take_mask, 1 }, { try_note, 3 },
 };
 
 static void try_any(void)
 {
-	uint32_t turn = below(50);
+	uint32_t turn = below(60);
 	size_t at = 0;
 
 	while (turn >= tries[at].turns)

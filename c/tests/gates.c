@@ -15,44 +15,16 @@
 
 #include <tags.h>
 
+#include "checks.h"
+
 enum { HANDS = 3, THREADS = 12, TOTAL = 8 };
 
 static long rounds = 500;
-static uint64_t wrong;
 static struct tags_pool pool;
 static int inside;
 /* for whoever holds the tag, and for whoever drained the pool */
 static long used[TOTAL + 2];
 static long taken;
-
-static void check(bool is_well, const char *what)
-{
-	if (is_well)
-		return;
-	__atomic_fetch_add(&wrong, 1, __ATOMIC_RELAXED);
-	fprintf(stderr, "wrong: %s\n", what);
-}
-
-#define CHECK(what) check(what, #what)
-
-static void nap(long us)
-{
-	struct timespec time = { us / 1000000, us % 1000000 * 1000 };
-
-	nanosleep(&time, NULL);
-}
-
-static struct timespec from_now(clockid_t clock, long ms)
-{
-	struct timespec time;
-
-	clock_gettime(clock, &time);
-	time.tv_sec += ms / 1000;
-	time.tv_nsec += ms % 1000 * 1000000;
-	time.tv_sec += time.tv_nsec / 1000000000;
-	time.tv_nsec %= 1000000000;
-	return time;
-}
 
 static void open_pool(uint32_t hands, uint32_t cache)
 {
@@ -87,7 +59,7 @@ static void *come_and_go(void *unused)
 {
 	for (long i = 0; i < rounds; i++) {
 		struct tags_hand hand = TAGS_EMPTY;
-		const struct timespec late = from_now(CLOCK_MONOTONIC, 60000);
+		const struct timespec late = after(CLOCK_MONOTONIC, 60000);
 
 		if (i % 2)
 			CHECK(tags_join_blocking(&pool, &hand, 0) == TAGS_OK);
@@ -136,7 +108,7 @@ static void limits_of_joins(void)
 	end.tv_sec = -1;
 	CHECK(tags_join_timed(&pool, &other, 0, CLOCK_REALTIME, &end) == TAGS_TIMED_OUT);
 	CHECK(tags_join_timed(&pool, &other, 0, CLOCK_MONOTONIC, &end) == TAGS_TIMED_OUT);
-	end = from_now(CLOCK_MONOTONIC, 20);
+	end = after(CLOCK_MONOTONIC, 20);
 	errno = 77;
 	CHECK(tags_join_timed(&pool, &other, 0, CLOCK_MONOTONIC, &end) == TAGS_TIMED_OUT);
 	CHECK(errno == 77);
@@ -195,7 +167,7 @@ static void *get_once(void *answer)
 
 static void *get_in_time(void *answer)
 {
-	const struct timespec late = from_now(CLOCK_MONOTONIC, 60000);
+	const struct timespec late = after(CLOCK_MONOTONIC, 60000);
 	struct tags_hand hand = TAGS_EMPTY;
 
 	CHECK(tags_join(&pool, &hand, 0) == TAGS_OK);
@@ -349,7 +321,7 @@ static long count_uses(void)
 
 static void drain_beside_clears(uint32_t cache)
 {
-	const struct timespec late = from_now(CLOCK_REALTIME, 300000);
+	const struct timespec late = after(CLOCK_REALTIME, 300000);
 	pthread_t ids[HANDS];
 	int held = 0;
 
@@ -397,7 +369,7 @@ static void limits_of_drains(void)
 	end.tv_sec = -1;
 	CHECK(tags_drain_timed(&pool, CLOCK_REALTIME, &end) == TAGS_TIMED_OUT);
 	CHECK(tags_drain_timed(&pool, CLOCK_MONOTONIC, &end) == TAGS_TIMED_OUT);
-	end = from_now(CLOCK_MONOTONIC, 20);
+	end = after(CLOCK_MONOTONIC, 20);
 	CHECK(tags_drain_timed(&pool, CLOCK_MONOTONIC, &end) == TAGS_TIMED_OUT);
 	CHECK(tags_drain_timed(&pool, 99, &end) == TAGS_BAD_TIME);
 	CHECK(tags_drain_timed(&pool, CLOCK_MONOTONIC, NULL) == TAGS_NULL);
@@ -498,7 +470,7 @@ static void limits_of_lists(void)
 	for (int i = 0; i < 3; i++)
 		CHECK(tags_drain_list_timed(&pool, &tags[i], 1, CLOCK_MONOTONIC, &end) == TAGS_TIMED_OUT);
 	CHECK(tags_drain_list(&pool, &other, 1) == TAGS_OK);
-	end = from_now(CLOCK_REALTIME, 20);
+	end = after(CLOCK_REALTIME, 20);
 	errno = 77;
 	CHECK(tags_drain_list_timed(&pool, tags, 3, CLOCK_REALTIME, &end) == TAGS_TIMED_OUT);
 	CHECK(errno == 77 && tags_pool_waiting(&pool) == 0);
@@ -622,7 +594,7 @@ static void *make_requests(void *unused)
 /* Waits for the requests that are there now. None of them is when the wait has ended. */
 static void await_requests(bool has_limit)
 {
-	const struct timespec late = from_now(CLOCK_MONOTONIC, 300000);
+	const struct timespec late = after(CLOCK_MONOTONIC, 300000);
 	uint64_t awaited[TOTAL];
 	struct wait wait = { .count = 0 };
 

@@ -13,10 +13,18 @@
 
 #include <tags.h>
 
+#include "checks.h"
+
 enum wait {
 	GET,
 	GET_TIMED,
 	GET_IN_REAL_TIME,
+	RESERVED,
+	RESERVED_TIMED,
+	RESERVED_IN_REAL_TIME,
+	NEXT,
+	NEXT_TIMED,
+	NEXT_IN_REAL_TIME,
 	JOIN,
 	JOIN_TIMED,
 	JOIN_IN_REAL_TIME,
@@ -29,7 +37,6 @@ enum wait {
 	WAITS
 };
 
-static uint64_t wrong;
 static struct tags_pool pool;
 /* one holds the only tag; the other one waits, or leaves so that there is one to wait for */
 static struct tags_hand holder, waiter, late;
@@ -38,32 +45,22 @@ static int32_t tag, answer;
 static char ran[8];
 static int handled;
 
-static void check(bool is_well, const char *what)
+/* The first of the waits that are for the same. */
+static enum wait kind_of(enum wait how)
 {
-	if (is_well)
-		return;
-	wrong++;
-	fprintf(stderr, "wrong: %s\n", what);
+	return how / 3 * 3;
 }
 
-#define CHECK(what) check(what, #what)
-
-static void nap(long ms)
+static void set_up(enum wait how)
 {
-	struct timespec time = { ms / 1000, ms % 1000 * 1000000 };
-
-	nanosleep(&time, NULL);
-}
-
-static void set_up(void)
-{
-	const struct tags_options options = { .total = 1, .hands = 2 };
+	const bool is_reserved = kind_of(how) == RESERVED;
+	const struct tags_options options = { .total = 1, .reserved = is_reserved, .hands = 2, .queues = 1 };
 
 	answer = INT32_MIN;
 	memset(ran, 0, sizeof(ran));
 	CHECK(tags_open(&pool, &options) == TAGS_OK);
 	CHECK(tags_join(&pool, &holder, 0) == TAGS_OK && tags_join(&pool, &waiter, 0) == TAGS_OK);
-	tag = TAGS_MUST(tags_get(&holder));
+	tag = TAGS_MUST(is_reserved ? tags_get_reserved(&holder) : tags_get(&holder));
 }
 
 static void tear_down(void)
@@ -89,9 +86,14 @@ static int32_t wait_in(enum wait how)
 
 	clock_gettime(clock, &end);
 	end.tv_sec += 600;
-	switch (how / 3 * 3) {
+	switch (kind_of(how)) {
 	case GET:
 		return how == GET ? tags_get_blocking(&waiter) : tags_get_timed(&waiter, clock, &end);
+	case RESERVED:
+		return how == RESERVED ? tags_get_reserved_blocking(&waiter) :
+					 tags_get_reserved_timed(&waiter, clock, &end);
+	case NEXT:
+		return how == NEXT ? tags_next_blocking(&waiter, 0) : tags_next_timed(&waiter, 0, clock, &end);
 	case JOIN:
 		return how == JOIN ? tags_join_blocking(&pool, &late, 0) :
 				     tags_join_timed(&pool, &late, 0, clock, &end);
@@ -133,17 +135,19 @@ static pthread_t start(enum wait *how)
 	pthread_t id;
 
 	CHECK(pthread_create(&id, NULL, run, how) == 0);
-	while (*how / 3 * 3 != JOIN && tags_pool_waiting(&pool) != 1)
-		nap(1);
-	nap(10);
+	while (kind_of(*how) != JOIN && tags_pool_waiting(&pool) != 1)
+		nap(1000);
+	nap(10000);
 	return id;
 }
 
 /* What the thread waits for is there from now on. */
 static void give(enum wait how)
 {
-	if (how / 3 * 3 == JOIN)
+	if (kind_of(how) == JOIN)
 		CHECK(tags_leave(&waiter) == TAGS_OK);
+	else if (kind_of(how) == NEXT)
+		CHECK(tags_submit(&holder, (uint32_t)tag) == TAGS_OK);
 	else
 		CHECK(tags_clear(&holder, (uint32_t)tag) == TAGS_OK);
 }
@@ -151,11 +155,11 @@ static void give(enum wait how)
 /* Takes back what a wait ended with. */
 static void take_back(enum wait how)
 {
-	if (how / 3 * 3 == GET)
+	if (kind_of(how) == GET || kind_of(how) == RESERVED || kind_of(how) == NEXT)
 		CHECK(answer == tag && tags_clear(&waiter, (uint32_t)tag) == TAGS_OK);
 	else
 		CHECK(answer == TAGS_OK);
-	if (how / 3 * 3 == JOIN) {
+	if (kind_of(how) == JOIN) {
 		CHECK(tags_leave(&late) == TAGS_OK);
 		CHECK(tags_clear(&holder, (uint32_t)tag) == TAGS_OK);
 	}
@@ -170,7 +174,7 @@ static void cancel(enum wait how)
 	pthread_t id;
 	void *result;
 
-	set_up();
+	set_up(how);
 	id = start(&how);
 	CHECK(pthread_cancel(id) == 0 && pthread_join(id, &result) == 0);
 	CHECK(result == PTHREAD_CANCELED && answer == INT32_MIN && strcmp(ran, "ba") == 0);
@@ -195,7 +199,7 @@ static void cancel_before(enum wait how)
 	pthread_t id;
 	void *result;
 
-	set_up();
+	set_up(how);
 	CHECK(pthread_create(&id, NULL, wait_cancelled, &how) == 0 && pthread_join(id, &result) == 0);
 	CHECK(result == PTHREAD_CANCELED && strcmp(ran, "ba") == 0);
 	CHECK(tags_clear(&holder, (uint32_t)tag) == TAGS_OK);
@@ -221,15 +225,15 @@ static void interrupt(enum wait how, int flags)
 	action.sa_handler = handle;
 	action.sa_flags = flags;
 	CHECK(sigaction(SIGUSR1, &action, NULL) == 0);
-	set_up();
+	set_up(how);
 	__atomic_store_n(&handled, 0, __ATOMIC_SEQ_CST);
 	id = start(&how);
 	for (int i = 1; i <= 3; i++) {
 		CHECK(pthread_kill(id, SIGUSR1) == 0);
 		while (__atomic_load_n(&handled, __ATOMIC_SEQ_CST) < i)
-			nap(1);
+			nap(1000);
 	}
-	nap(5);
+	nap(5000);
 	CHECK(answer == INT32_MIN);
 	give(how);
 	CHECK(pthread_join(id, NULL) == 0);

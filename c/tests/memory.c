@@ -70,12 +70,14 @@ static void check(const char *what, int is_well)
 }
 
 /* Opens a pool while the allocation with this number is refused. */
-static int32_t open_refused(struct tags_pool *pool, long number)
+static int32_t open_refused(struct tags_pool *pool, uint32_t queues, long number)
 {
 	struct tags_options options = {
 		.total = 100,
 		.reserved = 10,
 		.hands = 3,
+		.flags = TAGS_NOTES,
+		.queues = queues,
 	};
 	int32_t status;
 
@@ -108,6 +110,41 @@ static void fill(struct tags_pool *pool)
 		check("a hand was lost", tags_join(pool, &hands[i], 0) == TAGS_OK);
 	for (int i = 0; i < 3; i++)
 		check("a hand cannot leave", tags_leave(&hands[i]) == TAGS_OK);
+}
+
+/* A hand has notes of each of its tags, also after the pool has grown. */
+static void note_all(struct tags_pool *pool)
+{
+	struct tags_hand hand = TAGS_EMPTY;
+	int32_t tag;
+
+	check("no hand can note", tags_join(pool, &hand, 0) == TAGS_OK);
+	while ((tag = tags_get(&hand)) >= 0)
+		check("a note is refused", tags_note(&hand, (uint32_t)tag, 7) == TAGS_OK);
+	for (uint32_t other = 0; other < 300; other++)
+		if (tags_holds(&hand, other) == 1)
+			check("a noted tag is lost", tags_clear(&hand, other) == TAGS_OK);
+	check("the one who noted stays", tags_leave(&hand) == TAGS_OK);
+}
+
+/* Each tag goes through each queue, also after the pool has grown. */
+static void submit_all(struct tags_pool *pool)
+{
+	struct tags_hand hand = TAGS_EMPTY;
+	long before;
+	int32_t tag;
+
+	check("no hand can submit", tags_join(pool, &hand, 0) == TAGS_OK);
+	before = kept;
+	for (uint32_t queue = 0; queue < 2; queue++) {
+		while ((tag = tags_get(&hand)) >= 0)
+			check("a submit is refused", tags_submit_to(&hand, (uint32_t)tag, queue) == TAGS_OK);
+		while ((tag = tags_next(&hand, queue)) >= 0)
+			check("a queued tag is lost", tags_clear(&hand, (uint32_t)tag) == TAGS_OK);
+	}
+	check("a queue is not empty", tag == TAGS_NO_TAG && tags_pool_queued(pool, 0) == 0);
+	check("a call on a queue takes memory", kept == before);
+	check("the one who submitted stays", tags_leave(&hand) == TAGS_OK);
 }
 
 static void refuse_joins(struct tags_pool *pool)
@@ -193,23 +230,46 @@ static void refuse_resizes(struct tags_pool *pool)
 	check("a resize keeps the old tags", kept == before && ordinary_tags(pool) == 290);
 }
 
-int main(void)
+/* Returns how many allocations a pool with so many queues takes. */
+static long open_at_last(struct tags_pool *pool, uint32_t queues)
 {
-	struct tags_pool pool = TAGS_EMPTY;
-	struct tags_sums sums;
 	long number = 1;
 
-	while (open_refused(&pool, number) == TAGS_NO_MEMORY) {
-		check("a refused pool is kept", pool.full == 0 && kept == 0);
+	while (open_refused(pool, queues, number) == TAGS_NO_MEMORY) {
+		check("a refused pool is kept", pool->full == 0 && kept == 0);
 		number++;
 	}
 	check("a pool takes no memory", number > 10);
+	return number - 1;
+}
+
+static void close_pool(struct tags_pool *pool)
+{
+	struct tags_sums sums;
+
+	check("the pool cannot be closed", tags_close(pool, &sums) == TAGS_OK && sums.held == 0);
+	check("memory is kept", kept == 0);
+}
+
+int main(void)
+{
+	struct tags_pool pool = TAGS_EMPTY;
+	long without = open_at_last(&pool, 0), with;
+
+	note_all(&pool);
 	refuse_resizes(&pool);
+	note_all(&pool);
 	refuse_joins(&pool);
 	refuse_shares(&pool);
 	fill(&pool);
-	check("the pool cannot be closed", tags_close(&pool, &sums) == TAGS_OK && sums.held == 0);
-	check("memory is kept", kept == 0);
-	printf("%ld allocations of a pool, %d wrong\n", number - 1, wrong);
+	close_pool(&pool);
+	with = open_at_last(&pool, 2);
+	check("queues take no memory", with > without + 20);
+	submit_all(&pool);
+	refuse_resizes(&pool);
+	submit_all(&pool);
+	fill(&pool);
+	close_pool(&pool);
+	printf("%ld allocations of a pool, %ld of one with queues, %d wrong\n", without, with, wrong);
 	return wrong != 0;
 }

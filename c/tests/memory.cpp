@@ -92,6 +92,17 @@ int main()
 		      errc::no_memory);
 		hand = pool.join(failure);
 		CHECK(values.size() == 8 && values[*hand.get(failure)] == 1);
+		hand.leave(failure);
+		tags::options options = sized(8, 1);
+		options.queues = 2;
+		pool = tags::pool(options, failure);
+		hand = pool.join(failure);
+		// What a queue takes is there from the beginning.
+		CHECK(without_memory([&](std::error_code &code) {
+			      hand.get(code)->submit(1, code);
+			      const tags::tag tag = hand.next_blocking(1, code);
+			      CHECK(tag && !hand.next_async(0, 0, code) && pool.queued(1, code) == 0);
+		      }) == std::error_code());
 	}
 	CHECK(allocated == 0);
 	return report();

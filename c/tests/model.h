@@ -38,6 +38,9 @@ struct set {
 	/* the hand that holds the tag, while it is held */
 	int holder[TAGS_MAX_TOTAL];
 	uint64_t slot[TAGS_MAX_TOTAL];
+	/* the note of the tag's user, if it has one */
+	bool has_note[TAGS_MAX_TOTAL];
+	uint64_t note[TAGS_MAX_TOTAL];
 	/* how many tags the sweeps of this call made free; those of the latest sweep, and the first of its word */
 	uint32_t freed;
 	uint64_t swept;
@@ -53,6 +56,8 @@ struct member {
 	uint64_t kept;
 	uint64_t lent;
 	enum bell bell;
+	/* the set that it waits for */
+	enum tags_kind kind;
 	/* 0, or when its wait began, and the eventfd or argument that it named last; whether that was told since */
 	uint64_t turn;
 	uint32_t event;
@@ -68,6 +73,7 @@ struct pool {
 	/* how many tags a hand may keep, and whether only while it holds another one */
 	uint32_t cache;
 	bool is_careful;
+	bool has_notes;
 	struct member member[TAGS_MAX_HANDS];
 	/* hands that no thread has, or NOBODY; the last one goes out first */
 	int berth[TAGS_MAX_HANDS];
@@ -147,6 +153,8 @@ int32_t model_get_reserved(struct model *hand);
 int32_t model_get_shallow(struct model *hand, uint32_t depth);
 int32_t model_get_exactly(struct model *hand, uint32_t tag);
 int32_t model_get_batch(struct model *hand, uint32_t n, uint64_t *won);
+/* @left becomes how many tags it left free or gave back. */
+int32_t model_get_many(struct model *hand, uint32_t *tags, size_t n, uint32_t *left);
 int32_t model_clear(struct model *hand, uint32_t tag);
 int32_t model_clear_batch(struct model *hand, const uint32_t *tags, size_t count);
 
@@ -172,6 +180,7 @@ int32_t model_read_clear(struct model *hand, uint32_t tag, uint64_t *value);
 
 int32_t model_read(struct model *hand, uint32_t tag, uint64_t *value);
 int32_t model_write(struct model *hand, uint32_t tag, uint64_t value, uint64_t *former);
+int32_t model_note(struct model *hand, uint32_t tag, uint64_t value);
 int32_t model_post(struct model *hand, uint32_t tag);
 int32_t model_take(struct model *hand, uint32_t tag);
 int32_t model_post_mask(struct model *hand, uint32_t first, uint64_t mask);
@@ -185,15 +194,28 @@ int32_t model_pool_busy(struct model *pool, uint64_t *into, size_t words);
 int32_t model_pool_show(struct model *pool, uint32_t kind, struct tags_sizes *sizes);
 int32_t model_pool_waiting(struct model *pool);
 
-/* After a get: those that it made free are told of, without those of the latest sweep that it won. Returns @answer. */
+/* Frees ordinary tags of the hand, at once. */
+void model_give_back(struct model *hand, const uint32_t *tags, size_t n);
+/* How many tags of a set the sweeps of the latest get made free, without those of the last sweep that the hand has. */
+uint32_t model_left(struct model *hand, enum tags_kind kind);
+/* After gets that left so many ordinary tags free, which are told of. Returns @answer. */
+int32_t model_left_free(struct model *hand, int32_t answer, uint32_t left);
+/* After a get of an ordinary tag: those that it made free are told of, without those of the latest sweep that it won. Returns @answer. */
 int32_t model_swept(struct model *hand, int32_t answer);
-/* After a call that gave this many tags back, unless it was refused. Returns @answer. */
+/* The same of a get of a reserved tag; and of a get from the set that @tag is of. */
+int32_t model_swept_reserved(struct model *hand, int32_t answer);
+int32_t model_swept_for(struct model *hand, int32_t answer, uint32_t tag);
+/* After a call that gave this many ordinary tags back, unless it was refused. Returns @answer. */
 int32_t model_gave(struct model *hand, int32_t answer, uint32_t freed);
-/* An @event from EVENTS on is an argument of the function. */
-int32_t model_get_async(struct model *hand, int32_t event);
+/* After a clear of a tag, unless it was refused. Returns @answer. */
+int32_t model_cleared(struct model *hand, int32_t answer, uint32_t tag);
+/* A flush, which tells those who wait. */
+int32_t model_flush_and_tell(struct model *hand);
+/* A wait for a tag of a set. An @event from EVENTS on is an argument of the function. */
+int32_t model_get_async(struct model *hand, enum tags_kind kind, int32_t event);
 int32_t model_cancel(struct model *hand);
 int32_t model_stop(struct model *handle);
 /* What a get returns that would have to wait if it found no tag, and whose time is up then or has no end. */
-int32_t model_wait(struct model *hand, bool is_late);
+int32_t model_wait(struct model *hand, enum tags_kind kind, bool is_late);
 
 #endif

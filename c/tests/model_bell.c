@@ -1,15 +1,15 @@
 /* The model of the bell: which hands wait to be notified, and which are told of tags that became free. */
 #include "model.h"
 
-/* Returns the hand that is listed and has waited longest, or NULL. */
-static struct member *find_first(struct pool *pool)
+/* Returns the hand that is listed for a set and has waited longest, or NULL. */
+static struct member *find_first(struct pool *pool, enum tags_kind kind)
 {
 	struct member *first = NULL;
 
 	for (uint32_t i = 0; i < pool->hands; i++) {
 		struct member *member = &pool->member[i];
 
-		if (member->bell == LISTED && (!first || member->turn < first->turn))
+		if (member->bell == LISTED && member->kind == kind && (!first || member->turn < first->turn))
 			first = member;
 	}
 	return first;
@@ -23,11 +23,11 @@ static void notify(struct pool *pool, struct member *member)
 	member->is_notified = true;
 }
 
-static void tell(struct pool *pool, uint32_t freed)
+static void tell(struct pool *pool, enum tags_kind kind, uint32_t freed)
 {
-	struct member *first = find_first(pool);
+	struct member *first = find_first(pool, kind);
 
-	for (; freed > 0 && first; freed--, first = find_first(pool)) {
+	for (; freed > 0 && first; freed--, first = find_first(pool, kind)) {
 		first->bell = TOLD;
 		notify(pool, first);
 	}
@@ -44,8 +44,10 @@ static bool is_any_free(const struct set *set)
 /* What a hand does that was told and needs no tag any more. */
 static void settle(struct model *hand)
 {
-	if (is_any_free(&hand->pool->set[TAGS_ORDINARY]))
-		tell(hand->pool, 1);
+	const enum tags_kind kind = member_of(hand)->kind;
+
+	if (is_any_free(&hand->pool->set[kind]))
+		tell(hand->pool, kind, 1);
 }
 
 static uint32_t most_of(uint32_t a, uint32_t b)
@@ -61,20 +63,33 @@ static bool is_anybody_waiting(const struct pool *pool)
 	return false;
 }
 
-/* If anybody waits, all kept tags go back. Whoever has tags to see to tells one hand at least. */
-static void ring(struct model *hand, uint32_t freed)
+/* If anybody waits, all kept tags go back. Returns how many these were. */
+static uint32_t give_back_kept(struct model *hand)
+{
+	uint32_t kept;
+
+	if (hand->pool->cache == 0)
+		return 0;
+	kept = (uint32_t)__builtin_popcountll(member_of(hand)->kept);
+	model_flush(hand);
+	return kept;
+}
+
+/* Whoever has tags to see to tells one hand at least. */
+static void ring(struct model *hand, enum tags_kind kind, uint32_t freed)
 {
 	struct pool *pool = hand->pool;
-	uint32_t kept = 0;
+	uint32_t kept;
 
 	if (!is_anybody_waiting(pool) || (freed == 0 && pool->cache == 0))
 		return;
-	if (pool->cache > 0) {
-		kept = (uint32_t)__builtin_popcountll(member_of(hand)->kept);
-		model_flush(hand);
-	}
-	freed = most_of(least_of(freed, pool->set[TAGS_ORDINARY].depth), kept);
-	tell(pool, most_of(freed, 1));
+	kept = give_back_kept(hand);
+	freed = least_of(freed, pool->set[kind].depth);
+	if (kind == TAGS_ORDINARY)
+		freed = most_of(freed, kept);
+	else if (kept > 0)
+		tell(pool, TAGS_ORDINARY, kept);
+	tell(pool, kind, most_of(freed, 1));
 }
 
 /* How many tags of the latest sweep the hand holds. */
@@ -91,26 +106,68 @@ static uint32_t count_taken(const struct model *hand, const struct set *set)
 	return taken;
 }
 
+uint32_t model_left(struct model *hand, enum tags_kind kind)
+{
+	struct set *set = &hand->pool->set[kind];
+	const uint32_t freed = set->freed, taken = count_taken(hand, set);
+
+	set->freed = 0;
+	return freed > taken ? freed - taken : 0;
+}
+
+static int32_t left_free(struct model *hand, enum tags_kind kind, int32_t answer, uint32_t left)
+{
+	if (left > 0)
+		ring(hand, kind, left);
+	return answer;
+}
+
+int32_t model_left_free(struct model *hand, int32_t answer, uint32_t left)
+{
+	return left_free(hand, TAGS_ORDINARY, answer, left);
+}
+
+static int32_t swept(struct model *hand, enum tags_kind kind, int32_t answer)
+{
+	return left_free(hand, kind, answer, is_hand(hand) ? model_left(hand, kind) : 0);
+}
+
 int32_t model_swept(struct model *hand, int32_t answer)
 {
-	struct set *set;
-	uint32_t taken;
+	return swept(hand, TAGS_ORDINARY, answer);
+}
 
-	if (!is_hand(hand))
-		return answer;
-	set = &hand->pool->set[TAGS_ORDINARY];
-	taken = count_taken(hand, set);
-	if (set->freed > taken)
-		ring(hand, set->freed - taken);
-	set->freed = 0;
-	return answer;
+int32_t model_swept_reserved(struct model *hand, int32_t answer)
+{
+	return swept(hand, TAGS_RESERVED, answer);
+}
+
+int32_t model_swept_for(struct model *hand, int32_t answer, uint32_t tag)
+{
+	return is_hand(hand) ? swept(hand, kind_of(hand, tag), answer) : answer;
 }
 
 int32_t model_gave(struct model *hand, int32_t answer, uint32_t freed)
 {
 	if (answer >= 0)
-		ring(hand, freed);
+		ring(hand, TAGS_ORDINARY, freed);
 	return answer;
+}
+
+int32_t model_cleared(struct model *hand, int32_t answer, uint32_t tag)
+{
+	if (answer >= 0)
+		ring(hand, kind_of(hand, tag), 1);
+	return answer;
+}
+
+int32_t model_flush_and_tell(struct model *hand)
+{
+	uint32_t kept = 0;
+
+	if (is_hand(hand))
+		kept = (uint32_t)__builtin_popcountll(member_of(hand)->kept);
+	return model_gave(hand, model_flush(hand), kept);
 }
 
 int32_t model_stop(struct model *handle)
@@ -133,24 +190,37 @@ static int32_t end_wait(struct model *hand, int32_t answer)
 	return answer;
 }
 
-static int32_t get(struct model *hand)
+static int32_t get_of(struct model *hand, enum tags_kind kind)
 {
-	return model_swept(hand, model_get(hand));
+	return kind == TAGS_RESERVED ? model_get_reserved(hand) : model_get(hand);
+}
+
+/* A get before a wait. A hand that is to wait for a reserved tag keeps nothing. */
+static int32_t get(struct model *hand, enum tags_kind kind)
+{
+	const int32_t tag = swept(hand, kind, get_of(hand, kind));
+
+	if (tag == TAGS_NO_TAG && kind == TAGS_RESERVED)
+		model_flush_and_tell(hand);
+	return tag;
 }
 
 /* The get of a round tells nobody: what it leaves free is seen to at the end. */
 static int32_t get_alone(struct model *hand)
 {
-	const int32_t tag = model_get(hand);
+	const enum tags_kind kind = member_of(hand)->kind;
+	const int32_t tag = get_of(hand, kind);
 
-	hand->pool->set[TAGS_ORDINARY].freed = 0;
+	hand->pool->set[kind].freed = 0;
 	return tag;
 }
 
 /* Whether the next get tries each tag. */
 static bool can_wait(const struct model *hand)
 {
-	return !hand->pool->set[TAGS_ORDINARY].round_robin || member_of(hand)->hint[TAGS_ORDINARY] == 0;
+	const enum tags_kind kind = member_of(hand)->kind;
+
+	return !hand->pool->set[kind].round_robin || member_of(hand)->hint[kind] == 0;
 }
 
 static int32_t get_listed(struct model *hand)
@@ -166,10 +236,11 @@ static int32_t get_listed(struct model *hand)
 /* A round of a wait, which is over if @why is not TAGS_OK. */
 static int32_t make_round(struct model *hand, int32_t why)
 {
+	const enum tags_kind kind = member_of(hand)->kind;
 	int32_t tag = TAGS_NO_TAG;
 
-	if (hand->pool->set[TAGS_ORDINARY].depth == 0)
-		return end_wait(hand, TAGS_NO_SUCH_TAG);
+	if (hand->pool->set[kind].depth == 0)
+		return end_wait(hand, kind == TAGS_RESERVED ? TAGS_NO_RESERVED : TAGS_NO_SUCH_TAG);
 	if (why != TAGS_OK)
 		return end_wait(hand, why);
 	if (!can_wait(hand))
@@ -179,7 +250,7 @@ static int32_t make_round(struct model *hand, int32_t why)
 	return tag == TAGS_NO_TAG ? tag : end_wait(hand, tag);
 }
 
-int32_t model_get_async(struct model *hand, int32_t event)
+int32_t model_get_async(struct model *hand, enum tags_kind kind, int32_t event)
 {
 	const int32_t why = is_hand(hand) && hand->pool->is_stopped ? TAGS_STOPPED : TAGS_OK;
 	int32_t tag = TAGS_NO_TAG;
@@ -188,10 +259,13 @@ int32_t model_get_async(struct model *hand, int32_t event)
 		return TAGS_BAD_HANDLE;
 	if (event < 0)
 		return TAGS_BAD_EVENT;
-	if (member_of(hand)->bell == IDLE)
-		tag = why == TAGS_OK ? get(hand) : why;
+	if (member_of(hand)->bell == IDLE || member_of(hand)->kind != kind)
+		tag = why == TAGS_OK ? get(hand, kind) : why;
 	if (tag != TAGS_NO_TAG)
 		return tag;
+	if (member_of(hand)->bell != IDLE && member_of(hand)->kind != kind)
+		return TAGS_WAITING;
+	member_of(hand)->kind = kind;
 	member_of(hand)->event = (uint32_t)event;
 	member_of(hand)->is_notified = false;
 	return make_round(hand, why);
@@ -204,16 +278,17 @@ int32_t model_cancel(struct model *hand)
 	return member_of(hand)->bell == IDLE ? (int32_t)TAGS_NOT_WAITING : end_wait(hand, TAGS_OK);
 }
 
-int32_t model_wait(struct model *hand, bool is_late)
+int32_t model_wait(struct model *hand, enum tags_kind kind, bool is_late)
 {
 	int32_t tag;
 
 	if (is_hand(hand) && hand->pool->is_stopped)
 		return TAGS_STOPPED;
-	tag = is_hand(hand) ? get(hand) : (int32_t)TAGS_BAD_HANDLE;
+	tag = is_hand(hand) ? get(hand, kind) : (int32_t)TAGS_BAD_HANDLE;
 	if (tag != TAGS_NO_TAG)
 		return tag;
 	if (member_of(hand)->bell != IDLE)
 		return TAGS_WAITING;
+	member_of(hand)->kind = kind;
 	return make_round(hand, is_late ? TAGS_TIMED_OUT : TAGS_OK);
 }

@@ -229,3 +229,25 @@ int32_t model_get_batch(struct model *hand, uint32_t n, uint64_t *won)
 	}
 	return TAGS_NO_TAG;
 }
+
+/* One get after another, past what the hand keeps. */
+int32_t model_get_many(struct model *hand, uint32_t *tags, size_t n, uint32_t *left)
+{
+	*left = 0;
+	if (!is_hand(hand))
+		return TAGS_BAD_HANDLE;
+	if (n > hand->pool->set[TAGS_ORDINARY].depth)
+		return TAGS_BAD_COUNT;
+	for (size_t i = 0; i < n; i++) {
+		int32_t tag = get_of(hand, TAGS_ORDINARY, UINT32_MAX);
+
+		*left += model_left(hand, TAGS_ORDINARY);
+		if (tag < 0) {
+			model_give_back(hand, tags, i);
+			*left += (uint32_t)i;
+			return tag;
+		}
+		tags[i] = (uint32_t)tag;
+	}
+	return TAGS_OK;
+}

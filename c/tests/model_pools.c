@@ -38,7 +38,7 @@ static void open_set(struct set *set, uint32_t first, uint32_t depth,
 
 static int32_t find_fault(const struct tags_options *options)
 {
-	if (options->flags & ~(uint32_t)(TAGS_ROUND_ROBIN | TAGS_KEEP_WHILE_HOLDING))
+	if (options->flags & ~(uint32_t)(TAGS_ROUND_ROBIN | TAGS_KEEP_WHILE_HOLDING | TAGS_NOTES))
 		return TAGS_BAD_FLAG;
 	if (options->shift < TAGS_SHIFT_AS_KERNEL)
 		return TAGS_BAD_SHIFT;
@@ -72,6 +72,7 @@ int32_t model_open(struct model *handle, const struct tags_options *options)
 	pool->hands = options->hands;
 	pool->cache = options->cache;
 	pool->is_careful = options->flags & TAGS_KEEP_WHILE_HOLDING;
+	pool->has_notes = options->flags & TAGS_NOTES;
 	for (uint32_t i = 0; i < pool->hands; i++)
 		pool->berth[i] = (int)(pool->hands - 1 - i);
 	handle->pool = pool;

@@ -34,6 +34,12 @@ static void give(struct model *hand, uint32_t tag, enum place place)
 		member_of(hand)->hint[kind_of(hand, tag)] = tag - set->first;
 }
 
+void model_give_back(struct model *hand, const uint32_t *tags, size_t n)
+{
+	for (size_t i = 0; i < n; i++)
+		give(hand, tags[i], FREE);
+}
+
 int32_t model_flush(struct model *hand)
 {
 	struct member *member;
@@ -46,12 +52,21 @@ int32_t model_flush(struct model *hand)
 	return TAGS_OK;
 }
 
+/* The tag has no user any more, whether the hand keeps it or not. */
+static void end_note(struct model *hand, uint32_t tag)
+{
+	struct set *set = set_of(hand, tag);
+
+	set->has_note[tag - set->first] = false;
+}
+
 int32_t model_clear(struct model *hand, uint32_t tag)
 {
 	int32_t status = find_held(hand, tag);
 
 	if (status)
 		return status;
+	end_note(hand, tag);
 	if (kind_of(hand, tag) == TAGS_ORDINARY) {
 		if (model_keep(hand, tag))
 			return TAGS_OK;
@@ -81,9 +96,10 @@ int32_t model_clear_batch(struct model *hand, const uint32_t *tags, size_t n)
 	for (size_t i = 0; i < n; i++)
 		if (find_held(hand, tags[i]) || is_named_before(tags, i))
 			return TAGS_NOT_HELD;
-	model_release(hand, tags, n);
 	for (size_t i = 0; i < n; i++)
-		give(hand, tags[i], FREE);
+		end_note(hand, tags[i]);
+	model_release(hand, tags, n);
+	model_give_back(hand, tags, n);
 	return TAGS_OK;
 }
 
@@ -137,6 +153,18 @@ int32_t model_write(struct model *hand, uint32_t tag, uint64_t value, uint64_t *
 
 	if (!status)
 		set_of(hand, tag)->slot[tag - set_of(hand, tag)->first] = value;
+	return status;
+}
+
+int32_t model_note(struct model *hand, uint32_t tag, uint64_t value)
+{
+	int32_t status = is_hand(hand) && !hand->pool->has_notes ? (int32_t)TAGS_NO_NOTES :
+								   find_held(hand, tag);
+
+	if (!status) {
+		set_of(hand, tag)->has_note[tag - set_of(hand, tag)->first] = true;
+		set_of(hand, tag)->note[tag - set_of(hand, tag)->first] = value;
+	}
 	return status;
 }
 

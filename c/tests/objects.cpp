@@ -2,6 +2,8 @@
 // after moves. It compiles without exceptions too.
 #include "check.hpp"
 
+#include <array>
+#include <chrono>
 #include <map>
 #include <memory>
 #include <thread>
@@ -252,6 +254,34 @@ static void batches()
 	CHECK(!other->extract(0) && busy(hand) == 0);
 	tags::batch all = std::move(*hand.get_batch(64, ec));
 	CHECK(all.size() == 64 && !hand.get_batch(1, ec) && !ec && !hand.get(ec) && !ec);
+}
+
+static void several_tags_or_none()
+{
+	tags::options options = sized(12, 2);
+	options.shift = 2;
+	tags::pool pool(options, ec);
+	tags::hand hand = pool.join_in_place(ec);
+	tags::hand other = pool.join_in_place(ec);
+	std::optional<std::array<tags::tag, 5>> five = hand.get_many<5>(ec);
+	CHECK(five && !ec && busy(hand) == 5);
+	for (std::uint32_t i = 0; i < 5; i++)
+		CHECK((*five)[i].number() == i && hand.holds(i, ec));
+	(*five)[2].clear();
+	CHECK(!other.get_many<9>(ec) && !ec && busy(other) == 4);
+	std::uint32_t numbers[8] = {};
+	CHECK(other.get_many(numbers, 0, ec) && !ec);
+	CHECK(other.get_many(nullptr, 0, ec) && !ec);
+	CHECK(other.get_many(numbers, 8, ec) && !ec && busy(other) == 12);
+	CHECK(!hand.get_many<1>(ec) && !ec && !hand.get_many(numbers, 1, ec) && !ec);
+	// Those that a get fills in are released.
+	const std::uint32_t last = numbers[7];
+	CHECK(!hand.adopt(last, ec) && ec == errc::not_held);
+	CHECK(other.adopt(last, ec) && !ec);
+	other.clear_batch(numbers, 7, ec);
+	CHECK(!ec && busy(other) == 4);
+	five.reset();
+	CHECK(busy(other) == 0);
 }
 
 static void tags_pass_from_hand_to_hand()
@@ -544,6 +574,59 @@ static void a_pool_passes_each_busy_tag()
 	CHECK(pool.each_busy(gives_back, ec) == 7 && pool.each_busy(note, ec) == 1 && !ec);
 }
 
+// The notes of tags, alone and in batches, until they go back; a posted tag keeps its own.
+static void a_pool_passes_each_note()
+{
+	tags::options options = sized(200, 3, 1);
+	options.notes = true;
+	tags::pool pool(options, ec);
+	std::vector<std::uint64_t> passed;
+	const auto before = std::chrono::steady_clock::now();
+	auto take = [&](std::uint32_t number, const std::optional<tags::noted> &note) {
+		passed.push_back(note ? note->value : 1000 + number);
+		CHECK(!note || (note->since >= before && note->since <= std::chrono::steady_clock::now()));
+	};
+	tags::hand hand = pool.join_in_place(ec);
+	tags::hand other = pool.join_in_place(ec);
+	CHECK(pool.each_noted(take, ec) == 0 && !ec && passed.empty());
+	tags::tag reserved = *hand.get_reserved(ec);
+	reserved.note(70, ec);
+	tags::batch batch = *hand.get_batch(3, ec);
+	batch.note(2, 71, ec);
+	CHECK(!ec && pool.each_noted(take, ec) == 4 && !ec);
+	CHECK(passed == std::vector<std::uint64_t>({70, 1001, 71, 1003}));
+	passed.clear();
+	reserved.note(72, ec);
+	tags::tag second = *batch.extract(2);
+	batch.clear();
+	CHECK(pool.each_noted(take, ec) == 2 && passed == std::vector<std::uint64_t>({72, 71}));
+	passed.clear();
+	const std::uint32_t number = second.post(ec);
+	CHECK(pool.each_noted(take, ec) == 2 && passed == std::vector<std::uint64_t>({72, 71}));
+	passed.clear();
+	tags::tag taken = other.take(number, ec);
+	reserved.read_clear(ec);
+	CHECK(pool.each_noted(take, ec) == 1 && passed == std::vector<std::uint64_t>({71}));
+	taken.clear();
+	CHECK(pool.each_noted(take, ec) == 0 && !ec);
+	std::vector<tags::tag> held;
+	for (int i = 0; i < 199; i++) {
+		held.push_back(get(hand));
+		held.back().note(held.back().number(), ec);
+	}
+	passed.clear();
+	CHECK(pool.each_noted(take, ec) == 199 && passed.front() == 1 && passed.back() == 199);
+	auto stops = [](std::uint32_t at, const auto &note) { return note->value == at && at < 100; };
+	CHECK(pool.each_noted(stops, ec) == 100 && !ec);
+	auto gives_back = [&](std::uint32_t, const auto &) { held.clear(); };
+	CHECK(pool.each_noted(gives_back, ec) == 64 && pool.each_noted(take, ec) == 0 && !ec);
+	tags::shared_hands hands = pool.share(1, ec);
+	tags::shared_tag shared = *hands.get(ec);
+	shared.note(80, ec);
+	passed.clear();
+	CHECK(!ec && pool.each_noted(take, ec) == 1 && passed == std::vector<std::uint64_t>({80}));
+}
+
 static void options_are_passed_on()
 {
 	tags::options options = sized(6, 1);
@@ -591,6 +674,7 @@ int main()
 	a_pool_lives_until_its_hands_end();
 	released_tags_are_adopted();
 	batches();
+	several_tags_or_none();
 	tags_pass_from_hand_to_hand();
 	batches_pass_from_hand_to_hand();
 	batches_are_made_of_numbers();
@@ -603,6 +687,7 @@ int main()
 	resizes();
 	a_pool_reports_without_a_hand();
 	a_pool_passes_each_busy_tag();
+	a_pool_passes_each_note();
 	options_are_passed_on();
 	native_handles();
 	return report();

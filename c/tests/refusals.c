@@ -5,6 +5,7 @@
  */
 #include <stdio.h>
 #include <string.h>
+#include <time.h>
 
 #include "../tags.h"
 
@@ -50,6 +51,12 @@ static int never(uint32_t tag, void *unused)
 }
 
 /* Is not called: nobody is told here. */
+static int never_noted(uint32_t tag, const struct tags_noted *note, void *unused)
+{
+	(void)note;
+	return never(tag, unused);
+}
+
 static void never_call(void *unused)
 {
 	(void)unused;
@@ -61,6 +68,7 @@ static void refuse_null(struct tags_pool *pool, struct tags_hand *hand)
 {
 	const uint32_t tag = 2;
 	uint64_t value = 5;
+	uint32_t many = 5;
 
 	WANT(tags_open(NULL, &twelve), -28);
 	WANT(tags_open(pool, NULL), -28);
@@ -75,10 +83,13 @@ static void refuse_null(struct tags_pool *pool, struct tags_hand *hand)
 	WANT(tags_get_exactly(NULL, 2), -28);
 	WANT(tags_get_batch(NULL, 1, &value), -28);
 	WANT(tags_get_batch(hand, 1, NULL), -28);
+	WANT(tags_get_many(NULL, &many, 1), -28);
+	WANT(tags_get_many(hand, NULL, 0), -28);
 	WANT(tags_clear(NULL, 2), -28);
 	WANT(tags_clear_batch(hand, NULL, 0), -28);
 	WANT(tags_read(hand, 2, NULL), -28);
 	WANT(tags_write(NULL, 2, 1, &value), -28);
+	WANT(tags_note(NULL, 2, 1), -28);
 	WANT(tags_post(NULL, 2), -28);
 	WANT(tags_take(NULL, 2), -28);
 	WANT(tags_post_mask(NULL, 2, 1), -28);
@@ -91,6 +102,8 @@ static void refuse_null(struct tags_pool *pool, struct tags_hand *hand)
 	WANT(tags_pool_busy(pool, NULL, 1), -28);
 	WANT(tags_pool_each_busy(NULL, never, NULL), -28);
 	WANT(tags_pool_each_busy(pool, NULL, &value), -28);
+	WANT(tags_pool_each_noted(NULL, never_noted, NULL), -28);
+	WANT(tags_pool_each_noted(pool, NULL, &value), -28);
 	WANT(tags_pool_show(pool, TAGS_ORDINARY, NULL), -28);
 	WANT(tags_pool_waiting(NULL), -28);
 	WANT(tags_pool_total(NULL), -28);
@@ -105,8 +118,50 @@ static void refuse_null(struct tags_pool *pool, struct tags_hand *hand)
 	WANT(tags_get_async(NULL, 0), -28);
 	WANT(tags_get_notified(NULL, never_call, NULL), -28);
 	WANT(tags_get_notified(hand, NULL, &value), -28);
+	WANT(tags_get_reserved_blocking(NULL), -28);
+	WANT(tags_get_reserved_timed(hand, CLOCK_MONOTONIC, NULL), -28);
+	WANT(tags_get_reserved_async(NULL, 0), -28);
+	WANT(tags_get_reserved_notified(NULL, never_call, NULL), -28);
+	WANT(tags_get_reserved_notified(hand, NULL, &value), -28);
 	WANT(tags_cancel(NULL), -28);
 	WANT(tags_stop(NULL), -28);
+}
+
+/* The same of calls on queues. The pool has none. */
+static void refuse_null_for_queues(struct tags_hand *hand)
+{
+	const struct timespec past = { 0, 0 };
+
+	WANT(tags_submit(NULL, 2), -28);
+	WANT(tags_submit_to(NULL, 2, 0), -28);
+	WANT(tags_next(NULL, 0), -28);
+	WANT(tags_next_blocking(NULL, 0), -28);
+	WANT(tags_next_timed(NULL, 0, CLOCK_MONOTONIC, &past), -28);
+	WANT(tags_next_timed(hand, 0, CLOCK_MONOTONIC, NULL), -28);
+	WANT(tags_next_async(NULL, 0, 0), -28);
+	WANT(tags_next_notified(NULL, 0, never_call, NULL), -28);
+	WANT(tags_next_notified(hand, 0, NULL, hand), -28);
+	WANT(tags_cancel_next(NULL, 0), -28);
+	WANT(tags_pool_queued(NULL, 0), -28);
+}
+
+/* Makes each call on a queue, which is refused for the hand or for the queue. */
+static void refuse_queue(struct tags_hand *hand, uint32_t queue, int32_t status)
+{
+	const struct timespec past = { 0, 0 };
+	const struct timespec unsound = { 0, -1 };
+
+	WANT(tags_submit_to(hand, 2, queue), status);
+	WANT(tags_submit_to(hand, UINT32_MAX, queue), status);
+	WANT(tags_next(hand, queue), status);
+	WANT(tags_next_blocking(hand, queue), status);
+	WANT(tags_next_timed(hand, queue, CLOCK_MONOTONIC, &past), status);
+	WANT(tags_next_timed(hand, queue, CLOCK_MONOTONIC, &unsound), -32);
+	WANT(tags_next_timed(hand, queue, -1, &past), -32);
+	WANT(tags_next_async(hand, queue, 0), status);
+	WANT(tags_next_async(hand, queue, -1), status);
+	WANT(tags_next_notified(hand, queue, never_call, NULL), status);
+	WANT(tags_cancel_next(hand, queue), status);
 }
 
 static void refuse_options(void)
@@ -131,7 +186,9 @@ static void refuse_options(void)
 	options.shift = INT32_MIN;
 	options.total = UINT32_MAX;
 	WANT(tags_open(&pool, &options), -34);
-	options.flags = 8;
+	options.flags = TAGS_NOTES;
+	WANT(tags_open(&pool, &options), -34);
+	options.flags = 16;
 	WANT(tags_open(&pool, &options), -18);
 	options.flags = TAGS_KEEP_WHILE_HOLDING;
 	options.cache = TAGS_MAX_CACHE + 1;
@@ -150,8 +207,19 @@ static void refuse_options(void)
 	options.hands = TAGS_MAX_HANDS + 1;
 	WANT(tags_open(&pool, &options), -25);
 	options = twelve;
-	options.flags = 8 | TAGS_ROUND_ROBIN;
+	options.flags = 16 | TAGS_NOTES;
 	WANT(tags_open(&pool, &options), -18);
+	options.queues = TAGS_MAX_QUEUES + 1;
+	WANT(tags_open(&pool, &options), -18);
+	options.flags = TAGS_NOTES;
+	WANT(tags_open(&pool, &options), -38);
+	options.shift = -3;
+	WANT(tags_open(&pool, &options), -34);
+	options = twelve;
+	options.queues = UINT32_MAX;
+	options.cache = UINT32_MAX;
+	options.total = UINT32_MAX;
+	WANT(tags_open(&pool, &options), -38);
 	WANT(pool.full == 0 && pool.object == NULL, 1);
 }
 
@@ -161,12 +229,14 @@ static void refuse_handle(struct tags_hand *hand)
 	struct tags_sizes sizes;
 	const uint32_t tag = 2;
 	uint64_t value = 5;
+	uint32_t many = 5;
 
 	WANT(tags_get(hand), -12);
 	WANT(tags_get_reserved(hand), -12);
 	WANT(tags_get_shallow(hand, 3), -12);
 	WANT(tags_get_exactly(hand, 3), -12);
 	WANT(tags_get_batch(hand, 1, &value), -12);
+	WANT(tags_get_many(hand, &many, 1), -12);
 	WANT(tags_clear(hand, tag), -12);
 	WANT(tags_get_write(hand, 1), -12);
 	WANT(tags_read_clear(hand, tag, &value), -12);
@@ -195,10 +265,12 @@ static void refuse_reports(struct tags_pool *pool)
 
 	WANT(tags_pool_busy(pool, &bits, 1), -12);
 	WANT(tags_pool_each_busy(pool, never, NULL), -12);
+	WANT(tags_pool_each_noted(pool, never_noted, NULL), -12);
 	WANT(tags_pool_show(pool, TAGS_ORDINARY, &sizes), -12);
 	WANT(tags_pool_waiting(pool), -12);
 	WANT(tags_pool_total(pool), -12);
 	WANT(tags_pool_batch(pool), -12);
+	WANT(tags_pool_queued(pool, 0), -12);
 	WANT(bits == 5 && sizes.depth == 5, 1);
 }
 
@@ -217,6 +289,16 @@ static void refuse_handles(struct tags_pool *pool, struct tags_hand *hand)
 	WANT(tags_get_async(hand, -1), -33);
 	WANT(tags_get_notified(&idle, never_call, NULL), -12);
 	WANT(tags_get_notified(as_hand(pool), never_call, NULL), -12);
+	WANT(tags_get_reserved_blocking(&idle), -12);
+	WANT(tags_get_reserved_blocking(as_hand(pool)), -12);
+	WANT(tags_get_reserved_async(&idle, -1), -12);
+	WANT(tags_get_reserved_async(as_hand(pool), 0), -12);
+	WANT(tags_get_reserved_async(hand, -1), -33);
+	WANT(tags_get_reserved_notified(&idle, never_call, NULL), -12);
+	WANT(tags_get_reserved_notified(as_hand(pool), never_call, NULL), -12);
+	refuse_queue(&idle, 0, -12);
+	refuse_queue(as_hand(pool), 0, -12);
+	WANT(tags_submit(&idle, 2), -12);
 	WANT(tags_cancel(&idle), -12);
 	WANT(tags_cancel(as_hand(pool)), -12);
 	WANT(tags_cancel(hand), -9);
@@ -256,6 +338,7 @@ static void refuse_tags(struct tags_hand *hand, struct tags_hand *other)
 		WANT(tags_read_clear(hand, numbers[i], &value), -1);
 		WANT(tags_read(hand, numbers[i], &value), -1);
 		WANT(tags_write(hand, numbers[i], 1, &value), -1);
+		WANT(tags_note(hand, numbers[i], 1), -37);
 		WANT(tags_post(hand, numbers[i]), -1);
 		WANT(tags_take(hand, numbers[i]), -1);
 		WANT(tags_holds(hand, numbers[i]), -1);
@@ -267,6 +350,7 @@ static void refuse_tags(struct tags_hand *hand, struct tags_hand *other)
 	WANT(tags_read_clear(hand, 2, &value), -3);
 	WANT(tags_read(hand, 2, &value), -3);
 	WANT(tags_write(hand, 2, 1, &value), -3);
+	WANT(tags_note(hand, 2, 1), -37);
 	WANT(tags_post(hand, 2), -3);
 	WANT(tags_take(hand, 2), -4);
 	WANT(tags_holds(hand, 2), 0);
@@ -309,6 +393,7 @@ static void refuse_pool_sizes(struct tags_pool *pool)
 	WANT(bits == 5, 1);
 	WANT(tags_pool_busy(pool, &bits, 1), 0);
 	WANT(tags_pool_each_busy(pool, never, NULL), 0);
+	WANT(tags_pool_each_noted(pool, never_noted, NULL), -37);
 	WANT(tags_pool_show(pool, 2, &sizes), -16);
 	WANT(tags_pool_show(pool, UINT32_MAX, &sizes), -16);
 	WANT(sizes.depth == 5, 1);
@@ -339,6 +424,13 @@ static void use_up(struct tags_hand *hand)
 	WANT(tag, -10);
 	WANT(tags_get_notified(hand, never_call, NULL), -10);
 	WANT(tags_get_blocking(hand), -8);
+	WANT(tags_get_reserved_blocking(hand), -8);
+	WANT(tags_get_reserved_notified(hand, never_call, NULL), -8);
+	WANT(tags_cancel(hand), 0);
+	WANT(tags_cancel(hand), -9);
+	WANT(tags_get_reserved_notified(hand, never_call, NULL), -10);
+	WANT(tags_get_reserved_blocking(hand), -8);
+	WANT(tags_get_notified(hand, never_call, NULL), -8);
 	WANT(tags_cancel(hand), 0);
 	WANT(tags_cancel(hand), -9);
 }
@@ -354,6 +446,9 @@ static void refuse_kinds(void)
 	WANT(tags_open(&pool, &options), 0);
 	WANT(tags_join(&pool, &hand, 0), 0);
 	WANT(tags_get_reserved(&hand), -2);
+	WANT(tags_get_reserved_blocking(&hand), -2);
+	WANT(tags_get_reserved_notified(&hand, never_call, NULL), -2);
+	WANT(tags_cancel(&hand), -9);
 	WANT(tags_leave(&hand), 0);
 	WANT(tags_close(&pool, &sums), 0);
 	options.reserved = 4;
@@ -559,6 +654,66 @@ static void refuse_kept(void)
 	WANT(sums.got == 2 && sums.back == 2 && sums.held == 0, 1);
 }
 
+/* What a pool with two queues refuses. */
+static void refuse_queues(void)
+{
+	struct tags_options options = twelve;
+	struct tags_pool pool = TAGS_EMPTY;
+	struct tags_hand hand = TAGS_EMPTY;
+	struct tags_hand other = TAGS_EMPTY;
+	struct tags_hands hands = TAGS_EMPTY;
+	struct tags_sums sums;
+
+	options.queues = 2;
+	WANT(tags_open(&pool, &options), 0);
+	WANT(tags_hands_open(&pool, &hands, TAGS_MAX_HANDS + 1), -25);
+	WANT(tags_hands_open(&pool, &hands, 0), -38);
+	WANT(tags_join(&pool, &hand, TAGS_STAY), 0);
+	WANT(tags_join(&pool, &other, TAGS_STAY), 0);
+	WANT(tags_hands_open(&pool, &hands, 1), -38);
+	refuse_queue(&hand, 2, -39);
+	refuse_queue(&hand, UINT32_MAX, -39);
+	WANT(tags_pool_queued(&pool, 2), -39);
+	WANT(tags_pool_queued(&pool, UINT32_MAX), -39);
+	for (uint32_t queue = 0; queue < 2; queue++) {
+		WANT(tags_next(&hand, queue), -10);
+		WANT(tags_next_timed(&hand, queue, CLOCK_REALTIME, &(struct timespec){ 0, 0 }), -31);
+		WANT(tags_next_async(&hand, queue, -1), -33);
+		WANT(tags_cancel_next(&hand, queue), -9);
+		WANT(tags_next_notified(&hand, queue, never_call, NULL), -10);
+		WANT(tags_next_blocking(&hand, queue), -8);
+		WANT(tags_next_timed(&hand, queue, CLOCK_REALTIME, &(struct timespec){ 0, 0 }), -8);
+		WANT(tags_next_async(&hand, queue, -1), -33);
+		WANT(tags_cancel_next(&hand, queue), 0);
+		WANT(tags_cancel_next(&hand, queue), -9);
+		WANT(tags_submit_to(&hand, 12, queue), -1);
+		WANT(tags_submit_to(&hand, UINT32_MAX, queue), -1);
+		WANT(tags_submit_to(&hand, 2, queue), -3);
+		WANT(tags_get_exactly(&other, 2), 2);
+		WANT(tags_submit_to(&hand, 2, queue), -3);
+		WANT(tags_submit_to(&other, 2, queue), 0);
+		WANT(tags_submit_to(&other, 2, queue), -3);
+		WANT(tags_take(&hand, 2), -4);
+		WANT(tags_take_mask(&hand, 2, 1), -4);
+		WANT(tags_clear(&other, 2), -3);
+		WANT(tags_pool_queued(&pool, queue), 1);
+		WANT(tags_next(&hand, 1 - queue), -10);
+		WANT(tags_next(&hand, queue), 2);
+		WANT(tags_clear(&hand, 2), 0);
+	}
+	WANT(tags_stop(&pool), 0);
+	WANT(tags_next_blocking(&hand, 0), -36);
+	WANT(tags_next_async(&hand, 1, 0), -36);
+	WANT(tags_next(&hand, 0), -10);
+	WANT(tags_get_reserved(&hand), 0);
+	WANT(tags_submit(&hand, 0), 0);
+	WANT(tags_leave(&hand), 0);
+	WANT(tags_leave(&other), 0);
+	WANT(tags_resize(&pool, 13), -29);
+	WANT(tags_close(&pool, &sums), 0);
+	WANT(sums.got == 3 && sums.back == 2 && sums.held == 0 && sums.posted == 1, 1);
+}
+
 static int is_left_out(int32_t status)
 {
 	return status == -11 || status == -26 || status == -27 || status == -30;
@@ -566,15 +721,15 @@ static int is_left_out(int32_t status)
 
 static void name_statuses(void)
 {
-	const char *none = tags_strerror(TAGS_STOPPED - 1);
+	const char *none = tags_strerror(TAGS_NO_SUCH_QUEUE - 1);
 
-	for (int32_t status = TAGS_STOPPED; status < 0; status++)
+	for (int32_t status = TAGS_NO_SUCH_QUEUE; status < 0; status++)
 		for (int32_t other = status + 1; other <= 0; other++)
 			WANT(strcmp(tags_strerror(status), tags_strerror(other)) == 0,
 			     is_left_out(status) && is_left_out(other));
 	WANT(strcmp(none, tags_strerror(-26)), 0);
 	WANT(strcmp(tags_strerror(7), tags_strerror(TAGS_OK)), 0);
-	WANT(strcmp(tags_strerror(INT32_MIN), tags_strerror(TAGS_STOPPED - 1)), 0);
+	WANT(strcmp(tags_strerror(INT32_MIN), none), 0);
 }
 
 int main(void)
@@ -589,6 +744,10 @@ int main(void)
 	WANT(tags_join(&pool, &hand, TAGS_STAY), 0);
 	WANT(tags_join(&pool, &other, TAGS_STAY), 0);
 	refuse_null(&pool, &hand);
+	refuse_null_for_queues(&hand);
+	refuse_queue(&hand, 0, -39);
+	WANT(tags_submit(&hand, 2), -39);
+	WANT(tags_pool_queued(&pool, 0), -39);
 	refuse_handles(&pool, &hand);
 	refuse_tags(&hand, &other);
 	refuse_counts(&hand);
@@ -609,6 +768,7 @@ int main(void)
 	stay_or_begin_again();
 	refuse_resizes();
 	refuse_kept();
+	refuse_queues();
 	name_statuses();
 	printf("%d answers, %d wrong\n", wanted, wrong);
 	return wrong != 0;

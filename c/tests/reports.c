@@ -11,23 +11,14 @@
 
 #include "../tags.h"
 
+#include "checks.h"
+
 enum { SMALL = 64, LARGE = TAGS_MAX_TOTAL, MONITORS = 2, WORDS = LARGE / 64 };
 
 static long rounds = 1000;
-static uint64_t wrong;
 
 static struct tags_pool pool;
 static bool is_over;
-
-static void check(bool is_well, const char *what)
-{
-	if (is_well)
-		return;
-	__atomic_fetch_add(&wrong, 1, __ATOMIC_RELAXED);
-	fprintf(stderr, "wrong: %s\n", what);
-}
-
-#define CHECK(what) check(what, #what)
 
 /* Whether a call was refused because the pool is closed just now. */
 static bool is_closed(int32_t status)

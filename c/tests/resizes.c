@@ -78,7 +78,7 @@ static void end_wait(make_round *round)
 	WANT(told.sleepers | told.listeners, 0);
 }
 
-/* Refused with the hand in one of the two lists, and done once the hand has got up. */
+/* Refused with the hand listed as a sleeper or as a listener, and done once it has got up. */
 static void resize_while_listed(make_round *round, uint32_t cache)
 {
 	const struct tags_options options = { .total = 8, .reserved = 2, .hands = 2, .cache = cache };

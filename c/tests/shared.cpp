@@ -62,6 +62,7 @@ static void refuse()
 	REFUSED(errc::not_held, hands.adopt(3, CODE));
 	REFUSED(errc::bad_handle, no_tag.read(CODE));
 	REFUSED(errc::bad_handle, no_tag.write(7, CODE));
+	REFUSED(errc::bad_handle, no_tag.note(7, CODE));
 	CHECK(empty.native_handle() == nullptr && hands.native_handle() != nullptr);
 	hands.close(failure);
 	CHECK(!failure && !hands);
@@ -76,6 +77,7 @@ static void use_alone()
 	std::optional<tags::shared_tag> first = hands.get_reserved(failure);
 	CHECK(first && first->number() == 0 && first->write(70, failure) == 0);
 	CHECK(first->read(failure) == 70 && !hands.get_reserved(failure) && !failure);
+	REFUSED(errc::no_notes, first->note(70, CODE));
 	tags::shared_tag second = hands.get_blocking(failure);
 	std::optional<tags::shared_tag> third = hands.try_get_for(0ns, failure);
 	CHECK(second && third && !hands.get(failure) && !hands.try_get_for(2ms, failure));

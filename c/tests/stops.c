@@ -17,32 +17,31 @@
 
 #include <tags.h>
 
-enum wait { BLOCKING, TIMED, EVENT, FUNCTION, JOIN, JOIN_TIMED, WAITS };
+#include "checks.h"
 
-static uint64_t wrong;
+enum wait {
+	BLOCKING,
+	TIMED,
+	EVENT,
+	FUNCTION,
+	RESERVED,
+	RESERVED_TIMED,
+	RESERVED_EVENT,
+	NEXT,
+	NEXT_TIMED,
+	NEXT_EVENT,
+	NEXT_FUNCTION,
+	JOIN,
+	JOIN_TIMED,
+	WAITS
+};
+
 static struct tags_pool pool;
 static struct tags_hand holder, hands[WAITS];
 static int events[WAITS];
 /* why the pool was stopped: plain */
 static int reason;
 static sigset_t signals;
-
-static void check(bool is_well, const char *what)
-{
-	if (is_well)
-		return;
-	__atomic_fetch_add(&wrong, 1, __ATOMIC_RELAXED);
-	fprintf(stderr, "wrong: %s\n", what);
-}
-
-#define CHECK(what) check(what, #what)
-
-static void nap(long us)
-{
-	struct timespec time = { us / 1000000, us % 1000000 * 1000 };
-
-	nanosleep(&time, NULL);
-}
 
 static void sleep_on(int event)
 {
@@ -80,6 +79,26 @@ static int32_t wait_in(enum wait how)
 		while ((answer = tags_get_notified(hand, call, &events[how])) == TAGS_NO_TAG)
 			sleep_on(events[how]);
 		return answer;
+	case RESERVED:
+		return tags_get_reserved_blocking(hand);
+	case RESERVED_TIMED:
+		return tags_get_reserved_timed(hand, CLOCK_MONOTONIC, &end);
+	case RESERVED_EVENT:
+		while ((answer = tags_get_reserved_async(hand, events[how])) == TAGS_NO_TAG)
+			sleep_on(events[how]);
+		return answer;
+	case NEXT:
+		return tags_next_blocking(hand, 1);
+	case NEXT_TIMED:
+		return tags_next_timed(hand, 1, CLOCK_MONOTONIC, &end);
+	case NEXT_EVENT:
+		while ((answer = tags_next_async(hand, 1, events[how])) == TAGS_NO_TAG)
+			sleep_on(events[how]);
+		return answer;
+	case NEXT_FUNCTION:
+		while ((answer = tags_next_notified(hand, 1, call, &events[how])) == TAGS_NO_TAG)
+			sleep_on(events[how]);
+		return answer;
 	case JOIN:
 		return tags_join_blocking(&pool, hand, 0);
 	default:
@@ -100,11 +119,12 @@ static void *run(void *argument)
 
 static void set_up(void)
 {
-	const struct tags_options options = { .total = 1, .hands = 1 + JOIN };
+	const struct tags_options options = { .total = 2, .reserved = 1, .hands = 1 + JOIN, .queues = 2 };
 
 	reason = 0;
 	CHECK(tags_open(&pool, &options) == TAGS_OK);
-	CHECK(tags_join(&pool, &holder, 0) == TAGS_OK && tags_get(&holder) == 0);
+	CHECK(tags_join(&pool, &holder, 0) == TAGS_OK);
+	CHECK(tags_get_reserved(&holder) == 0 && tags_get(&holder) == 1);
 	for (int i = 0; i < JOIN; i++)
 		CHECK(tags_join(&pool, &hands[i], 0) == TAGS_OK);
 	for (int i = 0; i < WAITS; i++)
@@ -115,7 +135,7 @@ static void tear_down(void)
 {
 	struct tags_sums sums;
 
-	CHECK(tags_clear(&holder, 0) == TAGS_OK);
+	CHECK(tags_clear(&holder, 0) == TAGS_OK && tags_clear(&holder, 1) == TAGS_OK);
 	tags_leave(&holder);
 	for (int i = 0; i < WAITS; i++)
 		close(events[i]);

@@ -8,6 +8,7 @@
 #include <pthread.h>
 #include <stdio.h>
 #include <stdlib.h>
+#include <time.h>
 
 #include <tags.h>
 
@@ -16,10 +17,17 @@
 
 int32_t get(struct tags_hand *hand) SYMBOL(tags_get);
 int32_t get_batch(struct tags_hand *hand, uint32_t n, uint64_t *won) SYMBOL(tags_get_batch);
+int32_t get_many(struct tags_hand *hand, uint32_t *tags, size_t count) SYMBOL(tags_get_many);
+int32_t get_reserved_timed(struct tags_hand *hand, int32_t clock, const struct timespec *deadline)
+	SYMBOL(tags_get_reserved_timed);
+int32_t get_reserved_async(struct tags_hand *hand, int descriptor) SYMBOL(tags_get_reserved_async);
 int32_t clear(struct tags_hand *hand, uint32_t tag) SYMBOL(tags_clear);
+int32_t note(struct tags_hand *hand, uint32_t tag, uint64_t value) SYMBOL(tags_note);
 int32_t clear_mask(struct tags_hand *hand, uint32_t first, uint64_t mask) SYMBOL(tags_clear_mask);
 int32_t post_mask(struct tags_hand *hand, uint32_t first, uint64_t mask) SYMBOL(tags_post_mask);
 int32_t take_mask(struct tags_hand *hand, uint32_t first, uint64_t mask) SYMBOL(tags_take_mask);
+int32_t submit(struct tags_hand *hand, uint32_t tag) SYMBOL(tags_submit);
+int32_t next(struct tags_hand *hand, uint32_t queue) SYMBOL(tags_next);
 
 /* The reserved tags, 0 and 1, are always posted, or in use by a thread that took both. */
 enum { TOTAL = 10, RESERVED = 2, BOTH = 3, THREADS = 4, JOINS = 20 };
@@ -57,6 +65,22 @@ static uint64_t use_batch(struct tags_hand *hand)
 	return count;
 }
 
+/* Uses three tags, or none. */
+static uint64_t use_many(struct tags_hand *hand)
+{
+	uint32_t tags[3];
+	int32_t status = get_many(hand, tags, 3);
+
+	if (status == TAGS_NO_TAG)
+		return 0;
+	must("tags_get_many", status);
+	for (int i = 0; i < 3; i++) {
+		used[tags[i]]++;
+		must("tags_clear", clear(hand, tags[i]));
+	}
+	return 3;
+}
+
 static uint64_t use_tag(struct tags_hand *hand)
 {
 	int32_t tag = get(hand);
@@ -65,6 +89,7 @@ static uint64_t use_tag(struct tags_hand *hand)
 		return 0;
 	must("tags_get", tag);
 	used[tag]++;
+	must("tags_note", note(hand, (uint32_t)tag, (uint32_t)tag));
 	must("tags_clear", clear(hand, (uint32_t)tag));
 	return 1;
 }
@@ -82,6 +107,33 @@ static uint64_t use_posted(struct tags_hand *hand)
 	return 2;
 }
 
+/* A tag goes through the queue, and another one may come out of that. */
+static uint64_t use_queued(struct tags_hand *hand)
+{
+	int32_t tag = get(hand);
+
+	if (tag == TAGS_NO_TAG)
+		return 0;
+	must("tags_get", tag);
+	used[tag]++;
+	must("tags_submit", submit(hand, (uint32_t)tag));
+	/* a call may find none while others come and go */
+	while ((tag = next(hand, 0)) == TAGS_NO_TAG)
+		;
+	must("tags_next", tag);
+	used[tag]++;
+	must("tags_clear", clear(hand, (uint32_t)tag));
+	return 2;
+}
+
+/* A tag that has no note. */
+static int is_plain(uint32_t tag, const struct tags_noted *note, void *unused)
+{
+	(void)unused;
+	wrong += tag >= RESERVED || note;
+	return 0;
+}
+
 static void *work(void *count)
 {
 	uint64_t uses = 0;
@@ -91,7 +143,8 @@ static void *work(void *count)
 
 		must("tags_join", tags_join(&pool, &hand, 0));
 		for (long i = 0; i < rounds; i++)
-			uses += use_batch(&hand) + use_tag(&hand) + use_posted(&hand);
+			uses += use_batch(&hand) + use_many(&hand) + use_tag(&hand) +
+				use_posted(&hand) + use_queued(&hand);
 		must("tags_leave", tags_leave(&hand));
 	}
 	*(uint64_t *)count = uses;
@@ -100,11 +153,13 @@ static void *work(void *count)
 
 static void post_reserved(void)
 {
+	const struct timespec past = { 0, 0 };
 	struct tags_hand hand = TAGS_EMPTY;
 
 	must("tags_join", tags_join(&pool, &hand, 0));
-	for (int i = 0; i < RESERVED; i++)
-		must("tags_get_reserved", tags_get_reserved(&hand));
+	must("tags_get_reserved_timed", get_reserved_timed(&hand, CLOCK_MONOTONIC, &past));
+	must("tags_get_reserved_async", get_reserved_async(&hand, 0));
+	wrong += get_reserved_timed(&hand, CLOCK_MONOTONIC, &past) != TAGS_TIMED_OUT;
 	must("tags_post_mask", post_mask(&hand, 0, BOTH));
 	must("tags_leave", tags_leave(&hand));
 }
@@ -116,6 +171,8 @@ int main(int argc, char **argv)
 		.reserved = RESERVED,
 		.shift = 2,
 		.hands = THREADS,
+		.flags = TAGS_NOTES,
+		.queues = 1,
 	};
 	uint64_t counts[THREADS], uses = 0;
 	pthread_t ids[THREADS];
@@ -132,6 +189,8 @@ int main(int argc, char **argv)
 		pthread_join(ids[i], NULL);
 		uses += counts[i];
 	}
+	/* the reserved tags are posted, and were never noted */
+	wrong += tags_pool_each_noted(&pool, is_plain, NULL) != RESERVED;
 	must("tags_close", tags_close(&pool, &sums));
 	for (int i = 0; i < TOTAL; i++)
 		uses -= used[i];

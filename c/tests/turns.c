@@ -17,6 +17,8 @@
 
 #include <tags.h>
 
+#include "checks.h"
+
 enum { SLEEPERS = 6, HANDS = 3, WORKERS = 2, POOLS = 40, DRAINS = 3 };
 
 struct sleeper {
@@ -30,30 +32,13 @@ struct sleeper {
 	struct tags_hand hand;
 };
 
-static uint64_t wrong;
 static long pairs = 100000;
 static struct tags_pool pool;
 static struct tags_hand hands[HANDS];
 static int places;
 
-static void check(bool is_well, const char *what)
-{
-	if (is_well)
-		return;
-	__atomic_fetch_add(&wrong, 1, __ATOMIC_RELAXED);
-	fprintf(stderr, "wrong: %s\n", what);
-}
-
-#define CHECK(what) check(what, #what)
 #define LOAD(what) __atomic_load_n(what, __ATOMIC_SEQ_CST)
 #define STORE(what, value) __atomic_store_n(what, value, __ATOMIC_SEQ_CST)
-
-static void nap(long ms)
-{
-	struct timespec time = { ms / 1000, ms % 1000 * 1000000 };
-
-	nanosleep(&time, NULL);
-}
 
 static double now(void)
 {
@@ -63,35 +48,51 @@ static double now(void)
 	return (double)time.tv_sec + (double)time.tv_nsec / 1e9;
 }
 
-/* How often a thread has given up the processor. */
-static long switches_of(long task)
+/* Copies what /proc says of a thread after a name, up to the end of the line. Returns whether it says anything. */
+static bool read_status(long task, const char *name, char *found, size_t room)
 {
-	const char name[] = "voluntary_ctxt_switches:";
 	char path[64], line[256];
-	long found = -1;
+	bool is_there = false;
 	FILE *file;
 
 	snprintf(path, sizeof(path), "/proc/self/task/%ld/status", task);
 	file = fopen(path, "r");
-	while (file && fgets(line, sizeof(line), file))
-		if (strncmp(line, name, strlen(name)) == 0)
-			found = strtol(line + strlen(name), NULL, 10);
+	while (file && !is_there && fgets(line, sizeof(line), file)) {
+		is_there = strncmp(line, name, strlen(name)) == 0;
+		if (is_there)
+			snprintf(found, room, "%s", line + strlen(name));
+	}
 	if (file)
 		fclose(file);
-	return found;
+	return is_there;
 }
 
-/* Until a thread has slept for a while. */
+/* How often a thread has given up the processor. */
+static long switches_of(long task)
+{
+	char found[64];
+
+	return read_status(task, "voluntary_ctxt_switches:", found, sizeof(found)) ? strtol(found, NULL, 10) : -1;
+}
+
+static bool is_asleep(long task)
+{
+	char found[64];
+
+	return read_status(task, "State:", found, sizeof(found)) && found[strspn(found, " \t")] == 'S';
+}
+
+/* Until a thread has slept for a while. One that is only kept from the processor doesn't sleep. */
 static void await_sleep(const long *task)
 {
-	long before = -1;
+	long before;
 
 	while (LOAD(task) == 0)
-		nap(1);
-	while (switches_of(LOAD(task)) != before) {
+		nap(1000);
+	do {
 		before = switches_of(LOAD(task));
-		nap(20);
-	}
+		nap(20000);
+	} while (switches_of(LOAD(task)) != before || !is_asleep(LOAD(task)));
 }
 
 static void open_pool(uint32_t n)
@@ -126,9 +127,18 @@ static void *join_and_leave(void *argument)
 		CHECK(tags_join_blocking(&pool, &self->hand, 0) == TAGS_OK);
 	STORE(&self->place, __atomic_add_fetch(&places, 1, __ATOMIC_SEQ_CST));
 	while (!LOAD(&self->may_leave))
-		nap(1);
+		nap(1000);
 	CHECK(tags_leave(&self->hand) == TAGS_OK);
 	return NULL;
+}
+
+/* Waits until a sleeper has its hand, or as many others as come before it have theirs. Returns whether it has. */
+static bool await_hand(const struct sleeper *sleeper, int most)
+{
+	while (LOAD(&sleeper->place) == 0 && LOAD(&places) < most)
+		nap(1000);
+	nap(5000);
+	return LOAD(&sleeper->place) != 0;
 }
 
 /* All hands are out, and the sleepers begin to wait one after another. */
@@ -169,10 +179,7 @@ static void wake_one_for_each_hand(void)
 			CHECK(tags_leave(&hands[first]) == TAGS_OK);
 		else
 			STORE(&sleepers[first - HANDS].may_leave, true);
-		while (LOAD(&sleepers[first].place) == 0)
-			nap(1);
-		nap(5);
-		CHECK(sleepers[first].place == first + 1);
+		CHECK(await_hand(&sleepers[first], first + 1) && sleepers[first].place == first + 1);
 		for (int i = first + 1; i < SLEEPERS; i++)
 			CHECK(switches_of(sleepers[i].task) == before[i]);
 	}
@@ -189,15 +196,16 @@ static void keep_turns(void)
 		CHECK(tags_leave(&hands[0]) == TAGS_OK);
 		if (tags_join(&pool, &hands[0], 0) != TAGS_OK)
 			break;
-		nap(1);
+		/* while it has not looked yet, the next hand that leaves would wake the second one */
+		await_sleep(&sleepers[0].task);
 	}
 	for (int i = 0; i < HANDS; i++)
 		if (hands[i].full)
 			CHECK(tags_leave(&hands[i]) == TAGS_OK);
 	for (int i = 0; i < SLEEPERS; i++) {
-		while (LOAD(&sleepers[i].place) == 0)
-			nap(1);
-		CHECK(sleepers[i].place <= i / HANDS * HANDS + HANDS);
+		const int most = i / HANDS * HANDS + HANDS;
+
+		CHECK(await_hand(&sleepers[i], most) && sleepers[i].place <= most);
 		if (i % HANDS == HANDS - 1)
 			for (int k = i + 1 - HANDS; k <= i; k++)
 				STORE(&sleepers[k].may_leave, true);
@@ -231,7 +239,7 @@ static void wake_those_of_each_pool(void)
 		CHECK(tags_join(&many[i].pool, &many[i].hand, 0) == TAGS_OK);
 		CHECK(pthread_create(&many[i].id, NULL, join_one, &many[i].pool) == 0);
 	}
-	nap(20);
+	nap(20000);
 	for (int i = POOLS - 1; i >= 0; i--) {
 		CHECK(tags_leave(&many[i].hand) == TAGS_OK);
 		pthread_join(many[i].id, NULL);
@@ -295,7 +303,7 @@ static void drain_in_peace(void)
 		CHECK(pthread_create(&workers[i], NULL, use_tags, NULL) == 0);
 	for (int i = 0; i < WORKERS; i++)
 		pthread_join(workers[i], NULL);
-	nap(5);
+	nap(5000);
 	for (int i = 0; i < DRAINS; i += 2)
 		CHECK((double)(switches_of(tasks[i]) - before[i]) < 100 + 4000 * (now() - start));
 	CHECK(switches_of(tasks[1]) == before[1]);

@@ -40,6 +40,14 @@ static int note(uint32_t tag, void *bits)
 	return 0;
 }
 
+/* Adds up the tags, and of those with a note the notes, a thousand times. */
+static int add_up(uint32_t tag, const struct tags_noted *note, void *sum)
+{
+	*(uint64_t *)sum += tag + (note ? 1000 * note->value : 0);
+	WANT(!note || note->since > 0, 1);
+	return 0;
+}
+
 static void count_call(void *calls)
 {
 	++*(uint64_t *)calls;
@@ -55,6 +63,7 @@ static int stop_at(uint32_t tag, void *found)
 static void run_through_all_calls(void)
 {
 	const uint32_t pair[] = { 3, 4 };
+	uint32_t nine[9];
 	struct tags_pool pool = TAGS_EMPTY;
 	struct tags_hand hand = TAGS_EMPTY;
 	struct tags_hand other = TAGS_EMPTY;
@@ -112,8 +121,8 @@ static void run_through_all_calls(void)
 	WANT(sizes.busy, 1);
 	WANT(sizes.cleared, 1);
 	WANT(sizes.words, 3);
-	for (int32_t tag = 1; tag <= 9; tag++)
-		WANT(tags_get(&other) >= 2, 1);
+	WANT(tags_get_many(&other, nine, 9), TAGS_OK);
+	WANT(tags_get_many(&other, nine, 1), TAGS_NO_TAG);
 	WANT(tags_get_notified(&other, count_call, &value), TAGS_NO_TAG);
 	WANT(tags_waiting(&hand), 1);
 	value = 0;
@@ -123,12 +132,20 @@ static void run_through_all_calls(void)
 	WANT(tags_get_notified(&other, count_call, &value), 5);
 	WANT(tags_pool_waiting(&pool), 0);
 	WANT(tags_cancel(&other), TAGS_NOT_WAITING);
+	WANT(tags_get_reserved_blocking(&other), 1);
+	WANT(tags_get_reserved_notified(&other, count_call, &value), TAGS_NO_TAG);
+	WANT(tags_get_notified(&other, count_call, &value), TAGS_WAITING);
+	value = 0;
+	WANT(tags_clear(&other, 1), 0);
+	WANT(value, 1);
+	WANT(tags_get_reserved_notified(&other, count_call, &value), 1);
+	WANT(tags_clear(&other, 1), 0);
 	WANT(tags_leave(&hand), TAGS_OK);
 	WANT(tags_close(&pool, &sums), TAGS_HANDS_OUT);
 	WANT(tags_leave(&other), TAGS_OK);
 	WANT(tags_close(&pool, &sums), TAGS_OK);
-	WANT(sums.got, 19);
-	WANT(sums.back, 8);
+	WANT(sums.got, 21);
+	WANT(sums.back, 10);
 	WANT(sums.held, 11);
 	WANT(sums.posted, 0);
 	WANT(tags_close(&pool, &sums), TAGS_BAD_HANDLE);
@@ -310,9 +327,48 @@ static void keep_some(void)
 	WANT((int32_t)sums.back, 6);
 }
 
+/* Tags 2 to 4 are busy, and have one note at most: it ends when its tag goes back, and passes on with it. */
+static void note_one(void)
+{
+	struct tags_options options = twelve;
+	struct tags_pool pool = TAGS_EMPTY;
+	struct tags_hand hand = TAGS_EMPTY;
+	struct tags_hand other = TAGS_EMPTY;
+	struct tags_sums sums;
+	uint64_t sum = 0;
+
+	options.flags = TAGS_NOTES;
+	WANT(tags_open(&pool, &options), TAGS_OK);
+	WANT(tags_join(&pool, &hand, TAGS_STAY), TAGS_OK);
+	WANT(tags_join(&pool, &other, TAGS_STAY), TAGS_OK);
+	for (int32_t tag = 2; tag < 5; tag++)
+		WANT(tags_get(&hand), tag);
+	WANT(tags_note(&hand, 3, 50), TAGS_OK);
+	WANT(tags_note(&hand, 3, 60), TAGS_OK);
+	WANT(tags_note(&other, 4, 70), TAGS_NOT_HELD);
+	WANT(tags_pool_each_noted(&pool, add_up, &sum), 3);
+	WANT(sum, 60009);
+	WANT(tags_post(&hand, 3), TAGS_OK);
+	WANT(tags_take(&other, 3), TAGS_OK);
+	WANT(tags_clear(&hand, 3), TAGS_NOT_HELD);
+	sum = 0;
+	WANT(tags_pool_each_noted(&pool, add_up, &sum), 3);
+	WANT(sum, 60009);
+	WANT(tags_clear(&other, 3), TAGS_OK);
+	WANT(tags_get_exactly(&hand, 3), 3);
+	sum = 0;
+	WANT(tags_pool_each_noted(&pool, add_up, &sum), 3);
+	WANT(sum, 9);
+	WANT(tags_leave(&hand), TAGS_OK);
+	WANT(tags_leave(&other), TAGS_OK);
+	WANT(tags_close(&pool, &sums), TAGS_OK);
+	WANT(sums.held, 3);
+}
+
 int main(void)
 {
 	run_through_all_calls();
+	note_one();
 	go_on_with_more_tags();
 	choose_words();
 	choose_words_by_hands();

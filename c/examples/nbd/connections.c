@@ -46,7 +46,7 @@ void reply(struct connection *connection, const struct header *header, enum faul
 	pthread_mutex_unlock(&connection->lock);
 }
 
-/* Replies to a request that was refused before it was posted. */
+/* Replies to a request that was refused before it was submitted. */
 void reply_refused(struct connection *connection, const struct header *header, enum fault fault)
 {
 	pthread_mutex_lock(&connection->lock);
@@ -127,11 +127,15 @@ void start_reader(struct connection *connection, int fd)
 		give_up("pthread_create", "no thread");
 }
 
-/* Each reader stops where it is, waits for the replies to what it has posted, and ends. */
+/*
+ * Each reader stops where it is, waits for the replies to what it has submitted, and ends. The stop ends the waits of
+ * workers, too, who are to wait on meanwhile.
+ */
 void stop_readers(struct server *server)
 {
 	__atomic_store_n(&server->is_stopping, 1, __ATOMIC_RELAXED);
 	must("tags_stop", tags_stop(&server->pool));
+	must("tags_resume", tags_resume(&server->pool));
 	pthread_mutex_lock(&server->lock);
 	for (uint32_t i = 0; i < server->settings.connections; i++)
 		if (server->connections[i].fd >= 0)

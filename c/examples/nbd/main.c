@@ -112,8 +112,10 @@ static void open_server(void)
 	struct tags_options options = {
 		.total = settings->tags + settings->reserved,
 		.reserved = settings->reserved,
-		.hands = settings->connections + settings->workers,
+		.hands = settings->connections + settings->workers + HAS_URING,
 		.cache = settings->cache,
+		.flags = TAGS_NOTES,
+		.queues = 1,
 	};
 
 	open_store(&server.store, settings);
@@ -124,7 +126,7 @@ static void open_server(void)
 	must("tags_open", tags_open(&server.pool, &options));
 	open_connections(&server);
 	start_workers(&server);
-	/* it passes tags on to the queue; the workers look at this once a reader has passed one on */
+	/* the workers look at this once a reader has submitted a tag */
 	server.has_uring = has_uring(settings);
 }
 

@@ -20,7 +20,7 @@ static const char USAGE[] =
 	"  --reserved N     tags for FLUSH and DISC alone, from 0 [2]\n"
 	"  --cache N        tags that a worker keeps, 0 to 64 [0]\n"
 	"  --workers N      threads that carry requests out, 1 to 16 [4]\n"
-	"  --connections N  most connections at once, 1 to 48; more wait [16]\n"
+	"  --connections N  most connections at once, 1 to 47; more wait [16]\n"
 	"  --seconds N      most time that a client may stop in the middle of a message, 1 to 3600 [10]\n";
 
 enum name { UNIX, PORT, MEMORY, STORED, IO, TAGS, RESERVED, CACHE, WORKERS, CONNECTIONS, SECONDS };

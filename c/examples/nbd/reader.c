@@ -1,6 +1,6 @@
 /*
  * reader.c - the thread of a connection: it shakes hands, and then reads one request
- * after another, gets a tag for each, and posts it to the workers.
+ * after another, gets a tag for each, and submits it to the workers.
  */
 #include "server.h"
 
@@ -60,16 +60,20 @@ static int receive_header(int fd, struct header *header)
 	return 1;
 }
 
-/* A flush and a disconnect get a reserved tag, and so pass requests for which no tag is free. */
+/*
+ * A flush and a disconnect get a reserved tag, and so pass requests that wait for an ordinary one. While all
+ * reserved ones are in use they wait for one of these, also where an ordinary one is free: so no more flushes
+ * are in flight than there are reserved tags, and as many workers at most are in one.
+ */
 static int32_t get_tag(struct tags_hand *hand, uint16_t command)
 {
-	if (command == COMMAND_FLUSH || command == COMMAND_DISC) {
-		int32_t tag = tags_get_reserved(hand);
+	int32_t tag = TAGS_NO_RESERVED;
 
-		if (tag >= 0)
-			return tag;
-	}
-	return tags_get_blocking(hand);
+	if (command == COMMAND_FLUSH || command == COMMAND_DISC)
+		tag = tags_get_reserved(hand);
+	if (tag == TAGS_NO_TAG)
+		tag = tags_get_reserved_blocking(hand);
+	return tag == TAGS_NO_RESERVED ? tags_get_blocking(hand) : tag;
 }
 
 /* A reader may go idle after this, so it keeps no tag. */
@@ -89,18 +93,7 @@ static int has_room(struct request *request, uint32_t size)
 	return request->buffer != NULL;
 }
 
-static void post(struct connection *connection, uint32_t tag)
-{
-	struct server *server = connection->server;
-	struct request *request = &server->requests[tag];
-
-	__atomic_add_fetch(&connection->pending, 1, __ATOMIC_RELAXED);
-	must("tags_write", tags_write(&connection->hand, tag, (uintptr_t)request, NULL));
-	must("tags_post", tags_post(&connection->hand, tag));
-	pass_on(server, tag, NOT_BEGUN);
-}
-
-/* Fills the request of a tag, and posts the tag. Returns whether the next one can be read. */
+/* Fills the request of a tag, and submits the tag. Returns whether the next one can be read. */
 static int submit(struct connection *connection, uint32_t tag, const struct header *header)
 {
 	struct request *request = &connection->server->requests[tag];
@@ -109,7 +102,8 @@ static int submit(struct connection *connection, uint32_t tag, const struct head
 	request->header = *header;
 	request->connection = connection;
 	request->done = 0;
-	show(request);
+	request->result = NOT_BEGUN;
+	note_request(connection, tag, header->command);
 	if (has_data && !has_room(request, header->length)) {
 		give_up_request(connection, tag);
 		return refuse(connection, header, FAULT_MEMORY);
@@ -118,7 +112,9 @@ static int submit(struct connection *connection, uint32_t tag, const struct head
 		give_up_request(connection, tag);
 		return 0;
 	}
-	post(connection, tag);
+	__atomic_add_fetch(&connection->pending, 1, __ATOMIC_RELAXED);
+	must("tags_write", tags_write(&connection->hand, tag, (uintptr_t)request, NULL));
+	must("tags_submit", tags_submit(&connection->hand, tag));
 	return header->command != COMMAND_DISC;
 }
 

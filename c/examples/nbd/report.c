@@ -12,33 +12,29 @@ static const char *const NAMES[] = {
 	[COMMAND_FLUSH] = "FLUSH", [COMMAND_TRIM] = "TRIM",   [COMMAND_WRITE_ZEROES] = "WRITE_ZEROES",
 };
 
-static uint64_t milliseconds(void)
+static uint64_t nanoseconds(void)
 {
 	struct timespec time;
 
 	clock_gettime(CLOCK_MONOTONIC, &time);
-	return (uint64_t)time.tv_sec * 1000 + (uint64_t)time.tv_nsec / 1000000;
+	return (uint64_t)time.tv_sec * 1000000000 + (uint64_t)time.tv_nsec;
 }
 
-/* Only the holder may look into a request, so what others see of it is one word of its own. */
-void show(struct request *request)
+/* Only the holder may look into a request, so what others see of it is the note of its tag. */
+void note_request(struct connection *connection, uint32_t tag, uint16_t command)
 {
-	const struct connection *connection = request->connection;
 	uint64_t place = (uint64_t)(connection - connection->server->connections);
-	uint64_t word = milliseconds() << 16 | place << 8 | (uint64_t)request->header.command << 1 | 1;
 
-	__atomic_store_n(&request->shown, word, __ATOMIC_RELAXED);
+	must("tags_note", tags_note(&connection->hand, tag, place << 8 | command));
 }
 
-/* A tag that a hand keeps, or that has just been got or given back, has no request. */
-static int report_tag(uint32_t tag, void *requests)
+/* A tag that a hand keeps, or that has just been got, has no note. */
+static int report_tag(uint32_t tag, const struct tags_noted *note, void *unused)
 {
-	const struct request *request = (const struct request *)requests + tag;
-	uint64_t word = __atomic_load_n(&request->shown, __ATOMIC_RELAXED);
-
-	if (word)
-		printf("tag %" PRIu32 ": connection %d, %s, %" PRIu64 " ms\n", tag, (int)(word >> 8 & 0xff),
-		       NAMES[word >> 1 & 0x7f], milliseconds() - (word >> 16));
+	(void)unused;
+	if (note)
+		printf("tag %" PRIu32 ": connection %" PRIu64 ", %s, %" PRIu64 " ms\n", tag, note->value >> 8,
+		       NAMES[note->value & 0xff], (nanoseconds() - note->since) / 1000000);
 	return 0;
 }
 
@@ -53,20 +49,28 @@ static uint32_t open_count(struct server *server)
 	return count;
 }
 
+/* The readers that wait for a tag: a worker that is idle waits in the queue. */
+static uint32_t waiting_count(struct server *server)
+{
+	const uint32_t waiting = (uint32_t)must("tags_pool_waiting", tags_pool_waiting(&server->pool));
+	const uint32_t idle = __atomic_load_n(&server->idle, __ATOMIC_RELAXED);
+
+	return waiting > idle ? waiting - idle : 0;
+}
+
 /* This needs no hand, and stops nobody. */
 void report_busy(struct server *server)
 {
-	const int32_t waiting = tags_pool_waiting(&server->pool);
+	const uint32_t waiting = waiting_count(server);
 	struct tags_sizes ordinary;
 	struct tags_sizes reserved;
 
 	must("tags_pool_show", tags_pool_show(&server->pool, TAGS_ORDINARY, &ordinary));
 	must("tags_pool_show", tags_pool_show(&server->pool, TAGS_RESERVED, &reserved));
-	must("tags_pool_waiting", waiting);
 	printf("busy: ordinary %" PRIu32 "/%" PRIu32 ", reserved %" PRIu32 "/%" PRIu32 "; connections %" PRIu32
-	       ", of which %" PRId32 " wait for a tag\n", ordinary.busy, ordinary.depth, reserved.busy,
+	       ", of which %" PRIu32 " wait for a tag\n", ordinary.busy, ordinary.depth, reserved.busy,
 	       reserved.depth, open_count(server), waiting);
-	must("tags_pool_each_busy", tags_pool_each_busy(&server->pool, report_tag, server->requests));
+	must("tags_pool_each_noted", tags_pool_each_noted(&server->pool, report_tag, NULL));
 	fflush(stdout);
 }
 

@@ -3,7 +3,7 @@
  * a tag of one pool, and the slot of the tag is the address of the request.
  *
  * Each connection has a thread that reads requests. It gets a tag for each, and sleeps
- * while none is free, so that the client's socket fills; then it posts the tag to the
+ * while none is free, so that the client's socket fills; then it submits the tag to the
  * workers. A worker takes it, carries the request out, replies, and clears the tag.
  */
 #ifndef SERVER_H
@@ -17,7 +17,8 @@
 
 #include "protocol.h"
 
-enum { MAX_WORKERS = 16, MAX_CONNECTIONS = TAGS_MAX_HANDS - MAX_WORKERS };
+/* The thread behind io_uring has a hand, too. */
+enum { MAX_WORKERS = 16, MAX_CONNECTIONS = TAGS_MAX_HANDS - MAX_WORKERS - 1 };
 
 /* Who waits for the disk: by default io_uring if the device is a file, where there is one. */
 enum io { IO_BY_DEFAULT, IO_URING, IO_WORKERS };
@@ -51,33 +52,11 @@ struct store {
 	uint64_t size;
 };
 
-/* A posted tag: nothing of its request has begun, or io_uring has come to a result. */
-struct posted {
-	uint32_t tag;
-	/* NOT_BEGUN, or bytes that it has read, or an errno below 0 */
-	int32_t result;
-};
+/* The pool's one queue: of tags on their way to a worker. */
+enum { QUEUE = 0 };
 
+/* A request of which nothing has begun. */
 enum { NOT_BEGUN = INT32_MIN };
-
-/* In the order in which they came. There is room for every tag, so it is never full. */
-struct ring {
-	struct posted *entries;
-	uint32_t room;
-	uint32_t first;
-	uint32_t count;
-};
-
-/* Posted tags on their way to a worker: those of reserved tags go first. */
-struct queue {
-	pthread_mutex_t lock;
-	pthread_cond_t filled;
-	struct ring urgent;
-	struct ring ordinary;
-	/* workers that wait for it */
-	uint32_t idle;
-	int has_ended;
-};
 
 /* What a reader received of a request. */
 struct header {
@@ -96,8 +75,8 @@ struct request {
 	uint32_t size;
 	/* bytes that a READ found in memory, before the rest was left to io_uring */
 	uint32_t done;
-	/* what report_busy() shows, which reads it without holding the tag; 0 if it is done */
-	uint64_t shown;
+	/* of io_uring: NOT_BEGUN, or bytes that it has read, or an errno below 0 */
+	int32_t result;
 };
 
 struct worker {
@@ -128,9 +107,12 @@ struct server {
 	struct settings settings;
 	struct tags_pool pool;
 	struct store store;
-	struct queue queue;
 	/* whether io_uring waits for the disk */
 	int has_uring;
+	/* workers that wait for a tag */
+	uint32_t idle;
+	/* no reader is left, so a stop ends the workers */
+	int is_at_end;
 	struct request *requests;
 	struct worker workers[MAX_WORKERS];
 	/* of states and descriptors of the connections */
@@ -151,7 +133,7 @@ void read_settings(struct settings *settings, int count, char **arguments);
 /* store.c */
 void open_store(struct store *store, const struct settings *settings);
 int takes_disk(const struct store *store, struct request *request);
-enum fault carry_out(const struct store *store, const struct request *request, int32_t result);
+enum fault carry_out(const struct store *store, const struct request *request);
 
 /* uring.c */
 const char *open_uring(struct server *server);
@@ -161,7 +143,6 @@ void close_uring(void);
 /* workers.c */
 void start_workers(struct server *server);
 void end_workers(struct server *server);
-void pass_on(struct server *server, uint32_t tag, int32_t result);
 void give_back(struct tags_hand *hand, uint32_t tag, struct request *request);
 
 /* wire.c */
@@ -188,7 +169,7 @@ void reply(struct connection *connection, const struct header *header, enum faul
 void reply_refused(struct connection *connection, const struct header *header, enum fault fault);
 
 /* report.c */
-void show(struct request *request);
+void note_request(struct connection *connection, uint32_t tag, uint16_t command);
 void report_busy(struct server *server);
 int report_sums(const struct tags_sums *sums);
 

@@ -140,9 +140,10 @@ int takes_disk(const struct store *store, struct request *request)
  * Carries a request out whose offset and length are within the device, from where io_uring came,
  * if it has begun. Whether a READ has failed this finds itself.
  */
-enum fault carry_out(const struct store *store, const struct request *request, int32_t result)
+enum fault carry_out(const struct store *store, const struct request *request)
 {
 	const struct header *header = &request->header;
+	const int32_t result = request->result;
 	size_t done = request->done + (result > 0 ? (size_t)result : 0);
 	enum fault fault;
 

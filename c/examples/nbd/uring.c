@@ -2,7 +2,8 @@
  * uring.c - io_uring waits for the disk in place of a worker: for a FLUSH, and for what a READ
  * does not find in memory. So as many requests can wait for it as there are tags, and not only
  * one for each worker. The worker posts the tag again, and submits the request with the tag as its
- * user_data. A thread puts each completion into the queue, where a worker finds the tag again.
+ * user_data. A thread takes the tag of each completion, puts the result into the request, and
+ * submits the tag to the workers once more.
  */
 #include "server.h"
 
@@ -19,6 +20,7 @@ static const uint64_t END = UINT64_MAX;
 static struct io_uring uring;
 static pthread_mutex_t submitting = PTHREAD_MUTEX_INITIALIZER;
 static pthread_t reaper;
+static struct tags_hand hand;
 
 static struct io_uring_cqe *wait_for_one(void)
 {
@@ -33,7 +35,13 @@ static struct io_uring_cqe *wait_for_one(void)
 	return found;
 }
 
-/* It takes no tag, so it needs no hand. */
+static void pass_on(struct server *server, uint32_t tag, int32_t result)
+{
+	must("tags_take", tags_take(&hand, tag));
+	server->requests[tag].result = result;
+	must("tags_submit", tags_submit(&hand, tag));
+}
+
 static void *reap(void *server)
 {
 	struct io_uring_cqe *found;
@@ -42,6 +50,7 @@ static void *reap(void *server)
 		pass_on(server, (uint32_t)found->user_data, found->res);
 		io_uring_cqe_seen(&uring, found);
 	}
+	must("tags_leave", tags_leave(&hand));
 	return NULL;
 }
 
@@ -57,6 +66,7 @@ const char *open_uring(struct server *server)
 		io_uring_queue_exit(&uring);
 		return "the kernel is older than 5.6";
 	}
+	must("tags_join", tags_join(&server->pool, &hand, 0));
 	if (pthread_create(&reaper, NULL, reap, server) != 0)
 		give_up("pthread_create", "no thread");
 	return NULL;

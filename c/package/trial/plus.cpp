@@ -1,15 +1,19 @@
-// tags.h in a program in C++17, in which no member is set by its name.
+// tags.h in a program in C++17, which has no designated initializers: it sets the members that it needs, so that a new
+// member costs it no change.
 #include <tags.h>
 
 #include <cstdio>
 
 int main()
 {
-	tags_options options = { 16, 2, 0, 0, 2, 0, 0 };
+	tags_options options {};
 	tags_pool pool = TAGS_EMPTY;
 	tags_hand hand = TAGS_EMPTY;
 	tags_sums sums;
 
+	options.total = 16;
+	options.reserved = 2;
+	options.hands = 2;
 	if (tags_open(&pool, &options) != TAGS_OK || tags_join(&pool, &hand, 0) != TAGS_OK)
 		return 1;
 	int32_t tag = tags_get(&hand);

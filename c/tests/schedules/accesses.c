@@ -12,7 +12,7 @@
 
 #include <string.h>
 
-enum { MAX_OWNED = 8 };
+enum { MAX_OWNED = 8, BELOW = 256 };
 
 /* The counts of owners that were found. */
 static const volatile void *owned[MAX_OWNED];
@@ -30,6 +30,18 @@ static void note_owned(const volatile void *address)
 	for (int i = 0; i < MAX_OWNED && !is_owned(address); i++)
 		if (!owned[i])
 			owned[i] = address;
+}
+
+/*
+ * Makes what a call here left below the explored code's stack 0 again. A frame that is made there next may have gaps,
+ * which nothing writes, and what lies in them would tell states apart.
+ */
+static __attribute__((noinline)) void clean_below(void)
+{
+	char below[BELOW];
+
+	memset(below, 0, sizeof(below));
+	__asm__ volatile("" : : "r"(below) : "memory");
 }
 
 static void check_address(const volatile void *address)
@@ -73,6 +85,7 @@ static void before_plain(enum kind kind, const volatile void *address, size_t si
 		before_atomic(OP_LOAD, address, sizeof(type), order, __ATOMIC_SEQ_CST, PC); \
 		before_load(address); \
 		tell_step("loads %s: %ld", name_of((uintptr_t)address), (long)*address); \
+		clean_below(); \
 		return *address; \
 	}
 
@@ -86,6 +99,7 @@ static void before_plain(enum kind kind, const volatile void *address, size_t si
 			before_atomic(OP_STORE, address, sizeof(type), order, __ATOMIC_SEQ_CST, PC); \
 		tell_step("stores %s: %ld", name_of((uintptr_t)address), (long)value); \
 		*address = value; \
+		clean_below(); \
 	}
 
 #define ATOMIC_CHANGE(bits, type, name, what, least, changed) \
@@ -98,6 +112,7 @@ static void before_plain(enum kind kind, const volatile void *address, size_t si
 		former = *address; \
 		tell_step(what " %s: %ld, by %ld", name_of((uintptr_t)address), (long)former, (long)value); \
 		*address = (type)(changed); \
+		clean_below(); \
 		return former; \
 	}
 
@@ -113,6 +128,7 @@ static void before_plain(enum kind kind, const volatile void *address, size_t si
 		tell_step("compares %s: %ld, with %ld", name_of((uintptr_t)address), (long)*expected, (long)former); \
 		if (*expected == former) \
 			*address = value; \
+		clean_below(); \
 		return *expected == former; \
 	}
 
@@ -134,6 +150,7 @@ ATOMICS(64, uint64_t)
 	void __tsan_##name(void *address) \
 	{ \
 		before_plain(kind, address, size, PC); \
+		clean_below(); \
 	}
 
 #define PLAINS(size) \

@@ -1,9 +1,10 @@
 /*
- * What must hold inside c/bell.c: the only file of the explorer that knows how it is made, but for
- * futures.c and queues.c, which stand for another language.
+ * What must hold inside c/bell.c and c/queues.c: the only file of the explorer that knows how they are made, but for
+ * futures.c and behind.c, which stand for another language.
  */
-#include "queues.h"
+#include "behind.h"
 
+#include "queues.h"
 #include "programs.h"
 #include "shared.h"
 
@@ -28,6 +29,14 @@ static bool has_lock_of(const struct lender *lender, int thread)
 	return is_locked_by(&lender->lock, thread) || is_locked_by(&lender->queue.lock, thread);
 }
 
+static bool has_lock_in(const struct bell *it, int thread)
+{
+	for (uint32_t i = 0; i < it->hands; i++)
+		if (is_locked_by(&it->places[i].lock, thread))
+			return true;
+	return is_locked_by(&it->lock, thread);
+}
+
 bool has_lock(int thread)
 {
 	if (!find_bell())
@@ -35,29 +44,35 @@ bool has_lock(int thread)
 	for (int i = 0; i < MAX_THREADS; i++)
 		if (lenders[i] && has_lock_of(lenders[i], thread))
 			return true;
-	for (uint32_t i = 0; i < bell->hands; i++)
-		if (is_locked_by(&bell->places[i].lock, thread))
+	for (uint32_t i = 0; i < bell->waits.queues; i++)
+		if (has_lock_in(bell->queue_bells[i], thread))
 			return true;
-	return is_locked_by(&bell->lock, thread);
+	return has_lock_in(bell, thread);
 }
 
 /*
  * In each state
  */
 
-/* The hands in both lists of the library, where the model tells them. */
-static uint64_t listed(void)
+/* The hands that are listed in the library for a set, where the model tells them. */
+static uint64_t listed_for(uint32_t kind)
 {
 	if (!map_listed || !pool->object)
 		return 0;
-	return map_listed(pool->object, 0) | map_listed(pool->object, 1);
+	return map_listed(pool->object, kind, false) | map_listed(pool->object, kind, true);
+}
+
+static uint64_t listed(void)
+{
+	return listed_for(TAGS_ORDINARY) | listed_for(TAGS_RESERVED);
 }
 
 /* A wait keeps its turn from its first round to its end. */
 static void check_turns(void)
 {
 	for (uint32_t i = 0; map_turn && pool->object && i < bell->hands; i++) {
-		const uint64_t turn = bell->places[i].is_waiting ? map_turn(pool->object, i) : 0;
+		const struct tags_place *place = &bell->places[i];
+		const uint64_t turn = place->is_waiting ? map_turn(pool->object, place->kind, i) : 0;
 
 		if (turn && world->notes.turn[i] && turn != world->notes.turn[i])
 			fault("the waiter in place %u lost its turn", i);
@@ -84,6 +99,40 @@ static void forget_ended(void)
 		world->notes.listed[k] &= go_on;
 }
 
+/* Whoever takes a tag out of a list has a token, and that is free only once a tag is there. */
+static void check_tickets(void)
+{
+	for (uint32_t i = 0; bell->queues && i < bell->waits.queues; i++)
+		if (bell->queues->each[i].head > bell->queues->each[i].tail)
+			fault("a thread takes a tag out of queue %u, and none was put there", i);
+}
+
+/* The sleepers of a set that were told and are not up yet, where the model tells them. */
+static uint32_t count_coming(const struct tags_pool *in, uint32_t kind)
+{
+	return map_coming && in->object ? (uint32_t)__builtin_popcountll(map_coming(in->object, kind)) : 0;
+}
+
+/*
+ * No more are coming than there are tags. Calls that look at the same time may each tell as many: those of threads that are
+ * not coming themselves.
+ */
+static void check_coming(const struct tags_pool *in, uint32_t kind, uint32_t tags)
+{
+	const uint32_t coming = count_coming(in, kind);
+
+	if (coming > tags * (world->threads - coming))
+		fault("%u sleepers were told of %u tags, and are not up", coming, tags);
+}
+
+static void check_each_coming(void)
+{
+	check_coming(pool, TAGS_ORDINARY, bell->depth);
+	check_coming(pool, TAGS_RESERVED, bell->reserved);
+	for (uint32_t i = 0; bell->queues && i < bell->waits.queues; i++)
+		check_coming(&bell->queues->each[i].pool, TAGS_ORDINARY, bell->queue_bells[i]->depth);
+}
+
 void check_bell(void)
 {
 	uint32_t waiters;
@@ -91,14 +140,14 @@ void check_bell(void)
 	if (!find_bell())
 		return;
 	check_turns();
+	check_tickets();
+	check_each_coming();
 	forget_ended();
 	if (!is_locked_by(&bell->lock, -1))
 		return;
 	waiters = (uint32_t)__builtin_popcountll(listed());
 	if (bell->waits.waiting < waiters || bell->waits.waiting > 2 * world->threads)
 		fault("%u are listed, and %u are counted", waiters, bell->waits.waiting);
-	if (bell->waking > world->threads)
-		fault("%u are waking", bell->waking);
 }
 
 /*
@@ -111,10 +160,35 @@ static struct tags_hand *hand_at(uint32_t i)
 	return hands[i] && !is_freed(hands[i]) && hands[i]->place ? hands[i] : NULL;
 }
 
-/* Whether a hand is in a list of the library. No thread is in a call of it. */
-static bool is_in_list(uint32_t i, bool listens)
+static bool has_notice(const struct tags_place *place)
 {
-	return hand_at(i) && tags_library_is_told(hand_at(i), listens) == 0;
+	return place->notice.descriptor >= 0 || place->notice.function;
+}
+
+/*
+ * Whether a hand is listed for the set that it waits for, where the library is not the model, which tells that of ordinary
+ * tags alone. For a reserved one it is listed if it waits and was not told: whoever tells a listener takes its notice, and
+ * a token that it has beside that is left over.
+ */
+static bool is_in_berth(struct tags_hand *hand, const struct tags_place *place)
+{
+	if (place->kind == TAGS_RESERVED)
+		return place->is_waiting && (has_notice(place) || !place->is_woken);
+	return tags_library_is_told(hand, 0) == 0;
+}
+
+/* The same as a sleeper or as a listener, which only the model tells: otherwise whoever has a notice is a listener. */
+static bool is_listed_as(const struct tags_pool *in, struct tags_hand *hand, const struct tags_place *place, bool listens)
+{
+	if (map_listed)
+		return map_listed(in->object, place->kind, listens) >> place->number & 1;
+	return is_in_berth(hand, place) && has_notice(place) == listens;
+}
+
+/* Whether a hand of the scenario is listed so. No thread is in a call of it. */
+static bool is_listed(uint32_t i, bool listens)
+{
+	return hand_at(i) && is_listed_as(pool, hand_at(i), hand_at(i)->place, listens);
 }
 
 /* Whether a thread sleeps in the place of a hand that is listed. */
@@ -122,7 +196,7 @@ static bool is_listed_sleeper(const struct thread *thread)
 {
 	for (uint32_t i = 0; i <= world->threads; i++)
 		if (hand_at(i) && thread->address - (uintptr_t)hand_at(i)->place < sizeof(struct tags_place))
-			return is_in_list(i, false);
+			return is_listed(i, false);
 	return false;
 }
 
@@ -135,7 +209,7 @@ struct tags_hand *shared_hand(uint32_t number)
 static bool is_listed_sharer(const struct thread *thread)
 {
 	for (uint32_t i = 0; i < scenario->shared; i++)
-		if (is_in_list(i, true) && thread->address - (uintptr_t)hands[i]->place->notice.argument < 512)
+		if (is_listed(i, true) && thread->address - (uintptr_t)hands[i]->place->notice.argument < 512)
 			return true;
 	return false;
 }
@@ -145,16 +219,11 @@ static void check_sleeper(uint32_t i)
 	const struct thread *thread = &world->thread[i];
 
 	if (is_asleep(thread) && thread->kind == OP_ASLEEP && !is_at_gate(thread) && !is_listed_sleeper(thread) &&
-	    !is_listed_sharer(thread))
+	    !is_listed_sharer(thread) && !waits_in_queues(i))
 		fault("thread %u sleeps though it was told", i);
 	/* whoever was listed when a hand looked after a clear does not wait beside what it keeps */
 	if (map_keeps && world->notes.listed[i] && map_keeps(hands[i]->object))
 		fault("thread %u saw a waiter after its last clear, and keeps a tag", i);
-}
-
-static bool has_notice(const struct tags_place *place)
-{
-	return place->notice.descriptor >= 0 || place->notice.function;
 }
 
 /* Whether a hand's thread has ended, and no future of another thread waits behind the hand. */
@@ -174,20 +243,20 @@ static uint32_t count_beside(void)
 }
 
 /* A stop ends each wait that began before it. */
-static void check_stops(void)
+static void check_stops(const struct bell *it)
 {
-	for (uint32_t i = 0; i < bell->hands; i++)
-		if (bell->places[i].is_waiting && bell->places[i].stops != bell->waits.stops)
+	for (uint32_t i = 0; i < it->hands; i++)
+		if (it->places[i].is_waiting && it->places[i].stops != it->waits.stops)
 			fault("the hand in place %u waits on, and a stop has ended its wait", i);
 }
 
-/* Returns how many hands are listed as listeners. Each of them can be notified, unless its thread broke that. */
-static uint32_t count_listeners(void)
+/* Returns how many hands are listed as listeners for a set. Each of them can be notified, unless its thread broke that. */
+static uint32_t count_listeners(uint32_t kind)
 {
 	uint32_t n = 0;
 
 	for (uint32_t i = 0; i <= world->threads; i++) {
-		if (!is_in_list(i, true) || is_over(i))
+		if (!is_listed(i, true) || hand_at(i)->place->kind != kind || is_over(i))
 			continue;
 		n++;
 		if (!hands[i]->place->is_waiting || !has_notice(hands[i]->place))
@@ -201,8 +270,13 @@ static uint32_t count_sleepers(void)
 	uint32_t n = 0;
 
 	for (uint32_t i = 0; i <= world->threads; i++)
-		n += is_in_list(i, false);
+		n += is_listed(i, false);
 	return n;
+}
+
+static bool breaks(uint32_t thread)
+{
+	return scenario->program[thread] == breaker || scenario->program[thread] == reserved_breaker;
 }
 
 /* Those who wait for an eventfd that was closed, and have not learned that they were told. */
@@ -211,44 +285,139 @@ static uint32_t count_broken(void)
 	uint32_t n = 0;
 
 	for (uint32_t i = 0; i < world->threads; i++)
-		n += world->thread[i].is_done && scenario->program[i] == breaker && hand_at(i) &&
-		     hands[i]->place->is_waiting;
+		n += world->thread[i].is_done && breaks(i) && hand_at(i) && hands[i]->place->is_waiting;
 	return n;
 }
 
-/* While a thread sleeps beside shared hands, none of these keeps a tag. */
+/* Nobody is listed who waits for no tag of the set. */
+static void check_sets(void)
+{
+	for (uint32_t i = 0; i < bell->hands; i++)
+		for (uint32_t kind = 0; kind < SETS; kind++)
+			if (listed_for(kind) >> i & 1 && (!bell->places[i].is_waiting || bell->places[i].kind != kind))
+				fault("the hand in place %u is listed for set %u, and does not wait for that", i, kind);
+}
+
+/* While a hand waits it keeps no tag; and while a thread sleeps beside shared hands, none of these does. */
 static void check_kept(void)
 {
+	for (uint32_t i = 0; i < world->threads; i++)
+		if (map_keeps && hand_at(i) && (hands[i]->place->is_waiting || waits_in_queues(i)) && map_keeps(hands[i]->object))
+			fault("hand %u waits, and keeps a tag", i);
 	for (uint32_t i = 0; i < world->threads; i++)
 		for (uint32_t k = 0; map_keeps && is_asleep(&world->thread[i]) && borrows(i) && k < scenario->shared; k++)
 			if (map_keeps(hands[k]->object))
 				fault("thread %u sleeps beside a tag that shared hand %u keeps", i, k);
 }
 
+/* No sleeper was told that does not come, for which others would be left out. */
+static void check_none_coming(const struct tags_pool *in, uint32_t kind)
+{
+	if (count_coming(in, kind) > 0)
+		fault("%u sleepers were told, and nobody is on the way", count_coming(in, kind));
+}
+
 void check_quiet_bell(uint32_t asleep, uint32_t drains, uint32_t lists)
 {
 	const uint32_t is_armed = drains > 0;
-	uint32_t waiting, listeners, in_lists;
+	uint32_t waiting, in_berths;
 
 	find_bell();
 	waiting = asleep + count_broken() + is_armed + (bell->is_cached ? drains + lists : 0) + lists;
-	listeners = count_listeners();
-
+	in_berths = count_sleepers() + count_beside();
+	for (uint32_t kind = 0; kind < SETS; kind++) {
+		in_berths += count_listeners(kind);
+		check_none_coming(pool, kind);
+	}
+	check_sets();
 	for (uint32_t i = 0; i < world->threads; i++)
 		check_sleeper(i);
 	check_kept();
-	if (bell->waking != 0)
-		fault("%u are waking, and nobody is on the way", bell->waking);
-	if (bell->listening != listeners + count_broken())
-		fault("%u listen, not %u", listeners + count_broken(), bell->listening);
 	if (asleep > 0 && bell->waits.stops % 2)
 		fault("%u wait though the pool was stopped", asleep);
-	check_stops();
+	check_stops(bell);
 	if (waiting != bell->waits.waiting)
 		fault("%u wait, not %u", waiting, bell->waits.waiting);
-	in_lists = count_sleepers() + listeners + count_beside();
-	if (asleep != in_lists)
-		fault("%u wait, and %u are listed", asleep, in_lists);
+	if (asleep != in_berths)
+		fault("%u wait, and %u are listed", asleep, in_berths);
+}
+
+/*
+ * Queues: each has a bell of its own, and a pool of tokens
+ */
+
+/* Each place has a thread or a notice that a call which tells it finds. Returns how many are listed. */
+static uint32_t check_listed(const struct tags_queue *queue, const struct bell *it)
+{
+	uint32_t n = 0;
+
+	for (uint32_t i = 0; i < it->hands; i++) {
+		const bool sleeps = is_listed_as(&queue->pool, &queue->hands[i], &it->places[i], false);
+		const bool listens = is_listed_as(&queue->pool, &queue->hands[i], &it->places[i], true);
+
+		n += sleeps + listens;
+		if ((sleeps && (!it->places[i].bed || it->places[i].is_woken)) || (listens && !has_notice(&it->places[i])))
+			fault("hand %u waits in a queue, and nobody would tell it", i);
+		if (it->places[i].is_waiting != (sleeps || listens))
+			fault("hand %u waits in a queue though it was told", i);
+	}
+	return n;
+}
+
+static uint64_t busy_tokens(struct tags_queue *queue)
+{
+	uint64_t busy[1] = { 0 };
+
+	if (tags_library_pool_busy(&queue->pool, busy, 1) < 0)
+		fault("a report was refused");
+	return busy[0];
+}
+
+/* Each tag that is not in the queue has a token of its own, and each other token is free. */
+static void check_tokens(struct tags_queue *queue, uint32_t number)
+{
+	uint64_t taken = 0;
+
+	for (uint32_t tag = 0; tag < scenario->tags; tag++) {
+		const uint64_t bit = is_submitted(tag, number) ? 0 : UINT64_C(1) << queue->tokens[tag];
+
+		if (taken & bit)
+			fault("two tags have token %u", queue->tokens[tag]);
+		taken |= bit;
+	}
+	if (taken != busy_tokens(queue))
+		fault("tokens %lx are taken, and tags have %lx", (unsigned long)busy_tokens(queue), (unsigned long)taken);
+}
+
+/* A tag is marked while it is in a queue. */
+static void check_marks(void)
+{
+	for (uint32_t tag = 0; tag < scenario->tags; tag++) {
+		bool is_queued = false;
+
+		for (uint32_t queue = 0; queue < scenario->queues; queue++)
+			is_queued |= is_submitted(tag, queue);
+		if (bell->queues->marks[tag] != is_queued)
+			fault("tag %u is %sin a queue, and it is %smarked", tag, is_queued ? "" : "not ", is_queued ? "not " : "");
+	}
+}
+
+void check_quiet_queue(uint32_t number, uint32_t asleep)
+{
+	const struct bell *it;
+
+	find_bell();
+	it = bell->queue_bells[number];
+	if (it->waits.waiting != asleep || check_listed(&bell->queues->each[number], it) != asleep)
+		fault("%u wait in queue %u, not %u", asleep, number, it->waits.waiting);
+	check_none_coming(&bell->queues->each[number].pool, TAGS_ORDINARY);
+	if (it->waits.stops % 2 != bell->waits.stops % 2)
+		fault("queue %u is %sstopped, unlike the pool", number, it->waits.stops % 2 ? "" : "not ");
+	if (asleep > 0 && it->waits.stops % 2)
+		fault("%u wait in queue %u though the pool was stopped", asleep, number);
+	check_stops(it);
+	check_tokens(&bell->queues->each[number], number);
+	check_marks();
 }
 
 /*
@@ -342,16 +511,34 @@ static bool is_idle(const struct tags_place *place)
 	return !has_notice(place) && !place->running && !place->is_waiting && !place->bed;
 }
 
+static void check_left_bell(const struct bell *it)
+{
+	for (uint32_t i = 0; i < it->hands; i++)
+		if (!is_idle(&it->places[i]))
+			fault("the last hand in place %u left a wait there", i);
+	if (it->waits.waiting || it->draining || it->is_armed || it->listing)
+		fault("somebody waits after the last leave");
+}
+
 /* After the last leave. */
 void check_closed_bell(void)
 {
 	find_bell();
-	for (uint32_t i = 0; i < bell->hands; i++)
-		if (!is_idle(&bell->places[i]))
-			fault("the last hand in place %u left a wait there", i);
-	if (bell->waits.waiting || bell->listening || bell->waking || bell->draining || bell->is_armed ||
-	    bell->listing || listed())
-		fault("somebody waits after the last leave");
+	check_left_bell(bell);
+	for (uint32_t i = 0; i < bell->waits.queues; i++)
+		check_left_bell(bell->queue_bells[i]);
+	if (listed())
+		fault("somebody is listed after the last leave");
+}
+
+/* Whether it is the word of a hand by which others use the tokens of a queue. */
+static bool is_of_queue(const volatile void *address)
+{
+	for (uint32_t i = 0; find_bell() && i < bell->waits.queues; i++)
+		for (uint32_t k = 0; k < bell->hands; k++)
+			if (address == &bell->queues->each[i].hands[k].in_call)
+				return true;
+	return false;
 }
 
 bool is_of_hand(const volatile void *address)
@@ -359,17 +546,20 @@ bool is_of_hand(const volatile void *address)
 	for (uint32_t i = 0; i <= world->threads; i++)
 		if (hands[i] && address == &hands[i]->in_call)
 			return true;
-	return false;
+	return is_of_queue(address);
 }
 
 /* Of a thread that has ended. One whose eventfd was closed in its wait never learns of a tag. */
 void check_idle_place(uint32_t thread)
 {
-	if (!hand_at(thread) || scenario->program[thread] == breaker || thread < scenario->shared ||
+	if (!hand_at(thread) || breaks(thread) || thread < scenario->shared ||
 	    futures_behind(thread) > 0)
 		return;
-	if (!is_idle(hands[thread]->place) || is_in_list(thread, false) || is_in_list(thread, true))
+	if (!is_idle(hands[thread]->place) || is_listed(thread, false) || is_listed(thread, true))
 		fault("thread %u has ended, and its place is not idle", thread);
+	for (uint32_t i = 0; find_bell() && i < bell->waits.queues; i++)
+		if (!is_idle(&bell->queue_bells[i]->places[hands[thread]->place->number]))
+			fault("thread %u has ended, and its place in queue %u is not idle", thread, i);
 }
 
 /*
@@ -403,8 +593,6 @@ static const struct {
 } words[] = {
 	{ offsetof(struct bell, waits.waiting), "waiting" },
 	{ offsetof(struct bell, waits.stops), "stops" },
-	{ offsetof(struct bell, listening), "listening" },
-	{ offsetof(struct bell, waking), "waking" },
 	{ offsetof(struct bell, draining), "draining" },
 	{ offsetof(struct bell, is_armed), "is_armed" },
 	{ offsetof(struct bell, listing), "listing" },
@@ -422,9 +610,13 @@ static const struct {
 	{ offsetof(struct tags_place, notice.argument), "argument" },
 	{ offsetof(struct tags_place, notice.is_lasting), "is_lasting" },
 	{ offsetof(struct tags_place, is_waiting), "is_waiting" },
+	{ offsetof(struct tags_place, kind), "the set that it waits for" },
 	{ offsetof(struct tags_place, stops), "the stops of its wait" },
 	{ offsetof(struct tags_place, looks), "looks" },
 };
+
+/* The bytes of a tag's note: notes.c. */
+enum { BOARD = 40 };
 
 /* The locks of handles of pools.c. */
 extern pthread_mutex_t locks[16];
@@ -450,23 +642,81 @@ static const char *name_in_place(size_t at)
 	return text;
 }
 
-const char *name_of(uintptr_t address)
+/* Of a word in a bell, or NULL. */
+static const char *name_in_bell(const struct bell *it, uintptr_t address)
 {
-	static char text[64];
-	const size_t places = offsetof(struct bell, places);
-	size_t at;
+	const size_t at = address - (uintptr_t)it, places = offsetof(struct bell, places);
 
-	find_bell();
-	at = address - (uintptr_t)bell;
-	if (name_of_variable(address))
-		return name_of_variable(address);
-	if (!is_in_heap((const void *)address))
-		return "what is on a stack";
 	for (size_t i = 0; i < sizeof(words) / sizeof(*words); i++)
 		if (words[i].at == at)
 			return words[i].name;
-	if (bell && at >= places && at < places + bell->hands * sizeof(struct tags_place))
-		return name_in_place(at - places);
-	snprintf(text, sizeof(text), "bell%+ld", (long)at);
+	return at >= places && at < places + it->hands * sizeof(struct tags_place) ? name_in_place(at - places) : NULL;
+}
+
+/* What a word of a queue is, or NULL. */
+static const char *name_in_queue(const struct tags_queue *queue, uintptr_t address)
+{
+	static char text[64];
+
+	if (address == (uintptr_t)&queue->tail || address == (uintptr_t)&queue->head)
+		return address == (uintptr_t)&queue->tail ? "the tail" : "the head";
+	if (address - (uintptr_t)queue->places <= queue->mask * sizeof(*queue->places)) {
+		snprintf(text, sizeof(text), "place %zu", (address - (uintptr_t)queue->places) / sizeof(*queue->places));
+		return text;
+	}
+	if (address - (uintptr_t)queue->tokens >= scenario->tags * sizeof(*queue->tokens))
+		return NULL;
+	snprintf(text, sizeof(text), "the token of tag %zu", (address - (uintptr_t)queue->tokens) / sizeof(*queue->tokens));
+	return text;
+}
+
+static const char *name_in_queues(uintptr_t address)
+{
+	static char text[96];
+
+	const size_t mark = bell->queues ? address - (uintptr_t)bell->queues->marks : 0;
+
+	if (bell->queues && mark < scenario->tags * sizeof(*bell->queues->marks)) {
+		snprintf(text, sizeof(text), "the mark of tag %zu", mark / sizeof(*bell->queues->marks));
+		return text;
+	}
+	for (uint32_t i = 0; bell->queues && i < bell->waits.queues; i++) {
+		const char *name = name_in_bell(bell->queue_bells[i], address);
+
+		if (!name)
+			name = name_in_queue(&bell->queues->each[i], address);
+		if (name) {
+			snprintf(text, sizeof(text), "queue %u: %s", i, name);
+			return text;
+		}
+	}
+	return NULL;
+}
+
+static const char *name_of_board(uintptr_t address)
+{
+	static char text[64];
+	const size_t at = address - (uintptr_t)bell->boards;
+
+	if (!bell->boards || at >= scenario->tags * BOARD)
+		return NULL;
+	snprintf(text, sizeof(text), "notes[%zu]+%zu", at / BOARD, at % BOARD);
+	return text;
+}
+
+const char *name_of(uintptr_t address)
+{
+	static char text[64];
+	const char *name = name_of_variable(address);
+
+	if (name)
+		return name;
+	if (!is_in_heap((const void *)address))
+		return "what is on a stack";
+	if (find_bell() && (name = name_in_bell(bell, address)))
+		return name;
+	if (find_bell() && ((name = name_in_queues(address)) || (name = name_of_board(address))))
+		return name;
+	snprintf(text, sizeof(text), "bell%+ld", (long)(address - (uintptr_t)bell));
 	return text;
 }

@@ -20,7 +20,7 @@ MODEL, TRUE = KINDS = ["model", "true"]
 # The engine, and the kernel as the explored code sees it.
 ENGINE = "threads memory states seen steps search wander trace main kernel calls accesses".split()
 # What threads run, and so is explored; and what looks at it from outside.
-PROGRAMS = "stage gets loops queues futures slots lives gated shares".split()
+PROGRAMS = "stage gets loops behind futures slots submits nexts reserves lives gated shares noted".split()
 RULES = "rules bell_rules scenarios".split()
 # Of the library's own files: the exports, which the explored code has inline; the memory, which is no step; and handles that one thread
 # alone uses.

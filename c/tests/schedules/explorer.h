@@ -35,6 +35,7 @@ enum kind {
 	OP_EVENT_CLOSE,
 	OP_POLL,
 	OP_JOIN, /* waits for the end of another thread */
+	OP_YIELD, /* has looked for what another thread is about to do, and looks again after any step of another one */
 	OP_LIBRARY, /* a step of the library, or of its model */
 	OP_LOCAL, /* a choice that no other thread can see */
 };
@@ -84,6 +85,24 @@ struct event {
 	bool is_broken;
 };
 
+/* A tag that was submitted, as far as the program knows. */
+struct submitted {
+	/* 1 + the queue that it is in; 0 if in none */
+	uint8_t queue;
+	/* how often it was submitted */
+	uint8_t count;
+	/* the submit has returned */
+	bool has_returned;
+	/* tags of the queue whose submits had returned before this one began, as a mask */
+	uint8_t before;
+	/* the threads that may take it, as a mask; ANYONE is 1 until one that was submitted later was taken */
+	uint8_t heirs;
+};
+
+enum { MAX_SUBMITTED = 3, ANYONE = 1 << MAX_THREADS };
+/* Waits in queues, as a mask, and beside them for a free tag. */
+enum { FOR_A_TAG = 0x80 };
+
 /* What the scenario keeps about itself, and so is part of a state. */
 struct notes {
 	/* 1 + the thread that holds it, by tag */
@@ -98,12 +117,31 @@ struct notes {
 	uint64_t listed[MAX_THREADS];
 	/* it is in a clear */
 	bool clears[MAX_THREADS];
+	/* the threads that wait for a reserved tag, or will if they wait, as a mask */
+	uint32_t reserving;
 	/* the threads that have begun to drain it, and have not ended that unless they were cancelled */
 	uint32_t drains;
 	/* the tags for which the thread waits, or waited last, as a mask */
 	uint32_t awaited[MAX_THREADS];
 	/* the threads whose wait a stop has to end, as a mask */
 	uint32_t stopped;
+	/* of each tag: the note of its user, until that is about to end it, or 0; how often that was; and all of its user's notes */
+	uint32_t note[MAX_TAGS];
+	uint32_t note_ends[MAX_TAGS];
+	uint64_t noted[MAX_TAGS];
+	/* notes whose tags have gone back; and how often each thread has looked at the clock for one */
+	uint64_t note_is_over;
+	uint32_t note_times[MAX_THREADS];
+	struct submitted submitted[MAX_SUBMITTED];
+	/* 1 + the queue from which the thread takes; 0 if it is in no such call */
+	uint8_t takes[MAX_THREADS];
+	/* the queues in which the thread waits between two calls, and FOR_A_TAG */
+	uint8_t queue_waits[MAX_THREADS];
+	/* the threads that are in a call on queues, as a mask; and of each whether no other one has been since its call began */
+	uint8_t in_queue_call;
+	bool is_alone[MAX_THREADS];
+	/* the tags that were in a queue before a stop, as a mask */
+	uint8_t before_stop;
 	/* how often the pool was closed, and another one opened in its handle */
 	uint32_t closes;
 	/* a thread has closed the pool */

@@ -5,7 +5,7 @@
  * A future waits behind its thread's hand, or shares the hand of the first thread that shares one,
  * which is behind a lock.
  */
-#include "queues.h"
+#include "behind.h"
 
 #include "programs.h"
 

@@ -29,6 +29,14 @@ int kernel_getcpu(void)
 	return current < 0 ? 0 : current;
 }
 
+/* Who looks again and again for what another thread is about to do need not look before that makes a step. */
+int kernel_yield(void)
+{
+	pause_before(OP_YIELD, NULL, 0, 1, PC);
+	tell_step("looks again");
+	return 0;
+}
+
 /*
  * Memory
  */
@@ -213,7 +221,8 @@ int kernel_cond_timedwait(pthread_cond_t *cond, pthread_mutex_t *mutex, const st
 }
 
 /*
- * Clocks. The deadline of each thread is 100 s and 500 ns, and it may have passed at any call.
+ * Clocks. The deadline of each thread is 100 s and 500 ns, and it may have passed at any call. The time of a
+ * note is none that another note has.
  */
 int kernel_clock_gettime(clockid_t clock, struct timespec *now)
 {
@@ -221,6 +230,10 @@ int kernel_clock_gettime(clockid_t clock, struct timespec *now)
 	int at = 1;
 
 	(void)clock;
+	if (has_notes()) {
+		*now = next_time_of_note();
+		return 0;
+	}
 	if (current >= 0 && !self()->is_late) {
 		at = pause_before(OP_LOCAL, NULL, 0, 3, PC);
 		self()->is_late = at > 0;
@@ -230,10 +243,14 @@ int kernel_clock_gettime(clockid_t clock, struct timespec *now)
 	return 0;
 }
 
-/* A rest: any number of steps of other threads may come before whatever is next. */
+/*
+ * A rest: any number of steps of other threads may come before whatever is next. One that is this short stands
+ * between two looks for what another thread is about to do, in queues.c: kernel_yield().
+ */
 int kernel_nanosleep(const struct timespec *time, struct timespec *left)
 {
-	(void)time;
+	enum { BETWEEN_LOOKS = 50000 };
+
 	(void)left;
-	return 0;
+	return time->tv_nsec == BETWEEN_LOOKS ? kernel_yield() : 0;
 }

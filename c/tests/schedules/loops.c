@@ -13,12 +13,24 @@
 /* What a loop may do in place of another wait. */
 enum way { STAYS, CANCELS, LEAVES };
 
+static bool is_reserving(int me)
+{
+	return world->notes.reserving >> me & 1;
+}
+
+/* Gets a tag of the set that the thread waits for. */
+static int32_t get_async(int me, int event)
+{
+	return is_reserving(me) ? CALL(tags_get_reserved_async(hands[me], event)) :
+				  CALL(tags_get_async(hands[me], event));
+}
+
 /* Waits until it has a tag, an error, or no wish to wait any longer. */
 static int32_t wait_in_loop(int me, bool may_give_up)
 {
 	int32_t tag;
 
-	while ((tag = CALL(tags_get_async(hands[me], me))) == TAGS_NO_TAG) {
+	while ((tag = get_async(me, me)) == TAGS_NO_TAG) {
 		if (may_give_up && choose(2))
 			break;
 		wait_event(me);
@@ -124,7 +136,7 @@ void breaker(int me)
 	int32_t tag;
 
 	open_event(me);
-	tag = CALL(tags_get_async(hands[me], me));
+	tag = get_async(me, me);
 	if (tag == TAGS_NO_TAG) {
 		if (break_event(me))
 			EXPECT(TAGS_OK, tags_cancel(hands[me]));
@@ -170,6 +182,14 @@ static void note_call(void *argument)
 	errno = 0;
 }
 
+static int32_t get_notified(int me, int event)
+{
+	struct event *argument = &world->event[event];
+
+	return is_reserving(me) ? CALL(tags_get_reserved_notified(hands[me], note_call, argument)) :
+				  CALL(tags_get_notified(hands[me], note_call, argument));
+}
+
 /* Sleeps by means of its own, as by an eventfd. It names another argument each time. */
 static int32_t wait_by_function(int me, bool may_give_up)
 {
@@ -177,7 +197,7 @@ static int32_t wait_by_function(int me, bool may_give_up)
 	int32_t tag;
 
 	open_event(at);
-	while ((tag = CALL(tags_get_notified(hands[me], note_call, &world->event[at]))) == TAGS_NO_TAG) {
+	while ((tag = get_notified(me, at)) == TAGS_NO_TAG) {
 		if (at != me)
 			close_event(me);
 		if (may_give_up && choose(2)) {

@@ -9,18 +9,26 @@
  *           sweep is a load of the cleared set, a swap of it, and a subtraction from the word; that
  *           of a plain get in its first word keeps the least tag and subtracts the others, if any
  *  a clear  sets the tag aside in one step; with a cache it keeps the tag, which is none
- *  a round  of a wait takes a turn by two steps if the wait is new, sets the hand's bit in the list,
- *           and gets. If it wins a tag or the wait is over, a step clears the bit, and the hand sees
- *           to all tags: if it finds somebody listed, it looks at each word and at its cleared set
- *           until a tag is free, and then tells
- *  telling  a load of each list, and if somebody is listed, a load of the turn of each candidate
- *           and a step that clears the bits of those told; with a cache all kept tags go back
- *           first, and both lists are loaded again
+ *  a round  of a new wait takes a turn, joins all who wait and lists the hand in its berth, by a step
+ *           each; another one looks at the hand's berth and lists it there again with its turn. Then
+ *           it gets. If it wins a tag or the wait is over, the hand gets up from its berth and then
+ *           leaves all who wait, and sees to all tags: if it finds that somebody waits, it looks at
+ *           each word and at its cleared set until a tag is free, and then tells
+ *  telling  a look at all who wait, and if anybody does, one at the berth of each. Then those found
+ *           listed are told by a step each, first the sleepers and then the listeners, in the order
+ *           of their turns, until as many of each kind are told as tags became free, one at least;
+ *           but no more sleepers than make, with those found told, as many as the set has tags. One
+ *           whose berth has changed meanwhile is passed over. With a cache all kept tags go back
+ *           after a first look at all who wait, before the second one
  *
- *  a post   is one step, after which the hand has the tag no more
+ *  a post   is one step, after which the hand has the tag no more; so is a take, which finds the hand that posted the
+ *           tag, or none
  *
- * Left out: slots, takes, reserved tags, round robin, the wait groups that no call of C enters, the
- * limits of a hand's life. Reports through a hand. Joins, reports, resizes and closes are not atomic: each checks that it has the pool's
+ * The two sets of tags are made alike, each with words, berths and turns of its own. What is kept is
+ * ordinary.
+ *
+ * Slots are what their holder alone sees. Left out: round robin, the wait groups that no call of C enters, the limits of a hand's
+ * life. Reports through a hand. Joins, reports, resizes and closes are not atomic: each checks that it has the pool's
  * handle for itself, as the library needs.
  */
 #include "bell.h"
@@ -30,7 +38,11 @@
 
 #include <string.h>
 
-enum { WORDS = 4, HANDS = MAX_THREADS + 1, SLEEPERS = 0, LISTENERS, LISTS };
+enum { WORDS = 4, HANDS = MAX_THREADS + 1, SLOTS = 4 };
+
+/* A hand's berth: where it stands in bits 0 and 1, as which waiter in bit 2, and with which turn above. */
+enum standing { UP, LISTED, TOLD };
+enum waiter { SLEEPER = 0, LISTENER = 4 };
 
 struct member {
 	struct map *map;
@@ -44,26 +56,34 @@ struct member {
 	bool is_out;
 	/* from its first round to its last one */
 	bool is_waiting;
+	enum tags_kind waits_for;
 	bool is_spent;
 	/* a get, a clear or a round goes on: two at once are a fault */
 	bool is_in_call;
 };
 
-struct map {
+struct set {
 	uint64_t word[WORDS];
 	uint64_t aside[WORDS];
+	/* its first tag, and how many it has */
+	uint32_t first, depth;
+	uint32_t words, width;
+	/* all who wait, how many turns were taken, and the berth of each hand */
+	uint64_t waiters;
+	uint64_t clock;
+	uint64_t berth[HANDS];
+};
+
+struct map {
+	struct set set[SETS];
 	bool is_one_per_word;
-	uint32_t depth, words, width;
 	uint32_t cache;
 	bool keeps_while_holding;
 	/* the handle is in use */
 	bool is_in_call;
 	uint32_t hands;
 	uint64_t got, back;
-	/* the lists of those who wait, and the turns: how many were taken, and the latest of each hand */
-	uint64_t list[LISTS];
-	uint64_t clock;
-	uint64_t turn[HANDS];
+	uint64_t slot[SLOTS];
 	struct member member[HANDS];
 };
 
@@ -99,10 +119,36 @@ static void use_handle(struct map *map, const char *what)
 	map->is_in_call = false;
 }
 
-static uint64_t bits_of(const struct map *map, uint32_t word)
+static uint32_t total_of(const struct map *map)
 {
-	uint32_t first = word * map->width;
-	uint32_t n = map->depth - first < map->width ? map->depth - first : map->width;
+	return map->set[TAGS_ORDINARY].first + map->set[TAGS_ORDINARY].depth;
+}
+
+static struct set *set_of(struct map *map, uint32_t tag)
+{
+	return &map->set[tag < map->set[TAGS_ORDINARY].first ? TAGS_RESERVED : TAGS_ORDINARY];
+}
+
+/* Places of a word as a mask of all tags; and the other way round. */
+static uint64_t tags_of(const struct set *set, uint32_t word, uint64_t bits)
+{
+	return bits << (set->first + word * set->width);
+}
+
+static uint64_t bits_in(const struct set *set, uint32_t word, uint64_t tags)
+{
+	return tags >> (set->first + word * set->width);
+}
+
+static int32_t tag_at(const struct set *set, uint32_t word, int place)
+{
+	return (int32_t)(set->first + word * set->width) + place;
+}
+
+static uint64_t bits_of(const struct set *set, uint32_t word)
+{
+	uint32_t first = word * set->width;
+	uint32_t n = set->depth - first < set->width ? set->depth - first : set->width;
 
 	return n == 64 ? ~UINT64_C(0) : (UINT64_C(1) << n) - 1;
 }
@@ -112,13 +158,16 @@ static uint64_t bits_of(const struct map *map, uint32_t word)
  */
 
 /* All tags are free. */
-static void set_size(struct map *map, uint32_t total)
+static void make_set(struct map *map, enum tags_kind kind, uint32_t first, uint32_t depth)
 {
-	map->depth = total;
-	map->width = map->is_one_per_word ? 1 : total;
-	map->words = map->is_one_per_word ? total : 1;
-	memset(map->word, 0, sizeof(map->word));
-	memset(map->aside, 0, sizeof(map->aside));
+	struct set *set = &map->set[kind];
+
+	set->first = first;
+	set->depth = depth;
+	set->width = map->is_one_per_word ? 1 : depth;
+	set->words = map->is_one_per_word ? depth : depth > 0;
+	memset(set->word, 0, sizeof(set->word));
+	memset(set->aside, 0, sizeof(set->aside));
 }
 
 int32_t tags_library_open_cached(struct tags_pool *pool, const struct tags_options *options,
@@ -127,7 +176,8 @@ int32_t tags_library_open_cached(struct tags_pool *pool, const struct tags_optio
 	struct map *map = take_memory(sizeof(*map));
 
 	map->is_one_per_word = options->shift == 0;
-	set_size(map, options->total);
+	make_set(map, TAGS_RESERVED, 0, options->reserved);
+	make_set(map, TAGS_ORDINARY, options->reserved, options->total - options->reserved);
 	map->cache = cache;
 	map->keeps_while_holding = keeping != 0;
 	map->hands = options->hands;
@@ -153,7 +203,7 @@ int32_t tags_library_resize(struct tags_pool *pool, uint32_t total)
 	use_handle(map, "resize");
 	if (is_any_out(map))
 		return TAGS_HANDS_OUT;
-	set_size(map, total);
+	make_set(map, TAGS_ORDINARY, map->set[TAGS_ORDINARY].first, total - map->set[TAGS_ORDINARY].first);
 	return TAGS_OK;
 }
 
@@ -216,19 +266,19 @@ int32_t tags_library_close(struct tags_pool *pool, struct tags_sums *sums)
  */
 
 /* One pass over these bits of a word: claims clear ones until one is won. Returns its place or -1. */
-static int pass(struct map *map, uint32_t word, uint64_t bits)
+static int pass(struct set *set, uint32_t word, uint64_t bits)
 {
 	uint64_t found;
 
-	stop(&map->word[word], "looks at a word");
-	found = map->word[word];
+	stop(&set->word[word], "looks at a word");
+	found = set->word[word];
 	tell_step("map:   it is %lx", (unsigned long)found);
 	for (int place = 0; bits >> place & 1; place++) {
 		if (found >> place & 1)
 			continue;
-		stop(&map->word[word], "claims a bit");
-		found = map->word[word];
-		map->word[word] |= UINT64_C(1) << place;
+		stop(&set->word[word], "claims a bit");
+		found = set->word[word];
+		set->word[word] |= UINT64_C(1) << place;
 		if (!(found >> place & 1))
 			return place;
 	}
@@ -236,117 +286,111 @@ static int pass(struct map *map, uint32_t word, uint64_t bits)
 }
 
 /* Takes all that is set aside in a word. */
-static uint64_t take_aside(struct map *map, uint32_t word)
+static uint64_t take_aside(struct set *set, uint32_t word)
 {
 	uint64_t mask;
 
-	stop(&map->aside[word], "looks at a cleared set");
-	if (!map->aside[word])
+	stop(&set->aside[word], "looks at a cleared set");
+	if (!set->aside[word])
 		return 0;
-	stop(&map->aside[word], "sweeps: swaps a cleared set");
-	mask = map->aside[word];
-	map->aside[word] = 0;
+	stop(&set->aside[word], "sweeps: swaps a cleared set");
+	mask = set->aside[word];
+	set->aside[word] = 0;
 	return mask;
 }
 
 /* Frees what was taken in a sweep. */
-static void spill(struct member *member, uint32_t word, uint64_t mask, uint64_t *left)
+static void spill(struct member *member, struct set *set, uint32_t word, uint64_t mask, uint64_t *left)
 {
-	struct map *map = member->map;
-
 	if (!mask)
 		return;
-	stop(&map->word[word], "sweeps: subtracts from a word");
-	map->word[word] &= ~mask;
-	member->swept = mask << (word * map->width);
+	stop(&set->word[word], "sweeps: subtracts from a word");
+	set->word[word] &= ~mask;
+	member->swept = tags_of(set, word, mask);
 	*left += count(mask);
 }
 
-static void sweep(struct member *member, uint32_t word, uint64_t *left)
+static void sweep(struct member *member, struct set *set, uint32_t word, uint64_t *left)
 {
-	spill(member, word, take_aside(member->map, word), left);
+	spill(member, set, word, take_aside(set, word), left);
 }
 
 /* Returns the place of the tag that it keeps, or -1. */
-static int sweep_keeping(struct member *member, uint32_t word, uint64_t *left)
+static int sweep_keeping(struct member *member, struct set *set, uint32_t word, uint64_t *left)
 {
-	uint64_t mask = take_aside(member->map, word);
+	uint64_t mask = take_aside(set, word);
 
 	if (!mask)
 		return -1;
 	tell_step("map:   keeps the least of %lx", (unsigned long)mask);
-	spill(member, word, mask & (mask - 1), left);
+	spill(member, set, word, mask & (mask - 1), left);
 	return __builtin_ctzll(mask);
 }
 
 /* A sweep of a full word, as part of a get in one step. */
-static void sweep_whole(struct member *member, uint32_t word, uint64_t *left)
+static void sweep_whole(struct member *member, struct set *set, uint32_t word, uint64_t *left)
 {
-	struct map *map = member->map;
-
-	if (map->word[word] != bits_of(map, word) || !map->aside[word])
+	if (set->word[word] != bits_of(set, word) || !set->aside[word])
 		return;
-	*left += count(map->aside[word]);
-	member->swept = map->aside[word] << (word * map->width);
-	map->word[word] &= ~map->aside[word];
-	map->aside[word] = 0;
+	*left += count(set->aside[word]);
+	member->swept = tags_of(set, word, set->aside[word]);
+	set->word[word] &= ~set->aside[word];
+	set->aside[word] = 0;
 }
 
 /* A get in one step, for scenarios that are too large otherwise. */
-static int32_t get_whole(struct member *member, uint64_t *left)
+static int32_t get_whole(struct member *member, struct set *set, uint64_t *left)
 {
-	struct map *map = member->map;
+	stop(set->word, "gets in one step");
+	for (uint32_t word = 0; word < set->words; word++) {
+		sweep_whole(member, set, word, left);
+		if (set->word[word] != bits_of(set, word)) {
+			int place = __builtin_ctzll(~set->word[word]);
 
-	stop(map->word, "gets in one step");
-	for (uint32_t word = 0; word < map->words; word++) {
-		sweep_whole(member, word, left);
-		if (map->word[word] != bits_of(map, word)) {
-			int place = __builtin_ctzll(~map->word[word]);
-
-			map->word[word] |= UINT64_C(1) << place;
-			return (int32_t)(word * map->width) + place;
+			set->word[word] |= UINT64_C(1) << place;
+			return tag_at(set, word, place);
 		}
 	}
 	return TAGS_NO_TAG;
 }
 
 /* The part of a word's bits that a get of this depth may use. */
-static uint64_t share_of(const struct map *map, uint32_t word, uint32_t depth)
+static uint64_t share_of(const struct set *set, uint32_t word, uint32_t depth)
 {
-	uint32_t first = word * map->width;
-	uint32_t end = first + count(bits_of(map, word));
-	uint32_t limit = depth * end / map->depth - depth * first / map->depth;
+	uint32_t first = word * set->width;
+	uint32_t end = first + count(bits_of(set, word));
+	uint32_t limit = depth * end / set->depth - depth * first / set->depth;
 
-	return bits_of(map, word) & ((UINT64_C(1) << limit) - 1);
+	return bits_of(set, word) & ((UINT64_C(1) << limit) - 1);
 }
 
 /* Sweeps a word, and finds a tag among these bits if it keeps one or wins one afterwards. Returns its place or -1. */
-static int retry(struct member *member, uint32_t word, uint64_t bits, bool is_keeping, uint64_t *left)
+static int retry(struct member *member, struct set *set, uint32_t word, uint64_t bits, bool is_keeping,
+		 uint64_t *left)
 {
 	int kept = -1;
 
 	if (is_keeping)
-		kept = sweep_keeping(member, word, left);
+		kept = sweep_keeping(member, set, word, left);
 	else
-		sweep(member, word, left);
-	return kept >= 0 ? kept : pass(member->map, word, bits);
+		sweep(member, set, word, left);
+	return kept >= 0 ? kept : pass(set, word, bits);
 }
 
 /* Visits the words from this one on, which is the one of the hint and has more turns. */
-static int32_t search(struct member *member, uint32_t first, uint32_t depth, bool is_plain, uint64_t *left)
+static int32_t search(struct member *member, struct set *set, uint32_t first, uint32_t depth, bool is_plain,
+		      uint64_t *left)
 {
-	struct map *map = member->map;
-
-	for (uint32_t i = 0; i < map->words; i++) {
-		uint32_t word = (first + i) % map->words;
-		uint64_t bits = share_of(map, word, depth);
+	for (uint32_t i = 0; i < set->words; i++) {
+		uint32_t word = (first + i) % set->words;
+		uint64_t bits = share_of(set, word, depth);
 		int turns = i == 0 && scenario->turns ? scenario->turns : 1;
-		int place = pass(map, word, bits);
+		int place = pass(set, word, bits);
 
 		for (; place < 0 && turns > 0; turns--)
-			place = retry(member, word, bits, is_plain && i == 0, left);
+			place = retry(member, set, word, bits, is_plain && i == 0, left);
 		if (place >= 0)
-			return (int32_t)(word * map->width) + place;
+			return tag_at(set, word, place);
 	}
 	return TAGS_NO_TAG;
 }
@@ -372,12 +416,11 @@ static bool is_spent(struct member *member)
 }
 
 /* A hint may be in any word. */
-static int32_t search_all(struct member *member, uint64_t *left)
+static int32_t search_all(struct member *member, struct set *set, uint64_t *left)
 {
-	const struct map *map = member->map;
-	int first = map->words > 1 ? choose((int)map->words) : 0;
+	int first = set->words > 1 ? choose((int)set->words) : 0;
 
-	return search(member, (uint32_t)first, map->depth, true, left);
+	return search(member, set, (uint32_t)first, set->depth, true, left);
 }
 
 static int32_t get_kept(struct member *member)
@@ -389,14 +432,15 @@ static int32_t get_kept(struct member *member)
 	return tag;
 }
 
-static int32_t get(struct member *member, uint64_t *left)
+static int32_t get(struct member *member, enum tags_kind kind, uint64_t *left)
 {
+	struct set *set = &member->map->set[kind];
 	int32_t tag;
 
 	*left = 0;
-	if (member->kept)
+	if (member->kept && kind == TAGS_ORDINARY)
 		return get_kept(member);
-	tag = scenario->whole ? get_whole(member, left) : search_all(member, left);
+	tag = scenario->whole ? get_whole(member, set, left) : search_all(member, set, left);
 	win(member, tag < 0 ? 0 : UINT64_C(1) << tag, left);
 	return tag;
 }
@@ -409,13 +453,43 @@ static struct member *begin(struct member *member)
 	return member;
 }
 
-int32_t tags_library_get(struct tags_hand *hand, uint64_t *left)
+static int32_t get_alone(struct tags_hand *hand, enum tags_kind kind, uint64_t *left)
 {
 	struct member *member = begin(member_of(hand));
-	const int32_t tag = is_spent(member) ? (int32_t)TAGS_SPENT : get(member, left);
+	const int32_t tag = is_spent(member) ? (int32_t)TAGS_SPENT : get(member, kind, left);
 
 	member->is_in_call = false;
 	return tag;
+}
+
+int32_t tags_library_get(struct tags_hand *hand, uint64_t *left)
+{
+	return get_alone(hand, TAGS_ORDINARY, left);
+}
+
+int32_t tags_library_get_reserved(struct tags_hand *hand, uint64_t *left)
+{
+	*left = 0;
+	if (member_of(hand)->map->set[TAGS_RESERVED].depth == 0)
+		return TAGS_NO_RESERVED;
+	return get_alone(hand, TAGS_RESERVED, left);
+}
+
+/* In one step. */
+int32_t tags_library_get_exactly(struct tags_hand *hand, uint32_t tag, uint64_t *left)
+{
+	struct member *member = member_of(hand);
+	struct set *set = set_of(member->map, tag);
+	uint32_t word = (tag - set->first) / set->width;
+	uint64_t bit = UINT64_C(1) << ((tag - set->first) % set->width);
+
+	*left = 0;
+	stop(&set->word[word], "gets a tag that is named");
+	if (set->word[word] & bit)
+		return TAGS_NO_TAG;
+	set->word[word] |= bit;
+	win(member, UINT64_C(1) << tag, left);
+	return (int32_t)tag;
 }
 
 int32_t tags_library_get_shallow(struct tags_hand *hand, uint32_t depth, uint64_t *left)
@@ -424,47 +498,47 @@ int32_t tags_library_get_shallow(struct tags_hand *hand, uint32_t depth, uint64_
 	int32_t tag;
 
 	*left = 0;
-	tag = search(member, 0, depth, false, left);
+	tag = search(member, &member->map->set[TAGS_ORDINARY], 0, depth, false, left);
 	win(member, tag < 0 ? 0 : UINT64_C(1) << tag, left);
 	return tag;
 }
 
 /* Claims the run of places that begins at the first free one. Returns what was won of it. */
-static uint64_t claim_run(struct map *map, uint32_t word, uint64_t run, int *place)
+static uint64_t claim_run(struct set *set, uint32_t word, uint64_t run, int *place)
 {
 	uint64_t found;
 
-	stop(&map->word[word], "looks at a word for a run");
-	found = map->word[word] | ~bits_of(map, word);
+	stop(&set->word[word], "looks at a word for a run");
+	found = set->word[word] | ~bits_of(set, word);
 	if (!~found)
 		return 0;
 	*place = __builtin_ctzll(~found);
 	run <<= *place;
-	if ((run & bits_of(map, word)) != run)
+	if ((run & bits_of(set, word)) != run)
 		return 0;
-	stop(&map->word[word], "claims a run");
-	found = map->word[word];
-	map->word[word] |= run;
+	stop(&set->word[word], "claims a run");
+	found = set->word[word];
+	set->word[word] |= run;
 	return run & ~found;
 }
 
 int32_t tags_library_get_batch(struct tags_hand *hand, uint32_t n, uint64_t *won, uint64_t *left)
 {
 	struct member *member = member_of(hand);
-	struct map *map = member->map;
+	struct set *set = &member->map->set[TAGS_ORDINARY];
 	int place = 0;
 
 	*left = 0;
-	for (uint32_t word = 0; word < map->words; word++) {
+	for (uint32_t word = 0; word < set->words; word++) {
 		uint64_t tags;
 
-		sweep(member, word, left);
-		tags = claim_run(map, word, (UINT64_C(1) << n) - 1, &place);
+		sweep(member, set, word, left);
+		tags = claim_run(set, word, (UINT64_C(1) << n) - 1, &place);
 		if (!tags)
 			continue;
 		*won = tags >> place;
-		win(member, tags << (word * map->width), left);
-		return (int32_t)(word * map->width) + place;
+		win(member, tags_of(set, word, tags), left);
+		return tag_at(set, word, place);
 	}
 	win(member, 0, left);
 	return TAGS_NO_TAG;
@@ -479,20 +553,20 @@ uint64_t map_keeps(const void *object)
 	return object ? ((const struct member *)object)->kept : 0;
 }
 
-/* Gives tags back by one step for each word. */
+/* Gives ordinary tags back by one step for each word. */
 static void give(struct member *member, uint64_t tags)
 {
-	struct map *map = member->map;
+	struct set *set = &member->map->set[TAGS_ORDINARY];
 
-	for (uint32_t word = 0; word < map->words; word++) {
-		uint64_t bits = tags >> (word * map->width) & bits_of(map, word);
+	for (uint32_t word = 0; word < set->words; word++) {
+		uint64_t bits = bits_in(set, word, tags) & bits_of(set, word);
 
 		if (!bits)
 			continue;
-		stop(&map->word[word], "gives tags back");
-		map->word[word] &= ~bits;
+		stop(&set->word[word], "gives tags back");
+		set->word[word] &= ~bits;
 	}
-	map->back += count(tags);
+	member->map->back += count(tags);
 }
 
 static void flush(struct member *member)
@@ -506,19 +580,30 @@ static void flush(struct member *member)
 
 static void set_aside(struct member *member, uint32_t tag)
 {
-	struct map *map = member->map;
-	uint32_t word = tag / map->width;
+	struct set *set = set_of(member->map, tag);
+	uint32_t word = (tag - set->first) / set->width;
 
-	stop(&map->aside[word], "sets a tag aside");
-	map->aside[word] |= UINT64_C(1) << (tag % map->width);
-	map->back++;
+	stop(&set->aside[word], "sets a tag aside");
+	set->aside[word] |= UINT64_C(1) << ((tag - set->first) % set->width);
+	member->map->back++;
+}
+
+static bool is_ordinary(const struct map *map, uint32_t tag)
+{
+	return tag >= map->set[TAGS_ORDINARY].first;
+}
+
+/* The ordinary tags that a hand holds. */
+static uint64_t held_ordinary(const struct member *member)
+{
+	return member->held & ~UINT64_C(0) << member->map->set[TAGS_ORDINARY].first;
 }
 
 /* Keeps the tag of this bit if it may be kept. Otherwise all kept tags go back. */
 static bool keep(struct member *member, uint64_t bit)
 {
 	struct map *map = member->map;
-	bool may_keep = !map->keeps_while_holding || member->held != bit;
+	bool may_keep = !map->keeps_while_holding || held_ordinary(member) != bit;
 
 	if (!may_keep || count(member->kept) == map->cache)
 		flush(member);
@@ -533,12 +618,12 @@ int32_t tags_library_clear(struct tags_hand *hand, uint32_t tag)
 	uint64_t bit = UINT64_C(1) << tag;
 	bool is_kept;
 
-	if (tag >= member->map->depth)
+	if (tag >= total_of(member->map))
 		return TAGS_NO_SUCH_TAG;
 	if (!(member->held & bit))
 		return TAGS_NOT_HELD;
 	begin(member);
-	is_kept = member->map->cache > 0 && keep(member, bit);
+	is_kept = member->map->cache > 0 && is_ordinary(member->map, tag) && keep(member, bit);
 	member->held &= ~bit;
 	if (!is_kept)
 		set_aside(member, tag);
@@ -549,7 +634,7 @@ int32_t tags_library_clear(struct tags_hand *hand, uint32_t tag)
 /* No other thread sees this. */
 int32_t tags_library_holds(struct tags_hand *hand, uint32_t tag)
 {
-	if (tag >= member_of(hand)->map->depth)
+	if (tag >= total_of(member_of(hand)->map))
 		return TAGS_NO_SUCH_TAG;
 	return (member_of(hand)->held >> tag & 1) != 0;
 }
@@ -590,6 +675,57 @@ int32_t tags_library_post(struct tags_hand *hand, uint32_t tag)
 	return TAGS_OK;
 }
 
+int32_t tags_library_take(struct tags_hand *hand, uint32_t tag)
+{
+	struct member *member = member_of(hand);
+	struct map *map = member->map;
+	uint64_t bit = UINT64_C(1) << tag;
+
+	if (tag >= total_of(map))
+		return TAGS_NO_SUCH_TAG;
+	stop(map->slot, "takes a posted tag");
+	for (struct member *from = map->member; from < map->member + map->hands; from++) {
+		if (!(from->posted & bit))
+			continue;
+		from->posted &= ~bit;
+		member->held |= bit;
+		return TAGS_OK;
+	}
+	return TAGS_NOT_POSTED;
+}
+
+/* Where the tag's slot is, or NULL if the hand does not hold the tag. */
+static uint64_t *slot_of(const struct tags_hand *hand, uint32_t tag)
+{
+	struct member *member = member_of(hand);
+
+	if (tag >= SLOTS)
+		fault("the model has no slot for tag %u", tag);
+	return member->held >> tag & 1 ? &member->map->slot[tag] : NULL;
+}
+
+int32_t tags_library_write(struct tags_hand *hand, uint32_t tag, uint64_t value, uint64_t *former)
+{
+	uint64_t *slot = slot_of(hand, tag);
+
+	if (!slot)
+		return TAGS_NOT_HELD;
+	if (former)
+		*former = *slot;
+	*slot = value;
+	return TAGS_OK;
+}
+
+int32_t tags_library_read(struct tags_hand *hand, uint32_t tag, uint64_t *value)
+{
+	const uint64_t *slot = slot_of(hand, tag);
+
+	if (!slot)
+		return TAGS_NOT_HELD;
+	*value = *slot;
+	return TAGS_OK;
+}
+
 int32_t tags_library_flush(struct tags_hand *hand)
 {
 	struct member *member = member_of(hand);
@@ -600,17 +736,44 @@ int32_t tags_library_flush(struct tags_hand *hand)
 }
 
 /*
- * Lists of those who wait
+ * Those who wait: the steps of tag_core
  */
 
-uint64_t map_listed(const void *object, uint32_t list)
+static uint64_t berth_of(enum standing standing, enum waiter waiter, uint64_t turn)
 {
-	return ((const struct map *)object)->list[list];
+	return turn * 8 + waiter + standing;
 }
 
-uint64_t map_turn(const void *object, uint32_t number)
+static bool is_as(uint64_t berth, enum standing standing, enum waiter waiter)
 {
-	return ((const struct map *)object)->turn[number];
+	return berth % 8 == berth_of(standing, waiter, 0);
+}
+
+/* The hands whose berths are so. */
+static uint64_t find(const struct set *set, enum standing standing, enum waiter waiter)
+{
+	uint64_t found = 0;
+
+	for (uint32_t i = 0; i < HANDS; i++)
+		found |= (uint64_t)is_as(set->berth[i], standing, waiter) << i;
+	return found;
+}
+
+uint64_t map_listed(const void *object, uint32_t kind, bool listens)
+{
+	return find(&((const struct map *)object)->set[kind], LISTED, listens ? LISTENER : SLEEPER);
+}
+
+uint64_t map_coming(const void *object, uint32_t kind)
+{
+	return find(&((const struct map *)object)->set[kind], TOLD, SLEEPER);
+}
+
+uint64_t map_turn(const void *object, uint32_t kind, uint32_t number)
+{
+	const uint64_t berth = ((const struct map *)object)->set[kind].berth[number];
+
+	return berth == UP ? 0 : berth / 8 + 1;
 }
 
 static uint64_t bit_of(const struct member *member)
@@ -618,47 +781,86 @@ static uint64_t bit_of(const struct member *member)
 	return UINT64_C(1) << member->number;
 }
 
-static uint64_t look_at_list(const struct map *map, uint32_t list)
+static void join_waiters(const struct member *member, struct set *set)
 {
-	stop(&map->list[list], list == SLEEPERS ? "looks at the sleepers" : "looks at the listeners");
-	tell_step("map:   they are %lx", (unsigned long)map->list[list]);
-	return map->list[list];
+	stop(&set->waiters, "joins all who wait");
+	set->waiters |= bit_of(member);
 }
 
-/* Removes some from a list. Returns those of them that were there. */
-static uint64_t remove_from(struct map *map, uint32_t list, uint64_t some, const char *what)
+static void leave_waiters(const struct member *member, struct set *set)
 {
-	uint64_t found;
-
-	stop(&map->list[list], what);
-	found = map->list[list] & some;
-	map->list[list] &= ~some;
-	tell_step("map:   removes %lx of the %s", (unsigned long)found, list == SLEEPERS ? "sleepers" : "listeners");
-	return found;
+	stop(&set->waiters, "leaves all who wait");
+	set->waiters &= ~bit_of(member);
 }
 
-static void take_turn(struct member *member)
+static uint64_t look_at_waiters(const struct set *set)
 {
-	struct map *map = member->map;
-	uint64_t turn;
-
-	stop(&map->clock, "takes a turn");
-	turn = ++map->clock;
-	stop(&map->turn[member->number], "notes its turn");
-	map->turn[member->number] = turn;
+	stop(&set->waiters, "looks at all who wait");
+	tell_step("map:   they are %lx", (unsigned long)set->waiters);
+	return set->waiters;
 }
 
-static void list_self(struct member *member, uint32_t list)
+static uint64_t take_turn(struct set *set)
 {
-	stop(&member->map->list[list], list == SLEEPERS ? "lists itself as a sleeper" : "lists itself as a listener");
-	member->map->list[list] |= bit_of(member);
+	stop(&set->clock, "takes a turn");
+	return set->clock++;
 }
 
+static void enlist(const struct member *member, struct set *set, enum waiter waiter, uint64_t turn)
+{
+	uint64_t *berth = &set->berth[member->number];
+
+	stop(berth, waiter == SLEEPER ? "lists itself as a sleeper" : "lists itself as a listener");
+	*berth = berth_of(LISTED, waiter, turn);
+}
+
+static uint64_t look_at_berth(const struct set *set, uint32_t number)
+{
+	stop(&set->berth[number], "looks at a berth");
+	tell_step("map:   that of hand %u is %lx", number, (unsigned long)set->berth[number]);
+	return set->berth[number];
+}
+
+/* Tells a hand that is listed as this waiter with this turn. Returns whether it was. */
+static bool tell(struct set *set, uint32_t number, enum waiter waiter, uint64_t turn)
+{
+	uint64_t *berth = &set->berth[number];
+	bool is_listed;
+
+	stop(berth, "tells");
+	is_listed = *berth == berth_of(LISTED, waiter, turn);
+	if (is_listed)
+		*berth = berth_of(TOLD, waiter, turn);
+	tell_step("map:   hand %u %s", number, is_listed ? "is told" : "is not listed so any more");
+	return is_listed;
+}
+
+static void get_up(const struct member *member, struct set *set)
+{
+	stop(&set->berth[member->number], "gets up");
+	set->berth[member->number] = UP;
+}
+
+/* One that waits keeps its turn. */
+static void list_self(const struct member *member, struct set *set, enum waiter waiter, bool again)
+{
+	const uint64_t berth = again ? look_at_berth(set, member->number) : UP;
+	uint64_t turn = berth / 8;
+
+	if (berth == UP) {
+		turn = take_turn(set);
+		join_waiters(member, set);
+	}
+	enlist(member, set, waiter, turn);
+}
+
+/* As which waiter it is listed makes no difference. */
 int32_t tags_library_is_told(struct tags_hand *hand, uint32_t listens)
 {
-	struct member *member = member_of(hand);
+	const struct member *member = member_of(hand);
 
-	return !(look_at_list(member->map, listens != 0) & bit_of(member));
+	(void)listens;
+	return look_at_berth(&member->map->set[TAGS_ORDINARY], member->number) % 4 != LISTED;
 }
 
 int32_t tags_library_number(struct tags_hand *hand)
@@ -667,102 +869,121 @@ int32_t tags_library_number(struct tags_hand *hand)
 }
 
 /*
- * Telling them
+ * Telling them: what tag_bell does by these steps
  */
 
-/* The one that took its turn first. */
-static uint64_t longest_wait(const struct map *map, uint64_t listed)
-{
-	uint64_t first = 0, bit = 0;
+/* What was found at the berths of those who wait: who is listed, with which turns, and how many sleepers were told. */
+struct found {
+	uint64_t sleepers, listeners;
+	uint64_t turns[HANDS];
+	uint32_t coming;
+};
 
-	for (uint32_t i = 0; i < map->hands; i++) {
-		if (!(listed >> i & 1))
-			continue;
-		stop(&map->turn[i], "looks at a turn");
-		if (bit && map->turn[i] >= first)
-			continue;
-		first = map->turn[i];
-		bit = UINT64_C(1) << i;
+static struct found look_at_each(const struct set *set, uint64_t waiters)
+{
+	struct found found = { 0 };
+
+	for (uint32_t i = 0; i < HANDS; i++) {
+		const uint64_t berth = waiters >> i & 1 ? look_at_berth(set, i) : UP;
+
+		found.sleepers |= (uint64_t)is_as(berth, LISTED, SLEEPER) << i;
+		found.listeners |= (uint64_t)is_as(berth, LISTED, LISTENER) << i;
+		found.turns[i] = berth / 8;
+		found.coming += is_as(berth, TOLD, SLEEPER);
 	}
-	return bit;
+	return found;
 }
 
-/* At most so many, and one at least. */
-static uint64_t longest_waits(const struct map *map, uint64_t listed, uint32_t most)
+/* The one of these that has the lowest turn. */
+static uint32_t earliest(uint64_t hands, const uint64_t *turns)
 {
-	uint64_t some = 0;
+	uint32_t first = (uint32_t)__builtin_ctzll(hands);
 
-	if (most >= count(listed))
-		return listed;
-	do
-		some |= longest_wait(map, listed & ~some);
-	while (count(some) < most);
-	return some;
+	for (uint32_t i = 0; i < HANDS; i++)
+		if (hands >> i & 1 && turns[i] < turns[first])
+			first = i;
+	return first;
 }
 
-/* Some that were found listed, or if none of these is any more, whoever is. Returns those told. */
-static uint64_t tell_some(struct map *map, uint32_t list, uint64_t listed, uint32_t most)
+/* Tells so many of those that were found listed as this waiter. Returns those told. */
+static uint64_t tell_in_turn(struct set *set, enum waiter waiter, uint32_t most, uint64_t listed, const uint64_t *turns)
 {
-	uint64_t told;
+	uint64_t told = 0;
 
-	if (!listed)
-		return 0;
-	told = remove_from(map, list, longest_waits(map, listed, most), "tells");
-	return told ? told : remove_from(map, list, UINT64_MAX, "tells all");
-}
+	while (listed && count(told) < most) {
+		const uint32_t number = earliest(listed, turns);
 
-static struct tags_told see_to(struct map *map, uint32_t freed)
-{
-	uint64_t sleepers = look_at_list(map, SLEEPERS);
-	uint64_t listeners = look_at_list(map, LISTENERS);
-	struct tags_told told = { 0, 0 };
-
-	if (!(sleepers | listeners))
-		return told;
-	told.sleepers = tell_some(map, SLEEPERS, sleepers, freed);
-	told.listeners = tell_some(map, LISTENERS, listeners, freed);
+		listed &= ~(UINT64_C(1) << number);
+		if (tell(set, number, waiter, turns[number]))
+			told |= UINT64_C(1) << number;
+	}
 	return told;
 }
 
-static bool is_any_listed(const struct map *map)
+/* No more than come, with those that were told before, to as many tags as there are. */
+static uint64_t tell_sleepers(struct set *set, uint32_t most, const struct found *found)
 {
-	uint64_t sleepers = look_at_list(map, SLEEPERS);
+	if (found->coming >= set->depth)
+		return 0;
+	if (most > set->depth - found->coming)
+		most = set->depth - found->coming;
+	return tell_in_turn(set, SLEEPER, most, found->sleepers, found->turns);
+}
 
-	return (sleepers | look_at_list(map, LISTENERS)) != 0;
+static struct tags_told see_to(struct set *set, uint32_t freed)
+{
+	const uint64_t waiters = look_at_waiters(set);
+	const uint32_t most = freed > 0 ? freed : 1;
+	struct tags_told told = { 0, 0 };
+	struct found found;
+
+	if (!waiters)
+		return told;
+	found = look_at_each(set, waiters);
+	told.sleepers = tell_sleepers(set, most, &found);
+	told.listeners = tell_in_turn(set, LISTENER, most, found.listeners, found.turns);
+	return told;
 }
 
 int32_t tags_library_see_to(struct tags_hand *hand, uint32_t freed, struct tags_told *told)
 {
 	struct member *member = member_of(hand);
+	struct set *set = &member->map->set[TAGS_ORDINARY];
 	uint32_t kept = count(member->kept);
 
 	*told = (struct tags_told){ 0, 0 };
 	if (member->map->cache > 0) {
-		if (!is_any_listed(member->map))
+		if (!look_at_waiters(set))
 			return 0;
 		flush(member);
 	}
-	*told = see_to(member->map, freed > kept ? freed : kept);
+	*told = see_to(set, freed > kept ? freed : kept);
 	return 0;
 }
 
-static bool is_any_free(const struct map *map, uint32_t word)
+int32_t tags_library_see_to_reserved(struct tags_hand *hand, uint32_t freed, struct tags_told *told)
+{
+	*told = see_to(&member_of(hand)->map->set[TAGS_RESERVED], freed);
+	return 0;
+}
+
+static bool is_any_free(const struct set *set, uint32_t word)
 {
 	uint64_t taken, aside;
 
-	stop(&map->word[word], "looks for a free tag");
-	taken = map->word[word];
-	stop(&map->aside[word], "looks for one in the cleared set");
-	aside = map->aside[word];
-	return aside != 0 || (taken & bits_of(map, word)) != bits_of(map, word);
+	stop(&set->word[word], "looks for a free tag");
+	taken = set->word[word];
+	stop(&set->aside[word], "looks for one in the cleared set");
+	aside = set->aside[word];
+	return aside != 0 || (taken & bits_of(set, word)) != bits_of(set, word);
 }
 
-static struct tags_told see_to_all(struct map *map)
+static struct tags_told see_to_all(struct set *set)
 {
-	if (is_any_listed(map))
-		for (uint32_t word = 0; word < map->words; word++)
-			if (is_any_free(map, word))
-				return see_to(map, 1);
+	if (look_at_waiters(set))
+		for (uint32_t word = 0; word < set->words; word++)
+			if (is_any_free(set, word))
+				return see_to(set, 1);
 	return (struct tags_told){ 0, 0 };
 }
 
@@ -770,42 +991,49 @@ static struct tags_told see_to_all(struct map *map)
  * Rounds
  */
 
-static int32_t end_wait(struct member *member, uint32_t list, int32_t answer, struct tags_told *told)
+static int32_t end_wait(struct member *member, struct set *set, int32_t answer, struct tags_told *told)
 {
-	remove_from(member->map, list, bit_of(member), "gets up");
-	*told = see_to_all(member->map);
+	get_up(member, set);
+	leave_waiters(member, set);
+	*told = see_to_all(set);
 	member->is_waiting = false;
 	return answer;
 }
 
 /* The hand of a new wait has just made a get, so its life is not used up. Any hand of the model can wait at once. */
-static int32_t make_round(struct tags_hand *hand, uint32_t list, int32_t why, bool again, struct tags_told *told)
+static int32_t make_round(struct tags_hand *hand, enum tags_kind kind, enum waiter waiter, int32_t why, bool again,
+			  struct tags_told *told)
 {
 	struct member *member = member_of(hand);
+	struct set *set = &member->map->set[kind];
 	uint64_t left;
 	int32_t tag;
 
 	*told = (struct tags_told){ 0, 0 };
 	if (again != member->is_waiting)
 		fault(again ? "a wait goes on that did not begin" : "a wait begins anew");
+	if (again && member->waits_for != kind)
+		fault("a wait goes on in the other set");
+	member->waits_for = kind;
+	if (set->depth == 0)
+		why = kind == TAGS_RESERVED ? TAGS_NO_RESERVED : TAGS_NO_SUCH_TAG;
 	if (why == TAGS_OK && again && is_spent(member))
 		why = TAGS_SPENT;
 	if (why != TAGS_OK)
-		return end_wait(member, list, why, told);
-	if (member->kept)
-		return end_wait(member, list, get_kept(member), told);
-	if (!again)
-		take_turn(member);
+		return end_wait(member, set, why, told);
+	if (member->kept && kind == TAGS_ORDINARY)
+		return end_wait(member, set, get_kept(member), told);
 	member->is_waiting = true;
-	list_self(member, list);
-	tag = get(member, &left);
-	return tag == TAGS_NO_TAG ? tag : end_wait(member, list, tag, told);
+	list_self(member, set, waiter, again);
+	tag = get(member, kind, &left);
+	return tag == TAGS_NO_TAG ? tag : end_wait(member, set, tag, told);
 }
 
-static int32_t make_round_alone(struct tags_hand *hand, uint32_t list, int32_t why, bool again, struct tags_told *told)
+static int32_t make_round_alone(struct tags_hand *hand, enum tags_kind kind, enum waiter waiter, int32_t why, bool again,
+				struct tags_told *told)
 {
 	struct member *member = begin(member_of(hand));
-	const int32_t answer = make_round(hand, list, why, again, told);
+	const int32_t answer = make_round(hand, kind, waiter, why, again, told);
 
 	member->is_in_call = false;
 	return answer;
@@ -813,30 +1041,40 @@ static int32_t make_round_alone(struct tags_hand *hand, uint32_t list, int32_t w
 
 int32_t tags_library_wait_on(struct tags_hand *hand, int32_t why, uint32_t again, struct tags_told *told)
 {
-	return make_round_alone(hand, SLEEPERS, why, again, told);
+	return make_round_alone(hand, TAGS_ORDINARY, SLEEPER, why, again, told);
 }
 
 int32_t tags_library_listen_on(struct tags_hand *hand, int32_t why, uint32_t again, struct tags_told *told)
 {
-	return make_round_alone(hand, LISTENERS, why, again, told);
+	return make_round_alone(hand, TAGS_ORDINARY, LISTENER, why, again, told);
+}
+
+int32_t tags_library_wait_on_reserved(struct tags_hand *hand, int32_t why, uint32_t again, struct tags_told *told)
+{
+	return make_round_alone(hand, TAGS_RESERVED, SLEEPER, why, again, told);
+}
+
+int32_t tags_library_listen_on_reserved(struct tags_hand *hand, int32_t why, uint32_t again, struct tags_told *told)
+{
+	return make_round_alone(hand, TAGS_RESERVED, LISTENER, why, again, told);
 }
 
 /*
  * Reports
  */
 
+static uint64_t find_busy(const struct set *set, uint32_t word)
+{
+	return set->word[word] & ~set->aside[word] & bits_of(set, word);
+}
+
 static int32_t report_busy(const struct map *map, uint64_t *into, size_t words)
 {
-	int32_t busy = 0;
-
 	memset(into, 0, words * sizeof(*into));
-	for (uint32_t word = 0; word < map->words; word++) {
-		uint64_t bits = map->word[word] & ~map->aside[word] & bits_of(map, word);
-
-		*into |= bits << (word * map->width);
-		busy += (int32_t)count(bits);
-	}
-	return busy;
+	for (const struct set *set = map->set; set < map->set + SETS; set++)
+		for (uint32_t word = 0; word < set->words; word++)
+			*into |= tags_of(set, word, find_busy(set, word));
+	return (int32_t)count(*into);
 }
 
 int32_t tags_library_pool_busy(struct tags_pool *pool, uint64_t *into, size_t words)
@@ -865,9 +1103,9 @@ int32_t tags_library_pool_show(struct tags_pool *pool, uint32_t kind, struct tag
 	if (!map)
 		return TAGS_BAD_HANDLE;
 	use_handle(map, "report");
-	sizes->bits_per_word = map->width;
-	for (uint32_t word = 0; kind == TAGS_ORDINARY && word < map->words; word++)
-		sizes->busy += count(map->word[word] & ~map->aside[word] & bits_of(map, word));
+	sizes->bits_per_word = map->set[kind].width;
+	for (uint32_t word = 0; word < map->set[kind].words; word++)
+		sizes->busy += count(find_busy(&map->set[kind], word));
 	return TAGS_OK;
 }
 

@@ -1,7 +1,7 @@
 """Errors to plant, one at a time, in a copy of the C files; and whether the explorer finds them.
 
 Each is a file of mutants/: `file:` names what to change, `found by:` the options with which it is found fast, and each `old:` is a text
-that is in the file once, which `new:` replaces. A text stands on the line of its name, or is the lines below it.
+that is in the file named last once, which `new:` replaces. A text stands on the line of its name, or is the lines below it.
 """
 import pathlib
 import re
@@ -35,18 +35,17 @@ class Mutant:
         elif key == "over":
             self.kind = inline
         elif key == "old":
-            self.edits.append([text, None])
+            self.edits.append([self.file, text, None])
         else:
-            self.edits[-1][1] = text
+            self.edits[-1][2] = text
 
     def plant(self, folder):
-        path = folder / self.file
-        text = path.read_text(encoding="utf-8")
-        for old, new in self.edits:
+        for file, old, new in self.edits:
+            path = folder / file
+            text = path.read_text(encoding="utf-8")
             if text.count(old) != 1:
-                raise Stale(f"{self.name}: {self.file} has this {text.count(old)} times, not once:\n{old}")
-            text = text.replace(old, new)
-        path.write_text(text, encoding="utf-8")
+                raise Stale(f"{self.name}: {file} has this {text.count(old)} times, not once:\n{old}")
+            path.write_text(text.replace(old, new), encoding="utf-8")
 
 
 def read(names=()):

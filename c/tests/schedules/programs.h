@@ -54,6 +54,19 @@ void mask_taker(int me);
 void reserver(int me);
 void all_reserver(int me);
 
+/* reserves.c: waits for a reserved tag */
+void reserved_sleeper(int me);
+void reserved_timed(int me);
+void reserved_listener(int me);
+void reserved_quitter(int me);
+void reserved_leaver(int me);
+void reserved_canceller(int me);
+void reserved_breaker(int me);
+void crosser(int me);
+void holder_of_both(int me);
+void reserved_keeper(int me);
+void shared_reserver(int me);
+
 /* lives.c: joins, leaves, and what happens to a whole pool */
 void stopper(int me);
 void joiner(int me);
@@ -75,6 +88,14 @@ void applicant(int me);
 void timed_applicant(int me);
 void drainer(int me);
 void timed_drainer(int me);
+/* noted.c: notes of tags, and who reads them */
+void noter(int me);
+void clumsy_noter(int me);
+void pair_noter(int me);
+void shared_noter(int me);
+void note_poster(int me);
+void note_taker(int me);
+void note_reader(int me);
 /* shares.c: hands that threads share */
 void borrower(int me);
 void shared_sleeper(int me);
@@ -82,8 +103,37 @@ void shared_timed(int me);
 void shared_poster(int me);
 void shared_taker(int me);
 void shared_caller(int me);
+/* Ends a round with what a get by shared hands returned. Returns whether the thread goes on. */
+bool use_shared(int me, int32_t tag);
 /* Whether the thread uses shared hands alone. */
 bool borrows(uint32_t thread);
+/* submits.c and nexts.c: queues of submitted tags */
+void submitter(int me);
+void sleeping_submitter(int me);
+void submitter_to_all(int me);
+void submitting_goer(int me);
+void relay(int me);
+void past_taker(int me);
+void next_poster(int me);
+void posted_submitter(int me);
+void next_sleeper(int me);
+void next_keeper(int me);
+void next_timed(int me);
+void next_taker(int me);
+void next_listener(int me);
+void next_quitter(int me);
+void next_leaver(int me);
+void next_canceller(int me);
+void next_of_all(int me);
+void next_or_get(int me);
+void queue_closer(int me);
+/* Whether a tag is in a queue, or was taken past it; and how many are. */
+bool is_submitted(uint32_t tag, uint32_t queue);
+uint32_t count_queued(uint32_t queue);
+/* Called before a stop: a thread that finds the pool stopped takes these still. */
+void note_queued_before_stop(void);
+/* The queues in which the thread waits, as a mask, and FOR_A_TAG if it waits for that, too. */
+uint8_t waits_in_queues(uint32_t thread);
 /* gated.c: waits for the tags of lists */
 void lister(int me);
 void timed_lister(int me);

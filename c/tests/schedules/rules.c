@@ -23,11 +23,14 @@ static uint64_t find_busy(void)
 	return busy[0];
 }
 
-/* Ordinary tags that are free. */
-static uint32_t count_free(void)
+/* Tags of a set that are free. */
+static uint32_t count_free(enum tags_kind kind)
 {
-	return scenario->tags - scenario->reserved -
-	       (uint32_t)__builtin_popcountll(find_busy() >> scenario->reserved);
+	const uint64_t reserved = (UINT64_C(1) << scenario->reserved) - 1;
+
+	if (kind == TAGS_RESERVED)
+		return scenario->reserved - (uint32_t)__builtin_popcountll(find_busy() & reserved);
+	return scenario->tags - scenario->reserved - (uint32_t)__builtin_popcountll(find_busy() & ~reserved);
 }
 
 bool is_asleep(const struct thread *thread)
@@ -40,7 +43,7 @@ static bool waits_for_a_thread(uint32_t i)
 {
 	return world->thread[i].kind == OP_POLL &&
 	       (scenario->program[i] == taker || scenario->program[i] == mask_taker ||
-		scenario->program[i] == shared_taker);
+		scenario->program[i] == shared_taker || scenario->program[i] == posted_submitter);
 }
 
 void note_stop(void)
@@ -48,6 +51,7 @@ void note_stop(void)
 	for (uint32_t i = 0; i < world->threads; i++)
 		if (is_asleep(&world->thread[i]) && !waits_for_a_thread(i) && !drains(i))
 			world->notes.stopped |= UINT32_C(1) << i;
+	note_queued_before_stop();
 }
 
 static void check_stopped(void)
@@ -66,13 +70,46 @@ static uint32_t count_at_gate(bool (*does)(uint32_t thread))
 	return n;
 }
 
-static uint32_t count_asleep(void)
+static bool waits_for_tag(uint32_t i)
+{
+	const uint8_t queues = waits_in_queues(i);
+
+	return (!queues || queues & FOR_A_TAG) && !waits_for_a_thread(i) && !is_at_gate(&world->thread[i]);
+}
+
+/* Those who wait for a tag of this set. */
+static uint32_t count_asleep(enum tags_kind kind)
 {
 	uint32_t n = 0;
 
 	for (uint32_t i = 0; i < world->threads; i++)
-		n += is_asleep(&world->thread[i]) && !waits_for_a_thread(i) && !is_at_gate(&world->thread[i]);
+		n += is_asleep(&world->thread[i]) && (world->notes.reserving >> i & 1) == (kind == TAGS_RESERVED) &&
+		     waits_for_tag(i);
 	return n;
+}
+
+static uint32_t count_in_queue(uint32_t queue)
+{
+	uint32_t n = 0;
+
+	for (uint32_t i = 0; i < world->threads; i++)
+		n += is_asleep(&world->thread[i]) && (waits_in_queues(i) >> queue & 1);
+	return n;
+}
+
+/* Nobody waits in a queue beside a tag that was submitted there. */
+static void check_queues(void)
+{
+	for (uint32_t queue = 0; queue < scenario->queues; queue++) {
+		const uint32_t waiting = count_in_queue(queue);
+		const int32_t queued = tags_pool_queued(pool, queue);
+
+		if (waiting > 0 && count_queued(queue) > 0)
+			fault("%u wait in queue %u beside a tag", waiting, queue);
+		if (queued != (int32_t)count_queued(queue))
+			fault("%u tags are in queue %u, not %d", count_queued(queue), queue, (int)queued);
+		check_quiet_queue(queue, waiting);
+	}
 }
 
 /* Nobody waits for tags that are all free. */
@@ -85,31 +122,37 @@ static void check_lists(void)
 
 static void check_locks(void)
 {
-	for (uint32_t i = 0; i < world->threads; i++)
+	for (uint32_t i = 0; i < world->threads; i++) {
 		if (!world->thread[i].is_done && world->thread[i].kind == OP_LOCK)
 			fault("thread %u waits for a lock for ever", i);
+		if (!world->thread[i].is_done && world->thread[i].kind == OP_YIELD)
+			fault("thread %u looks for ever for what nobody is about to do", i);
+	}
 }
 
 /* No thread can go on unless a deadline passes, a signal comes or a thread is cancelled. */
 void check_quiet(void)
 {
-	uint32_t asleep = count_asleep();
+	uint32_t asleep = count_asleep(TAGS_ORDINARY), reserving = count_asleep(TAGS_RESERVED);
 	uint32_t draining = count_at_gate(drains_all);
 	uint32_t listing = count_at_gate(drains_list);
 
 	check_locks();
 	if (is_closed()) {
-		if (asleep > 0)
-			fault("%u wait though the pool was closed", asleep);
+		if (asleep + reserving > 0)
+			fault("%u wait though the pool was closed", asleep + reserving);
 		return;
 	}
-	if (asleep > 0 && count_free() > 0)
+	if (asleep > 0 && count_free(TAGS_ORDINARY) > 0)
 		fault("%u wait beside a free tag", asleep);
+	if (reserving > 0 && count_free(TAGS_RESERVED) > 0)
+		fault("%u wait beside a free reserved tag", reserving);
 	if (draining + listing > 0 && !find_busy())
 		fault("%u wait for tags though all are back", draining + listing);
 	check_lists();
+	check_queues();
 	check_stopped();
-	check_quiet_bell(asleep, draining, listing);
+	check_quiet_bell(asleep + reserving, draining, listing);
 	check_quiet_gate(count_at_gate(hires), draining, listing, count_at_gate(borrows));
 }
 

@@ -7,6 +7,8 @@
 
 #include "explorer.h"
 
+#include <time.h>
+
 #ifdef __cplusplus
 extern "C" {
 #endif
@@ -21,6 +23,7 @@ struct scenario {
 	/* of the pool, as in struct tags_options */
 	uint32_t tags;
 	uint32_t reserved;
+	uint32_t queues;
 	uint32_t cache;
 	uint32_t flags;
 	/* the largest one where it is 0 */
@@ -125,6 +128,10 @@ void wait_event(int event);
 			fault("%s returned %d", #expression, (int)got_); \
 	})
 
+/* noted.c: whether tags have notes; and the time of the next note of the thread that runs, where nobody waits for a time. */
+bool has_notes(void);
+struct timespec next_time_of_note(void);
+
 /*
  * rules.c: what must hold in each state; where no thread can go on unless a deadline passes, a
  * signal comes or a thread is cancelled; and at the end
@@ -148,6 +155,8 @@ void check_quiet_bell(uint32_t asleep, uint32_t drains, uint32_t lists);
  * whether one sleeps at a gate.
  */
 void check_quiet_gate(uint32_t hirers, uint32_t drains, uint32_t lists, uint32_t sharers);
+/* What must hold of a queue, in which so many wait. */
+void check_quiet_queue(uint32_t queue, uint32_t asleep);
 /* A hand that threads share. */
 struct tags_hand *shared_hand(uint32_t number);
 bool is_at_gate(const struct thread *thread);
@@ -161,15 +170,23 @@ void before_load(const volatile void *address);
 bool has_lock(int thread);
 const char *name_of(uintptr_t address);
 
-/* Of the library, for tests alone: 0 if the hand is in this list, of sleepers or of listeners, and 1 if not. */
+/*
+ * Of the library, for tests alone: 0 if the hand is listed for an ordinary tag, and 1 if not. No call
+ * tells that of reserved tags, nor whether it is a listener: @listens makes no difference.
+ */
 int32_t tags_library_is_told(struct tags_hand *hand, uint32_t listens);
 
+/* The two sets of a pool's tags: enum tags_kind. */
+enum { SETS = 2 };
+
 /*
- * map.c alone: the tags that a hand keeps, those who are in a list of the pool, and the latest turn of a hand
+ * map.c alone: the tags that a hand keeps, and of a set of tags the hands that are listed as sleepers or as listeners, the
+ * sleepers that were told and are not up yet, and the turn of a hand that waits, 0 if it does not
  */
 __attribute__((weak)) uint64_t map_keeps(const void *object);
-__attribute__((weak)) uint64_t map_listed(const void *object, uint32_t list);
-__attribute__((weak)) uint64_t map_turn(const void *object, uint32_t number);
+__attribute__((weak)) uint64_t map_listed(const void *object, uint32_t kind, bool listens);
+__attribute__((weak)) uint64_t map_coming(const void *object, uint32_t kind);
+__attribute__((weak)) uint64_t map_turn(const void *object, uint32_t kind, uint32_t number);
 
 #ifdef __cplusplus
 }

@@ -19,11 +19,12 @@ bool borrows(uint32_t thread)
 	void (*const program)(int me) = scenario->program[thread];
 
 	return program == borrower || program == shared_sleeper || program == shared_timed ||
-	       program == shared_poster || program == shared_taker;
+	       program == shared_poster || program == shared_taker || program == shared_noter ||
+	       program == shared_reserver;
 }
 
 /* Ends a round with what a get returned. Returns whether the thread goes on. */
-static bool use_shared(int me, int32_t tag)
+bool use_shared(int me, int32_t tag)
 {
 	if (tag < 0) {
 		may_be_stopped(tag);

@@ -10,6 +10,9 @@
 /* A look more or less before the sleep for a lock would only be more states. */
 #define TAGS_LOOKS 1
 
+/* A stack has no room for many notes, and with one at a time a report of two tags is two looks. */
+#define TAGS_AT_ONCE 1
+
 /* tags.h is not to report to the thread sanitizer, whose functions accesses.c has. */
 #undef __SANITIZE_THREAD__
 

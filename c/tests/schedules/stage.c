@@ -43,6 +43,7 @@ void open_pool(void)
 
 	options.total = scenario->former_tags ? scenario->former_tags : scenario->tags;
 	options.reserved = scenario->reserved;
+	options.queues = scenario->queues;
 	options.hands = count_hands();
 	options.cache = scenario->cache;
 	options.flags = scenario->flags;

@@ -16,6 +16,7 @@ static bool can_go_on(const struct thread *thread)
 	case OP_LOCK:
 		return *(const int *)address == 0;
 	case OP_ASLEEP:
+	case OP_YIELD:
 		return thread->is_woken;
 	case OP_POLL:
 		return ((const struct event *)address)->count > 0;

@@ -108,10 +108,19 @@ static void clean_stack(char *stack, char *sp)
 	memset(sp - room, 0, room);
 }
 
+/* Whoever gave way may look again, as another thread makes a step. */
+static void wake_yielding(uint32_t besides)
+{
+	for (uint32_t i = 0; i < world->threads; i++)
+		if (i != besides && world->thread[i].kind == OP_YIELD)
+			world->thread[i].is_woken = true;
+}
+
 void run_thread(uint32_t i, uint8_t alternative)
 {
 	struct thread *thread = &world->thread[i];
 
+	wake_yielding(i);
 	current = (int)i;
 	thread->chosen = alternative;
 	clean_stack(arena.stack[i], thread->sp);
@@ -129,7 +138,7 @@ static bool runs_on(struct thread *thread, enum kind kind, int choices)
 	const bool may = thread->runs_on;
 
 	thread->runs_on = false;
-	return may && choices == 1 && kind != OP_LOCK && kind != OP_ASLEEP && kind != OP_POLL;
+	return may && choices == 1 && kind != OP_LOCK && kind != OP_ASLEEP && kind != OP_POLL && kind != OP_YIELD;
 }
 
 int pause_before(enum kind kind, const volatile void *address, size_t size, int choices, void *pc)

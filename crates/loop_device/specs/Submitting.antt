@@ -29,7 +29,7 @@ pub record PostsLine (tags : Queue ℕ) (line tag : ℕ) (old new : QueueHand �
   pub gets : BlockingGets (pool_of tags) tag old won
   pub written : QueueHand ℕ
   pub writes : Writes tag line (in_pool won) (in_pool written)
-  pub posts : Posts tag (in_pool written) (in_pool new)
+  pub posts : Posts tag 0 (in_pool written) (in_pool new)
   pub same : SameCounts won written × SameCounts written new
 
 -- the line was posted, and its tag pushed

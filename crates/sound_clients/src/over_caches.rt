@@ -3,7 +3,7 @@ ghost use Rattle.std.specs.Prelude.{◌≡◌, IfOk};
 ghost use Rattle.tag_cache.specs.Caches.{IsCacheOf};
 
 use tag_cache::{Cache, Pool, TagFault};
-use tag_pool::{SLEEPERS, Turn};
+use tag_pool::{Kind, Turn, Waiter};
 
 /// Gets a tag, writes its value and reads it, hands the tag over to itself, and clears it. Returns the value read.
 pub fn serve_from_cache(
@@ -32,14 +32,14 @@ pub fn flush_after_batch(cache: &mut Cache<u64>, pool: &Pool<u64>) -> Result<u32
     requires { IsCacheOf pool.now cache.old }
     ensures { IsCacheOf pool.now cache.new }
 {
-    cache.list_self(pool, SLEEPERS, Turn::Next);
+    cache.list_self(pool, Kind::Ordinary, Waiter::Sleeper, Turn::Next);
     let batch = cache.get_batch(pool, 2)?.answer;
-    cache.get_up(pool, SLEEPERS);
+    cache.get_up(pool, Kind::Ordinary);
     let Some((first, mask)) = batch else {
         return Ok(0);
     };
     cache.clear_batch(pool, &[first])?;
-    cache.wake_next(pool);
+    cache.wake_next(pool, Kind::Ordinary);
     cache.flush(pool);
     let left = mask.count_ones().saturating_sub(1);
     Ok(left)

@@ -27,7 +27,7 @@ pub fn serve_from_map(
     map.slot(caller, tag, value);
     let found = map.read(caller, tag);
     if again {
-        map.post(caller, tag);
+        map.post(caller, tag, 0);
     } else {
         map.put(caller, tag);
     }

@@ -3,7 +3,7 @@ ghost use Rattle.std.specs.Prelude.{◌≡◌, All, IfOk};
 ghost use Rattle.tag_pool.specs.Hands.{IsHandOf};
 
 use std::alloc::Global;
-use tag_pool::{Hand, LISTENERS, Options, Pool, TagFault, Totals, Turn};
+use tag_pool::{Hand, Kind, Options, Pool, TagFault, Totals, Turn, Waiter};
 
 /// Gets a tag, writes its value and reads it, hands the tag over to itself, and clears it. Returns the value read.
 pub fn serve_from_pool(pool: &Pool<u64>, hand: &mut Hand<u64>, value: u64) -> Result<u64, TagFault>
@@ -28,10 +28,10 @@ pub fn see_to_others(pool: &Pool<u64>, hand: &mut Hand<u64>) -> Result<bool, Tag
     requires { IsHandOf pool.now hand.old }
     ensures { IsHandOf pool.now hand.new }
 {
-    pool.list_self(hand, LISTENERS, Turn::Next);
+    pool.list_self(hand, Kind::Ordinary, Waiter::Listener, Turn::Next);
     let batch = pool.get_batch(hand, 2)?.answer;
-    let reserved = pool.get_reserved(hand)?;
-    let told = pool.get_up(hand, LISTENERS);
+    let reserved = pool.get_reserved(hand)?.answer;
+    let told = pool.get_up(hand, Kind::Ordinary);
     let Some((first, _)) = batch else {
         return Ok(false);
     };
@@ -40,7 +40,7 @@ pub fn see_to_others(pool: &Pool<u64>, hand: &mut Hand<u64>) -> Result<bool, Tag
     };
     pool.clear_batch(hand, &[first])?;
     pool.clear(hand, tag)?;
-    pool.wake_next(hand);
+    pool.wake_next(hand, Kind::Ordinary);
     Ok(told)
 }
 

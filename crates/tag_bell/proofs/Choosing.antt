@@ -1,165 +1,92 @@
--- Callers chosen of a list, one after another, and how many they are.
-use Rattle.std.specs.Prelude.{◌%◌, ◌*◌, ◌++◌, ◌+◌, ◌-◌, ◌/◌, ◌<◌, ◌^◌, ◌∷◌, ◌≡◌, ◌≢◌, ◌≤◌}
-use Rattle.tag_bell.proofs.Uses.{[], and_mask, and_pow, ap, append_assoc, arith, Bell, bit_and, bit_at, bit_at-lt, bit_at-zero, bit_at_above, bit_at_and, bit_at_or, bit_or, Caller, count_ones, dec_le, dite, inl, inr, IsSelection, le_or_l, le_or_r, List, LooksAndMisses, LooksAtLists, Misses, ones-le}
-use Rattle.tag_bell.proofs.Uses.{OnlyAdds, or_lt, or_step, pow_pos, refl, same_from_bits, Sight, Step, suc, sym, Tell, TellsFew, TellsFewOf, Told, without, zero, zero_from_ones, ℕ, ℕ_discrete, ⊎_elim, ◌∙◌}
-use lib.Count.{ones_step}
-use Rattle.tag_core.proofs.OneBit.{count_ones-pow}
-use Rattle.tag_bell.proofs.Rung.{added_after}
+-- Calls whose steps come one after another: whom they told, and in which order.
+use Rattle.std.specs.Prelude.{◌++◌, ◌+◌, ◌∷◌, ◌≡◌, ◌≤◌}
+use Rattle.tag_bell.proofs.Uses.{[], append_assoc, AreInTurn, arith, Bell, Caller, Enlist, Enter, GetUp, Leave, length-append, List, Listener, LookAll, LookAt, nobody, OnlyAdds, Post, ReadNote, record_of, refl, same_waiter, Sleeper, Step, subst, sym, Take, TakeTurn, Tell, Tells, TellsInTurn, told_in, Waiter, Word, ℕ, ◌∙◌}
+use Rattle.tag_bell.specs.declared.told.Told.{Told}
+use Rattle.tag_bell.specs.Looks.{AreOnWords, OnlyLooks}
+use Rattle.tag_bell.specs.Order.{MayPass}
+use Rattle.tag_bell.proofs.Rung.{added_after, steps_added, told-after}
 
--- two masks together have at most the ones of both
-ones_or : (d a b : ℕ) → a ≤ d → b ≤ d → count_ones (bit_or a b) ≤ count_ones a + count_ones b
-ones_or zero a b low low' =
-    let none : bit_or a b < 2 ^ 0 = or_lt 0 a b (omega arith) (omega arith) in
-    omega (arith, ones-le 0 (bit_or a b) none)
-ones_or (suc d) a b low low' =
-    let o = or_step a b in let s = ones_step a in let t = ones_step b in let u = ones_step (bit_or a b) in
-    let half : bit_or a b / 2 ≡ bit_or (a / 2) (b / 2) = omega arith in
-    let last : bit_or a b % 2 ≤ a % 2 + b % 2 = omega arith in
-    let e : count_ones (bit_or a b / 2) ≡ count_ones (bit_or (a / 2) (b / 2)) = ap count_ones half in
-    let ih = ones_or d (a / 2) (b / 2) (omega arith) (omega arith) in omega arith
+module _ {R : Type 0} where
+  -- steps on words tell nobody
+  words_tell : (kind : Waiter) (xs : List (Step R)) → AreOnWords xs → told_in kind xs ≡ 0
+  words_tell kind [] are = refl
+  words_tell kind (Word step ∷ xs) are = words_tell kind xs are
+  words_tell kind (step ∷ xs) are = absurd are
 
--- callers are among those listed if each bit of theirs is
-bits_among : (listed chosen : ℕ) → bit_and listed chosen ≡ chosen → (i : ℕ) → bit_at chosen i ≤ bit_at listed i
-bits_among listed chosen among i = let both = bit_at_and listed chosen i in
-    let is = ap (λ (n : ℕ). bit_at n i) among in omega arith
+  words_in_turn : (xs own : List (Step R)) → AreOnWords xs → AreInTurn xs own
+  words_in_turn [] own are = tt
+  words_in_turn (Word step ∷ xs) own are = words_in_turn xs own are
+  words_in_turn (step ∷ xs) own are = absurd are
 
-among_bits : (listed chosen : ℕ) → ((i : ℕ) → bit_at chosen i ≤ bit_at listed i) → bit_and listed chosen ≡ chosen
-among_bits listed chosen each = same_from_bits (bit_and listed chosen) chosen
-    (λ i. let both = bit_at_and listed chosen i in let few = each i in omega arith)
+  are_both : (ys xs : List (Step R)) → AreOnWords ys → AreOnWords xs → AreOnWords (ys ++ xs)
+  are_both [] xs are more = more
+  are_both (Word step ∷ ys) xs are more = are_both ys xs are more
+  are_both (step ∷ ys) xs are more = absurd are
 
--- the bit of one listed caller below this number, and none only if none of these is listed
-pub record LongestBelow (n listed bit : ℕ) : Type 0 where
-  pub among : bit_and listed bit ≡ bit
-  pub one : count_ones bit ≤ 1
-  pub none : bit ≡ 0 → (i : ℕ) → i < n → bit_at listed i ≡ 0
+  -- steps in turn before others in turn
+  pub in_turn_both : (ys xs own : List (Step R)) → AreInTurn ys (xs ++ own) → AreInTurn xs own
+      → AreInTurn (ys ++ xs) own
+  in_turn_both [] xs own turn more = more
+  in_turn_both (Word step ∷ ys) xs own turn more = in_turn_both ys xs own turn more
+  in_turn_both (Post tag note value ∷ ys) xs own turn more = in_turn_both ys xs own turn more
+  in_turn_both (Take tag found value ∷ ys) xs own turn more = in_turn_both ys xs own turn more
+  in_turn_both (ReadNote tag found ∷ ys) xs own turn more = in_turn_both ys xs own turn more
+  in_turn_both (Bell (Enter caller found) ∷ ys) xs own turn more = in_turn_both ys xs own turn more
+  in_turn_both (Bell (Leave caller found) ∷ ys) xs own turn more = in_turn_both ys xs own turn more
+  in_turn_both (Bell (LookAll found) ∷ ys) xs own turn more = in_turn_both ys xs own turn more
+  in_turn_both (Bell (TakeTurn found) ∷ ys) xs own turn more = in_turn_both ys xs own turn more
+  in_turn_both (Bell (Enlist caller waiter t found) ∷ ys) xs own turn more = in_turn_both ys xs own turn more
+  in_turn_both (Bell (LookAt whom found) ∷ ys) xs own turn more = in_turn_both ys xs own turn more
+  in_turn_both (Bell (Tell whom waiter t found) ∷ ys) xs own turn more = (
+    λ e. subst (λ (s : List (Step R)). MayPass (same_waiter waiter) s t e) (sym (append_assoc ys xs own)) (turn.0 e),
+    in_turn_both ys xs own turn.1 more,
+  )
+  in_turn_both (Bell (GetUp caller found) ∷ ys) xs own turn more = in_turn_both ys xs own turn more
 
-module _ (n listed : ℕ) where
-  pub takes_bit : bit_at listed n ≡ 1 → LongestBelow (n + 1) listed (2 ^ n)
-  takes_bit set = record {
-    among = and_pow listed n ∙ ap (λ (x : ℕ). x * 2 ^ n) set ∙ omega arith;
-    one = omega (arith, count_ones-pow n);
-    none = λ zero. absurd (omega (arith, pow_pos n));
+  -- looks tell nobody
+  pub looks_tell : (most : ℕ) (a b : Caller R) → OnlyLooks most a b → Tells most nobody a b
+  looks_tell most a b looks = record {
+    steps = looks.steps;
+    only = looks.only;
+    few = looks.few;
+    sleepers = sym (words_tell Sleeper looks.steps looks.are);
+    listeners = sym (words_tell Listener looks.steps looks.are);
   }
 
-  pub keeps_bit : (bit : ℕ) → bit ≢ 0 → LongestBelow n listed bit → LongestBelow (n + 1) listed bit
-  keeps_bit bit some so_far = record { among = so_far.among; one = so_far.one; none = λ zero. absurd (some zero) }
-
-  pub passes_bit : (bit : ℕ) → bit_at listed n ≢ 1 → LongestBelow n listed bit → LongestBelow (n + 1) listed bit
-  passes_bit bit clear so_far = let low = bit_at-lt listed n in record {
-    among = so_far.among;
-    one = so_far.one;
-    none = λ zero i below. dite (ℕ_discrete i n)
-        (λ (e : i ≡ n). ap (bit_at listed) e ∙ omega arith)
-        (λ (ne : ¬ (i ≡ n)). so_far.none zero i (omega arith));
+  -- looks after looks
+  pub looks_after : (first most : ℕ) (a b c : Caller R) → OnlyLooks first a b → OnlyLooks most b c
+      → OnlyLooks (first + most) a c
+  looks_after first most a b c before after = let few = before.few in let few' = after.few in record {
+    steps = after.steps ++ before.steps;
+    only = added_after before.steps after.steps a b c before.only after.only;
+    few = omega (arith, length-append after.steps before.steps);
+    are = are_both after.steps before.steps after.are before.are;
   }
 
-  pub longest_of_all : (bit : ℕ) → listed < 2 ^ n → LongestBelow n listed bit → IsSelection 1 listed bit
-  longest_of_all bit fits so_far = record {
-    among = so_far.among;
-    few = so_far.one;
-    some = λ some zero. some (same_from_bits listed 0 (λ i. dite (dec_le n i)
-        (λ (high : n ≤ i). bit_at_above listed n i fits high ∙ sym (bit_at-zero i))
-        (λ (low : ¬ (n ≤ i)). so_far.none zero i (omega arith) ∙ sym (bit_at-zero i))));
+  pub looks_within : (most more : ℕ) (a b : Caller R) → most ≤ more → OnlyLooks most a b → OnlyLooks more a b
+  looks_within most more a b le looks =
+      let few = looks.few in record { steps = looks.steps; only = looks.only; few = omega arith; are = looks.are }
+
+  -- a call that told in turn after steps that told nobody
+  pub turn_after : (most : ℕ) (told : Told) (a b c : Caller R) (xs : List (Step R)) → OnlyAdds xs a b
+      → AreInTurn xs (record_of a).steps → ((kind : Waiter) → told_in kind xs ≡ 0) → TellsInTurn most told b c
+      → TellsInTurn most told a c
+  turn_after most told a b c xs only turn none tells = let all = tells.round ++ tells.first in record {
+    first = tells.first ++ xs;
+    round = tells.round;
+    only = subst (λ (s : List (Step R)). OnlyAdds s a c) (append_assoc tells.round tells.first xs)
+        (added_after xs all a b c only tells.only);
+    tells_none = λ kind. told-after kind tells.first xs (tells.tells_none kind) ∙ none kind;
+    are = tells.are;
+    in_turn = subst (λ (s : List (Step R)). AreInTurn s (record_of a).steps) (append_assoc tells.round tells.first xs)
+        (in_turn_both all xs (record_of a).steps
+        (subst (λ (s : List (Step R)). AreInTurn all s) (steps_added xs a b only) tells.in_turn) turn);
+    of_sleepers = tells.of_sleepers;
+    of_listeners = tells.of_listeners;
   }
 
--- after so many turns at most so many of the callers listed are chosen, and one at least after the first
-pub record ChosenSoFar (turns listed chosen : ℕ) : Type 0 where
-  pub among : bit_and listed chosen ≡ chosen
-  pub few : count_ones chosen ≤ turns
-  pub some : 1 ≤ turns → listed ≢ 0 → chosen ≢ 0
-
-module _ (turns listed chosen bit : ℕ) (fits : listed < 2 ^ 64) (so_far : ChosenSoFar turns listed chosen)
-    (next : IsSelection 1 (without listed chosen) bit) where
-  -- no caller is chosen before the first turn, so all that are listed are left
-  first_some : ¬ (1 ≤ turns) → listed ≢ 0 → bit ≢ 0
-  first_some first some = let few = so_far.few in
-      next.some (λ none. some (sym (all (zero_from_ones chosen (omega arith))) ∙ none))
-    where
-      all : chosen ≡ 0 → without listed chosen ≡ listed
-      all e = ap (λ (m : ℕ). bit_and listed (2 ^ 64 - 1 - m)) e ∙ and_mask listed 64 ∙ omega arith
-
-  pub chooses_next : ChosenSoFar (turns + 1) listed (bit_or chosen bit)
-  chooses_next = record {
-    among = among_bits listed (bit_or chosen bit) (λ i. let both = bit_at_or chosen bit i in
-        let old = bits_among listed chosen so_far.among i in
-        let new = bits_among (without listed chosen) bit next.among i in
-        let part = bit_at_and listed (2 ^ 64 - 1 - chosen) i in omega arith);
-    few = let more = ones_or (chosen + bit) chosen bit (omega arith) (omega arith) in let old = so_far.few in
-        let new = next.few in omega arith;
-    some = λ later some none. let l = le_or_l chosen bit in let r = le_or_r chosen bit in
-        dite (dec_le 1 turns) (λ (again : 1 ≤ turns). so_far.some again some (omega arith))
-        (λ (first : ¬ (1 ≤ turns)). first_some first some (omega arith));
-  }
-
--- what was said of some steps holds of them with steps after or before them
-module _ {R : Type 0} (list most : ℕ) (xs : List (Step R)) where
-  pub misses-after : (listed : ℕ) (ys : List (Step R)) → Misses list most listed xs → Misses list most listed (ys ++ xs)
-  misses-after listed ys m = record {
-    newer = ys ++ m.newer;
-    older = m.older;
-    chosen = m.chosen;
-    found = m.found;
-    tell = ap (λ (s : List (Step R)). ys ++ s) m.tell
-        ∙ sym (append_assoc ys m.newer (Bell (Tell list m.chosen m.found) ∷ m.older));
-    selection = m.selection;
-    some = m.some;
-    missed = m.missed;
-  }
-
-  pub misses-before : (listed : ℕ) (ys : List (Step R)) → Misses list most listed xs
-      → Misses list most listed (xs ++ ys)
-  misses-before listed ys m = record {
-    newer = m.newer;
-    older = m.older ++ ys;
-    chosen = m.chosen;
-    found = m.found;
-    tell = ap (λ (s : List (Step R)). s ++ ys) m.tell
-        ∙ append_assoc m.newer (Bell (Tell list m.chosen m.found) ∷ m.older) ys;
-    selection = m.selection;
-    some = m.some;
-    missed = m.missed;
-  }
-
-  looks-before : (ys : List (Step R)) → LooksAndMisses list most xs → LooksAndMisses list most (xs ++ ys)
-  looks-before ys l = record {
-    newer = l.newer;
-    older = l.older ++ ys;
-    listed = l.listed;
-    look = ap (λ (s : List (Step R)). s ++ ys) l.look ∙ append_assoc l.newer (Bell (Sight list l.listed) ∷ l.older) ys;
-    misses = l.misses;
-  }
-
-module _ {R : Type 0} (most : ℕ) (told : Told) (a b c : Caller R) where
-  -- a call that tells few of the lists as it had found them
-  pub few_after_looks : (sleepers listeners : ℕ) → LooksAtLists sleepers listeners a b
-      → TellsFewOf most sleepers listeners told b c → TellsFew most told a c
-  few_after_looks sleepers listeners looks tells =
-      let last : List (Step R) = Bell (Sight 1 listeners) ∷ [] in
-      let first : List (Step R) = Bell (Sight 0 sleepers) ∷ [] in
-      record {
-        steps = tells.steps ++ (last ++ first);
-        only = added_after (last ++ first) tells.steps a b c looks tells.only;
-        of_sleepers = ⊎_elim (λ few. inl few) (λ m. inr (record {
-          newer = tells.steps ++ last;
-          older = [];
-          listed = sleepers;
-          look = sym (append_assoc tells.steps last first);
-          misses = misses-before 0 most tells.steps sleepers last m;
-        })) tells.of_sleepers;
-        of_listeners = ⊎_elim (λ few. inl few) (λ m. inr (record {
-          newer = tells.steps;
-          older = first;
-          listed = listeners;
-          look = refl;
-          misses = m;
-        })) tells.of_listeners;
-      }
-
-  -- and one that tells few after other steps
-  pub few_after : (xs : List (Step R)) → OnlyAdds xs a b → TellsFew most told b c → TellsFew most told a c
-  few_after xs adds tells = record {
-    steps = tells.steps ++ xs;
-    only = added_after xs tells.steps a b c adds tells.only;
-    of_sleepers = ⊎_elim (λ few. inl few) (λ m. inr (looks-before 0 most tells.steps xs m)) tells.of_sleepers;
-    of_listeners = ⊎_elim (λ few. inl few) (λ m. inr (looks-before 1 most tells.steps xs m)) tells.of_listeners;
-  }
+  pub turn_after_looks : (most n : ℕ) (told : Told) (a b c : Caller R) → OnlyLooks n a b → TellsInTurn most told b c
+      → TellsInTurn most told a c
+  turn_after_looks most n told a b c looks =
+      turn_after most told a b c looks.steps looks.only (words_in_turn looks.steps (record_of a).steps looks.are)
+      (λ kind. words_tell kind looks.steps looks.are)

@@ -1,12 +1,22 @@
 mod Uses
 pub mod ListBits
 pub mod Spots
+pub mod Berths
 pub mod OneStep
 pub mod EachStep
 pub mod Safe
+pub mod Rounds
+pub mod Turns
 pub mod Rung
 pub mod Seeing
 pub mod Looking
+pub mod Entering
 pub mod Rousing
-pub mod StillThere
 pub mod Choosing
+pub mod Lines
+pub mod Goes
+pub mod Coming
+pub mod LookLines
+pub mod Ones
+pub mod OneTell
+pub mod Noting

@@ -1,34 +1,7 @@
--- Bits of words and lists: what an and-not leaves of them, one value of a function changed, and a bit of a number that
--- is not 0.
-use Rattle.std.specs.Prelude.{◌%◌, ◌-◌, ◌/◌, ◌<◌, ◌^◌, ◌≡◌, ◌≢◌, ◌≤◌}
-use Rattle.tag_bell.proofs.Uses.{ap, arith, bit_and, bit_at, bit_at-lt, bit_at-pow_other, bit_at-suc, bit_at-zero, bit_at_above, bit_at_and, bit_at_lowest, bit_at_or, bit_minus, bit_or, Bool, changed_at, cond, dec_le, dite, eq-eqb, ne_eqb, same_from_bits, suc, without, zero, ℕ, ℕ_discrete, ◌∙◌}
-
--- a changed function has the new value there, and the old ones elsewhere
-pub changed_at-here : (f : ℕ → ℕ) (at value i : ℕ) → i ≡ at → changed_at f at value i ≡ value
-changed_at-here f at value i e = ap (λ (b : Bool). cond b value (f i)) (eq-eqb i at e)
-
-pub changed_at-else : (f : ℕ → ℕ) (at value i : ℕ) → i ≢ at → changed_at f at value i ≡ f i
-changed_at-else f at value i ne = ap (λ (b : Bool). cond b value (f i)) (ne_eqb i at ne)
-
--- a word less a mask has no bit of the mask, which may have more than 64
-pub without-in : (word mask bit : ℕ) → bit_at mask bit ≡ 1 → bit_at (without word mask) bit ≡ 0
-without-in word mask bit set = dite (dec_le (2 ^ 64) mask)
-    (λ (wide : 2 ^ 64 ≤ mask). let none : 2 ^ 64 - 1 - mask ≡ 0 = omega arith in
-    let rest = bit_at_and word (2 ^ 64 - 1 - mask) bit in
-    let off : bit_at (2 ^ 64 - 1 - mask) bit ≡ 0 = ap (λ (m : ℕ). bit_at m bit) none ∙ bit_at-zero bit in omega arith)
-    (λ (narrow : ¬ (2 ^ 64 ≤ mask)). dite (dec_le 64 bit)
-    (λ (high : 64 ≤ bit). let off = bit_at_above mask 64 bit (omega arith) high in absurd (omega arith))
-    (λ (low : ¬ (64 ≤ bit)). let rest = bit_minus word mask bit (omega arith) (omega arith) in omega arith))
-
--- and it has bits of the word alone
-pub without-of : (word mask bit : ℕ) → bit_at (without word mask) bit ≡ 1 → bit_at word bit ≡ 1
-without-of word mask bit set =
-    let rest = bit_at_and word (2 ^ 64 - 1 - mask) bit in let low = bit_at-lt word bit in omega arith
-
--- a list with one more caller has no other bit more
-pub with-of : (list caller bit : ℕ) → bit ≢ caller → bit_at (bit_or list (2 ^ caller)) bit ≡ 1 → bit_at list bit ≡ 1
-with-of list caller bit other set =
-    let both = bit_at_or list (2 ^ caller) bit in let off = bit_at-pow_other caller bit other in omega arith
+-- A bit of a number that is not 0, and a bit that a word lacks.
+use Rattle.std.specs.Prelude.{◌%◌, ◌/◌, ◌<◌, ◌^◌, ◌≡◌, ◌≢◌, ◌≤◌}
+use Rattle.tag_core.proofs.ListedBits.{without-in, without-of}
+use Rattle.tag_bell.proofs.Uses.{ap, arith, bit_and, bit_at, bit_at-lt, bit_at-suc, bit_at-zero, bit_at_above, bit_at_and, bit_at_lowest, bit_minus, dec_le, dite, same_from_bits, suc, without, zero, ℕ, ℕ_discrete, ◌∙◌}
 
 -- a number that is not 0 has a bit, found after at most so many halvings
 bit_found : (most n : ℕ) → n ≤ most → n ≢ 0 → (i : ℕ) × (bit_at n i ≡ 1)

@@ -1,11 +1,16 @@
 -- Callers of a mask that are roused one after another, in the order of their numbers.
 use Rattle.std.specs.Prelude.{◌+◌, ◌<◌, ◌^◌, ◌≡◌, ◌≢◌, ◌≤◌}
-use Rattle.tag_bell.proofs.Uses.{arith, bit_at, bit_at-lt, bit_at-pow_other, bit_at-pow_same, bit_at_above, bit_at_or, bit_or, Caller, dec_le, dite, IsUnchanged, same_from_bits, subst, sym, ℕ, ℕ_discrete, ◌∙◌}
+use Rattle.tag_bell.proofs.Uses.{ap, arith, bit_at, bit_at-lt, bit_at-pow_other, bit_at-pow_same, bit_at-zero, bit_at_above, bit_at_or, bit_or, dec_le, dite, same_from_bits, subst, sym, ℕ, ℕ_discrete, ◌∙◌}
 
 -- the callers of the mask below this number were roused, and nobody else
 pub record RousedBelow (n mask roused : ℕ) : Type 0 where
   pub below : (i : ℕ) → i < n → bit_at roused i ≡ bit_at mask i
   pub above : (i : ℕ) → n ≤ i → bit_at roused i ≡ 0
+
+-- nobody is below 0
+pub roused_none : (mask roused : ℕ) → roused ≡ 0 → RousedBelow 0 mask roused
+roused_none mask roused none =
+    record { below = λ i low. absurd (omega arith); above = λ i high. ap (λ (n : ℕ). bit_at n i) none ∙ bit_at-zero i }
 
 module _ (n mask roused : ℕ) (so_far : RousedBelow n mask roused) where
   -- one more roused caller changes its own bit alone
@@ -39,11 +44,3 @@ pub roused_all : (n mask roused : ℕ) → mask < 2 ^ n → RousedBelow n mask r
 roused_all n mask roused fits so_far = same_from_bits roused mask (λ i. dite (dec_le n i)
     (λ (high : n ≤ i). so_far.above i high ∙ sym (bit_at_above mask n i fits high))
     (λ (low : ¬ (n ≤ i)). so_far.below i (omega arith)))
-
--- unchanged, and again
-pub unchanged_on : {R : Type 0} (a b c : Caller R) → IsUnchanged a b → IsUnchanged b c → IsUnchanged a c
-unchanged_on a b c first next = record {
-  known = next.known ∙ first.known;
-  slots = λ tag. next.slots tag ∙ first.slots tag;
-  same_map = next.same_map ∙ first.same_map;
-}

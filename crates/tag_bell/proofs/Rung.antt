@@ -1,20 +1,23 @@
 -- Steps that change nothing of a caller's record but its list of steps, and what follows for what it has to see to.
 use Rattle.std.specs.Prelude.{◌++◌, ◌+◌, ◌-◌, ◌<◌, ◌^◌, ◌∷◌, ◌≡◌, ◌≢◌, ◌≤◌}
-use Rattle.tag_bell.proofs.Uses.{[], Adds, ap, append_assoc, arith, Bell, BellStep, bit_and, bit_at, bit_at-lt, bit_at-zero, bit_at_and, bit_at_ones, bit_or, Bool, Caller, cond, dite, Enlist, eq-eqb, false, GetUp, in_aside, in_word, Layout, le_or_l, le_or_r, length-append, List, Look, LookAside}
-use Rattle.tag_bell.proofs.Uses.{min, nat_eq, ne_eqb, nobody, OnlyAdds, or_zero_l, Owes, OwesNoneWhere, OwesNothing, place_of, Post, Record, record_of, refl, SameMap, Sight, Spot, Step, subst, sym, Take, Tell, Tells, Told, told_in, true, Word, word_depth, word_of, ℕ, ℕ_discrete, ⊎_elim}
+use Rattle.tag_bell.proofs.Uses.{[], Adds, ap, append_assoc, arith, Bell, BellStep, bit_and, bit_at, bit_at-lt, bit_at-zero, bit_at_and, bit_at_ones, bit_or, Bool, Caller, cond, dite, Enlist, Enter, false, GetUp, in_aside, in_word, inl, inr, Layout, le_or_l, le_or_r, Leave, length-append, List, Listener, Look, LookAll, LookAside, LookAt}
+use Rattle.tag_bell.proofs.Uses.{min, newly_told, nobody, OnlyAdds, or_zero_r, Owes, OwesNoneWhere, OwesNothing, place_of, Post, ReadNote, Record, record_of, refl, same_waiter, SameMap, Sleeper, Spot, Step, subst, sym, Take, TakeTurn, Tell, Tells, told_in, true, Waiter, waits_as, WaitsAsBefore, Word, word_depth, word_of, ℕ, ℕ_discrete, ⊎_elim}
 use Rattle.tag_bell.proofs.Uses.{◌∙◌}
+use Rattle.tag_bell.specs.declared.told.Told.{Told}
 use Rattle.tag_layout.proofs.PlaceFacts.{place_of-below}
 use Rattle.tag_bell.specs.Waiting as steps
 use Rattle.tag_bell.specs.Callers.{layout_of}
+use Rattle.tag_bell.specs.Calls.{FindsWaiters, OwesNoMore}
+use Rattle.tag_bell.specs.Looks.{OnlyLooks}
 
 plus_none : (n : ℕ) → n + 0 ≡ n
 plus_none n = omega arith
 
 -- neither of two sets has a bit if both together have none
-none_of : (b : Bool) (one more rest : ℕ) → cond b (bit_or one more) more ≡ 0
-    → (more ≡ 0) × (cond b (bit_or one rest) rest ≡ rest)
-none_of true one more rest e = let a = le_or_l one more in let z = le_or_r one more in
-    let no : one ≡ 0 = omega arith in (omega arith, ap (λ (n : ℕ). bit_or n rest) no ∙ or_zero_l rest)
+none_of : (b : Bool) (one more rest : ℕ) → cond b (bit_or more one) more ≡ 0
+    → (more ≡ 0) × (cond b (bit_or rest one) rest ≡ rest)
+none_of true one more rest e = let a = le_or_l more one in let z = le_or_r more one in
+    let no : one ≡ 0 = omega arith in (omega arith, ap (λ (n : ℕ). bit_or rest n) no ∙ or_zero_r rest)
 none_of false one more rest e = (e, refl)
 
 module _ {R : Type 0} where
@@ -31,7 +34,7 @@ module _ {R : Type 0} where
     same_map = same;
   }
 
-  -- a step on a list, a look at a word, and one at a cleared set
+  -- a step by which callers wait, a look at a word, and one at a cleared set
   pub rung : (step : BellStep) (old new : Caller R) → Adds (Bell step) old new → OnlyAdds (Bell step ∷ []) old new
   rung step old new did = one_added (Bell step) old new did.same_map did.known
 
@@ -60,55 +63,61 @@ module _ {R : Type 0} where
   layout_kept xs old new is = ap (λ (r : Record R). r.shape.layout) is.known
 
   -- the caller has nothing to see to if its steps say so
-  pub owes_none : (list : ℕ) (xs : List (Step R)) (old new : Caller R) → OnlyAdds xs old new
-      → steps.OwesNothing (layout_of old) list (xs ++ (record_of old).steps) → OwesNothing list new
-  owes_none list xs old new is holds = subst (λ (x : Layout × List (Step R)). steps.OwesNothing x.0 list x.1)
+  pub owes_none : (kind : Waiter) (xs : List (Step R)) (old new : Caller R) → OnlyAdds xs old new
+      → steps.OwesNothing (layout_of old) (same_waiter kind) (xs ++ (record_of old).steps) → OwesNothing kind new
+  owes_none kind xs old new is holds = subst (λ (x : Layout × List (Step R)). steps.OwesNothing x.0 (same_waiter kind) x.1)
       (λ j. (sym (layout_kept xs old new is) j, sym (steps_added xs old new is) j)) holds
 
-  pub owes_no_spot : (list : ℕ) (xs : List (Step R)) (old new : Caller R) → OnlyAdds xs old new
-      → ((spot : Spot) → ¬ (Owes list (xs ++ (record_of old).steps) spot)) → OwesNothing list new
-  owes_no_spot list xs old new is none = owes_none list xs old new is (λ tag low owes.
-      ⊎_elim (λ a. none (in_word (layout_of old) tag) a) (λ b. none (in_aside (layout_of old) tag) b) owes)
+  pub owes_no_spot : (kind : Waiter) (xs : List (Step R)) (old new : Caller R) → OnlyAdds xs old new
+      → ((spot : Spot) (e : ℕ) → ¬ (Owes (same_waiter kind) (xs ++ (record_of old).steps) spot e)) → OwesNothing kind new
+  owes_no_spot kind xs old new is none = owes_none kind xs old new is (λ tag low e owes.
+      ⊎_elim (λ a. none (in_word (layout_of old) tag) e a) (λ b. none (in_aside (layout_of old) tag) e b) owes)
+
+  -- it has no more to see to, and waits as it did, if its steps say so
+  pub owes_no_more : (kind : Waiter) (xs : List (Step R)) (old new : Caller R) → OnlyAdds xs old new
+      → ((spot : Spot) (e : ℕ) → Owes (same_waiter kind) (xs ++ (record_of old).steps) spot e
+      → Owes (same_waiter kind) (record_of old).steps spot e) → OwesNoMore kind old new
+  owes_no_more kind xs old new is less none = owes_none kind xs old new is (λ tag low e owes.
+      none tag low e (⊎_elim (λ a. inl (less _ e a)) (λ b. inr (less _ e b)) owes))
+
+  pub waits_same : (xs : List (Step R)) (old new : Caller R) → OnlyAdds xs old new
+      → waits_as (xs ++ (record_of old).steps) ≡ waits_as (record_of old).steps → WaitsAsBefore old new
+  waits_same xs old new is same = ap waits_as (steps_added xs old new is) ∙ same
 
   -- steps that tell nobody, behind others and before them
-  pub told-before : (list : ℕ) (ys xs : List (Step R)) → told_in list xs ≡ 0 → told_in list (ys ++ xs) ≡ told_in list ys
-  told-before list [] xs e = e
-  told-before list (Word step ∷ ys) xs e = told-before list ys xs e
-  told-before list (Post tag value ∷ ys) xs e = told-before list ys xs e
-  told-before list (Take tag found value ∷ ys) xs e = told-before list ys xs e
-  told-before list (Bell (Enlist at caller found) ∷ ys) xs e = told-before list ys xs e
-  told-before list (Bell (Sight at found) ∷ ys) xs e = told-before list ys xs e
-  told-before list (Bell (Tell at mask found) ∷ ys) xs e =
-      ap (λ (n : ℕ). cond (nat_eq at list) (bit_or (bit_and found mask) n) n) (told-before list ys xs e)
-  told-before list (Bell (GetUp at caller found) ∷ ys) xs e = told-before list ys xs e
+  pub told-before : (kind : Waiter) (ys xs : List (Step R)) → told_in kind xs ≡ 0 → told_in kind (ys ++ xs) ≡ told_in kind ys
+  told-before kind [] xs e = e
+  told-before kind (Word step ∷ ys) xs e = told-before kind ys xs e
+  told-before kind (Post tag note value ∷ ys) xs e = told-before kind ys xs e
+  told-before kind (Take tag found value ∷ ys) xs e = told-before kind ys xs e
+  told-before kind (ReadNote tag found ∷ ys) xs e = told-before kind ys xs e
+  told-before kind (Bell (Enter caller found) ∷ ys) xs e = told-before kind ys xs e
+  told-before kind (Bell (Leave caller found) ∷ ys) xs e = told-before kind ys xs e
+  told-before kind (Bell (LookAll found) ∷ ys) xs e = told-before kind ys xs e
+  told-before kind (Bell (TakeTurn found) ∷ ys) xs e = told-before kind ys xs e
+  told-before kind (Bell (Enlist caller waiter turn found) ∷ ys) xs e = told-before kind ys xs e
+  told-before kind (Bell (LookAt whom found) ∷ ys) xs e = told-before kind ys xs e
+  told-before kind (Bell (Tell whom waiter turn found) ∷ ys) xs e =
+      ap (λ (n : ℕ). cond (same_waiter kind waiter) (bit_or n (newly_told whom waiter turn found)) n)
+      (told-before kind ys xs e)
+  told-before kind (Bell (GetUp caller found) ∷ ys) xs e = told-before kind ys xs e
 
-  pub told-after : (list : ℕ) (ys xs : List (Step R)) → told_in list ys ≡ 0 → told_in list (ys ++ xs) ≡ told_in list xs
-  told-after list [] xs e = refl
-  told-after list (Word step ∷ ys) xs e = told-after list ys xs e
-  told-after list (Post tag value ∷ ys) xs e = told-after list ys xs e
-  told-after list (Take tag found value ∷ ys) xs e = told-after list ys xs e
-  told-after list (Bell (Enlist at caller found) ∷ ys) xs e = told-after list ys xs e
-  told-after list (Bell (Sight at found) ∷ ys) xs e = told-after list ys xs e
-  told-after list (Bell (Tell at mask found) ∷ ys) xs e =
-      let n = none_of (nat_eq at list) (bit_and found mask) (told_in list ys) (told_in list (ys ++ xs)) e in
-      n.1 ∙ told-after list ys xs n.0
-  told-after list (Bell (GetUp at caller found) ∷ ys) xs e = told-after list ys xs e
-
--- a tell of a list ends what the caller has to see to there, if it told somebody
-module _ (R : Type 0) (list mask found : ℕ) where
-  pub tell_done : (older : List (Step R)) (spot : Spot) → bit_and found mask ≢ 0
-      → ¬ (Owes list (Bell (Tell list mask found) ∷ older) spot)
-  tell_done older spot some owes = some (owes.0 refl).1
-
-  -- whom it told there, and that it told nobody elsewhere
-  pub told_here : (older : List (Step R)) → told_in list (Bell (Tell list mask found) ∷ older) ≡ bit_or (bit_and found mask) (told_in list older)
-  told_here older = let more = told_in list older in
-      ap (λ (b : Bool). cond b (bit_or (bit_and found mask) more) more) (eq-eqb list list refl)
-
-  pub told_elsewhere : (other : ℕ) (older : List (Step R)) → other ≢ list
-      → told_in other (Bell (Tell list mask found) ∷ older) ≡ told_in other older
-  told_elsewhere other older ne = let more = told_in other older in
-      ap (λ (b : Bool). cond b (bit_or (bit_and found mask) more) more) (ne_eqb list other (λ e. ne (sym e)))
+  pub told-after : (kind : Waiter) (ys xs : List (Step R)) → told_in kind ys ≡ 0 → told_in kind (ys ++ xs) ≡ told_in kind xs
+  told-after kind [] xs e = refl
+  told-after kind (Word step ∷ ys) xs e = told-after kind ys xs e
+  told-after kind (Post tag note value ∷ ys) xs e = told-after kind ys xs e
+  told-after kind (Take tag found value ∷ ys) xs e = told-after kind ys xs e
+  told-after kind (ReadNote tag found ∷ ys) xs e = told-after kind ys xs e
+  told-after kind (Bell (Enter caller found) ∷ ys) xs e = told-after kind ys xs e
+  told-after kind (Bell (Leave caller found) ∷ ys) xs e = told-after kind ys xs e
+  told-after kind (Bell (LookAll found) ∷ ys) xs e = told-after kind ys xs e
+  told-after kind (Bell (TakeTurn found) ∷ ys) xs e = told-after kind ys xs e
+  told-after kind (Bell (Enlist caller waiter turn found) ∷ ys) xs e = told-after kind ys xs e
+  told-after kind (Bell (LookAt whom found) ∷ ys) xs e = told-after kind ys xs e
+  told-after kind (Bell (Tell whom waiter turn found) ∷ ys) xs e =
+      let n = none_of (same_waiter kind waiter) (newly_told whom waiter turn found) (told_in kind ys)
+      (told_in kind (ys ++ xs)) e in n.1 ∙ told-after kind ys xs n.0
+  told-after kind (Bell (GetUp caller found) ∷ ys) xs e = told-after kind ys xs e
 
 module _ {R : Type 0} where
   -- a call that told nobody, and another one behind it
@@ -118,8 +127,18 @@ module _ {R : Type 0} where
     steps = after.steps ++ before.steps;
     only = added_after before.steps after.steps a b c before.only after.only;
     few = omega (arith, length-append after.steps before.steps);
-    sleepers = after.sleepers ∙ sym (told-before 0 after.steps before.steps (sym before.sleepers));
-    listeners = after.listeners ∙ sym (told-before 1 after.steps before.steps (sym before.listeners));
+    sleepers = after.sleepers ∙ sym (told-before Sleeper after.steps before.steps (sym before.sleepers));
+    listeners = after.listeners ∙ sym (told-before Listener after.steps before.steps (sym before.listeners));
+  }
+
+  -- a look for waiters tells nobody
+  pub looked_tells : (found : Bool) (a b : Caller R) → FindsWaiters found a b → Tells 1 nobody a b
+  looked_tells found a b finds = record {
+    steps = Bell (LookAll finds.waiting) ∷ [];
+    only = finds.look;
+    few = omega arith;
+    sleepers = refl;
+    listeners = refl;
   }
 
   -- it made no more than more steps
@@ -151,19 +170,12 @@ none_aside found usable n b is empty low =
     let off = bit_at-zero b in omega arith
 
 module _ {R : Type 0} where
-  -- what is known of both lists is known of each
-  pub each_list : (caller : Caller R) → OwesNothing 0 caller → OwesNothing 1 caller → (list : ℕ) → list < 2
-      → OwesNothing list caller
-  each_list caller none none' list low = dite (ℕ_discrete list 0)
-      (λ (e : list ≡ 0). subst (λ (n : ℕ). OwesNothing n caller) (sym e) none)
-      (λ (ne : list ≢ 0). let e : 1 ≡ list = omega arith in subst (λ (n : ℕ). OwesNothing n caller) e none')
-
   -- it has to see to no tag of these words if its steps say so
-  none_where : (here : ℕ → Type 0) (list : ℕ) (xs : List (Step R)) (old new : Caller R) → OnlyAdds xs old new
-      → ((tag : ℕ) → tag < (layout_of old).depth → here (word_of (layout_of old) tag)
-      → ¬ steps.OwesTag (layout_of old) list (xs ++ (record_of old).steps) tag) → OwesNoneWhere here list new
-  none_where here list xs old new is holds = subst (λ (x : Layout × List (Step R)). (tag : ℕ) → tag < x.0.depth
-      → here (word_of x.0 tag) → ¬ steps.OwesTag x.0 list x.1 tag)
+  none_where : (here : ℕ → Type 0) (kind : Waiter) (xs : List (Step R)) (old new : Caller R) → OnlyAdds xs old new
+      → ((tag : ℕ) → tag < (layout_of old).depth → here (word_of (layout_of old) tag) → (e : ℕ)
+      → ¬ steps.OwesTag (layout_of old) (same_waiter kind) (xs ++ (record_of old).steps) tag e) → OwesNoneWhere here kind new
+  none_where here kind xs old new is holds = subst (λ (x : Layout × List (Step R)). (tag : ℕ) → tag < x.0.depth
+      → here (word_of x.0 tag) → (e : ℕ) → ¬ steps.OwesTag x.0 (same_waiter kind) x.1 tag e)
       (λ j. (sym (layout_kept xs old new is) j, sym (steps_added xs old new is) j)) holds
 
   -- a look at a word and at its cleared set
@@ -175,22 +187,17 @@ module _ {R : Type 0} where
   seen_both i found aside old mid new first next = added_after (Word (Look i found) ∷ [])
       (Word (LookAside i aside) ∷ []) old mid new (looked i found old mid first) (looked_aside i aside mid new next)
 
-  pub seen_tells : (i found aside : ℕ) (old new : Caller R) → OnlyAdds (seen i found aside) old new
-      → Tells 2 nobody old new
-  seen_tells i found aside old new is = record {
-    steps = seen i found aside;
-    only = is;
-    few = omega arith;
-    sleepers = refl;
-    listeners = refl;
-  }
+  pub seen_looks : (i found aside : ℕ) (old new : Caller R) → OnlyAdds (seen i found aside) old new
+      → OnlyLooks 2 old new
+  seen_looks i found aside old new is =
+      record { steps = seen i found aside; only = is; few = omega arith; are = tt }
 
   -- if each of the word's bits is 1, and none of its tags is in the cleared set, both looks find its spots shut
-  pub seen_shut : (list i found aside usable : ℕ) (old new : Caller R) → OnlyAdds (seen i found aside) old new
+  pub seen_shut : (kind : Waiter) (i found aside usable : ℕ) (old new : Caller R) → OnlyAdds (seen i found aside) old new
       → usable + 1 ≡ 2 ^ word_depth (layout_of old) i → bit_and found usable ≡ usable → bit_and aside usable ≡ 0
-      → OwesNoneWhere (λ j. j ≡ i) list new
-  seen_shut list i found aside usable old new is wide full empty = none_where (λ j. j ≡ i) list (seen i found aside) old
-      new is (λ tag low here owes. let l = layout_of old in
+      → OwesNoneWhere (λ j. j ≡ i) kind new
+  seen_shut kind i found aside usable old new is wide full empty = none_where (λ j. j ≡ i) kind (seen i found aside) old
+      new is (λ tag low here e owes. let l = layout_of old in
       let at : place_of l tag < word_depth l i =
       subst (λ (j : ℕ). place_of l tag < word_depth l j) here (place_of-below l tag low) in
       ⊎_elim (λ a. ⊎_elim (λ no. absurd no)
@@ -198,8 +205,8 @@ module _ {R : Type 0} where
       (λ b. b.1 (here, none_aside aside usable (word_depth l i) (place_of l tag) wide empty at)) owes)
 
   -- what holds below a word and in it holds below the next
-  pub one_more : (i list : ℕ) (caller : Caller R) → OwesNoneWhere (λ j. j < i) list caller
-      → OwesNoneWhere (λ j. j ≡ i) list caller → OwesNoneWhere (λ j. j < i + 1) list caller
-  one_more i list caller below at tag low here = dite (ℕ_discrete (word_of (layout_of caller) tag) i)
+  pub one_more : (i : ℕ) (kind : Waiter) (caller : Caller R) → OwesNoneWhere (λ j. j < i) kind caller
+      → OwesNoneWhere (λ j. j ≡ i) kind caller → OwesNoneWhere (λ j. j < i + 1) kind caller
+  one_more i kind caller below at tag low here = dite (ℕ_discrete (word_of (layout_of caller) tag) i)
       (λ (e : word_of (layout_of caller) tag ≡ i). at tag low e)
       (λ (ne : word_of (layout_of caller) tag ≢ i). below tag low (omega arith))

@@ -3,7 +3,7 @@
 use Rattle.std.specs.Prelude.{◌≡◌, ◌≢◌, ◌⊎◌}
 use Rattle.tag_bell.proofs.Uses.{ap, arith, bit_at, bit_at-lt, bit_at-zero, bit_at_or, bit_or, changed_at, Claimed, dite, Finds, Give, inl, inr, IsCleared, IsOpen, Keep, Look, LookAside, Opens, Put, Shuts, Spill, Spot, Swap, sym, without, Words, words_after, WordStep, ℕ, ℕ_discrete, ◌∙◌}
 use Rattle.tag_bell.specs.declared.spot.Spot.TheVariants.{InWord, InAside}
-use Rattle.tag_bell.proofs.ListBits.{changed_at-here, changed_at-else}
+use Rattle.tag_core.proofs.ListedBits.{changed_at-here, changed_at-else}
 
 -- a bit of a changed function
 changed_bit : (f : ℕ → ℕ) (at value word bit : ℕ) → word ≡ at

@@ -2,7 +2,12 @@ mod Uses
 pub mod Waiting
 pub mod Looks
 pub mod Safety
+pub mod Order
+pub mod Rounds
 pub mod Callers
 pub mod Calls
-pub mod Selection
+pub mod Entering
+pub mod Coming
+pub mod Telling
+pub mod Lines
 pub mod Sleeping

@@ -1,7 +1,7 @@
--- What the own steps of a caller, newest first, say of it: whether it waits on a list, where it has looked for a free
--- tag since it listed itself, and what it still has to see to. A list of callers goes by its index.
+-- What the own steps of a caller, newest first, say of it: where it has looked for a free tag since it listed itself, and
+-- what it still has to see to, and for whose sake. `kinds` are the waiters meant: sleepers, listeners or both.
 use Rattle.std.specs.Prelude.{◌<◌, ◌∷◌, ◌≡◌, ◌≢◌, ◌⊎◌}
-use Rattle.tag_bell.specs.Uses.{[], Bell, bit_and, bit_at, cond, Enlist, GetUp, Layout, List, nat_eq, place_of, Post, Sight, Step, Take, Tell, without, Word, word_of, ℕ}
+use Rattle.tag_bell.specs.Uses.{[], Bell, Berth, bit_at, Bool, Enlist, GetUp, IsListed, IsListedAs, IsTold, Layout, List, LookAll, LookAt, place_of, Step, Tell, told_as, Waiter, without, Word, word_of, ℕ}
 use Rattle.tag_core.specs.declared.word_step.WordStep.{WordStep}
 use Rattle.tag_core.specs.declared.word_step.WordStep.TheVariants.{Look, LookAside, Claimed, Give, Put, Swap, Keep, Spill}
 use Rattle.tag_bell.specs.declared.spot.Spot.{Spot}
@@ -43,46 +43,41 @@ Opens (Swap i found) = λ spot. ⊥
 Opens (Keep i mask) = λ spot. ⊥
 Opens (Spill i mask found) = IsInWord i (IsCleared found mask)
 
--- 1 if the caller has listed itself there, and not got up since, else 0
-abbrev pub waits : {R : Type 0} → ℕ → List (Step R) → ℕ
-waits list [] = 0
-waits list (Word step ∷ older) = waits list older
-waits list (Post tag value ∷ older) = waits list older
-waits list (Take tag found value ∷ older) = waits list older
-waits list (Bell (Enlist at caller found) ∷ older) = cond (nat_eq at list) 1 (waits list older)
-waits list (Bell (Sight at found) ∷ older) = waits list older
-waits list (Bell (Tell at mask found) ∷ older) = waits list older
-waits list (Bell (GetUp at caller found) ∷ older) = cond (nat_eq at list) 0 (waits list older)
-
 -- since it listed itself last, it found or made the spot shut
-abbrev pub Tried : {R : Type 0} → ℕ → List (Step R) → Spot → Type 0
-Tried list [] spot = ⊥
-Tried list (Word step ∷ older) spot = Shuts step spot ⊎ Tried list older spot
-Tried list (Post tag value ∷ older) spot = Tried list older spot
-Tried list (Take tag found value ∷ older) spot = Tried list older spot
-Tried list (Bell (Enlist at caller found) ∷ older) spot = (at ≢ list) × Tried list older spot
-Tried list (Bell (Sight at found) ∷ older) spot = Tried list older spot
-Tried list (Bell (Tell at mask found) ∷ older) spot = Tried list older spot
-Tried list (Bell (GetUp at caller found) ∷ older) spot = Tried list older spot
+abbrev pub Tried : {R : Type 0} → List (Step R) → Spot → Type 0
+Tried [] spot = ⊥
+Tried (Word step ∷ older) spot = Shuts step spot ⊎ Tried older spot
+Tried (Bell (Enlist caller waiter turn found) ∷ older) spot = ⊥
+Tried (step ∷ older) spot = Tried older spot
 
--- it waited, and did not find itself listed: somebody had told it
-abbrev pub WasTold : {R : Type 0} → ℕ → ℕ → ℕ → List (Step R) → Type 0
-WasTold list caller found older = (waits list older ≡ 1) × (bit_at found caller ≡ 0)
+-- since it began to have to see to the spot, it found this one listed so
+abbrev pub Saw : {R : Type 0} → (Waiter → Bool) → List (Step R) → Spot → ℕ → Waiter → ℕ → Type 0
+Saw kinds [] spot e w t = ⊥
+Saw kinds (Word step ∷ older) spot e w t = (¬ Opens step spot) × Saw kinds older spot e w t
+Saw kinds (Bell (Enlist caller waiter turn found) ∷ older) spot e w t = (¬ IsTold kinds found) × Saw kinds older spot e w t
+Saw kinds (Bell (LookAt whom found) ∷ older) spot e w t =
+    ((whom ≡ e) × IsListedAs w t found) ⊎ Saw kinds older spot e w t
+Saw kinds (Bell (GetUp caller found) ∷ older) spot e w t = (¬ IsTold kinds found) × Saw kinds older spot e w t
+Saw kinds (step ∷ older) spot e w t = Saw kinds older spot e w t
 
--- it has to see to the spot: it opened the spot, or was told, and since then it has not found or made the spot shut,
--- found nobody listed, or told somebody
-abbrev pub Owes : {R : Type 0} → ℕ → List (Step R) → Spot → Type 0
-Owes list [] spot = ⊥
-Owes list (Word step ∷ older) spot = (Opens step spot ⊎ Owes list older spot) × ¬ Shuts step spot
-Owes list (Post tag value ∷ older) spot = Owes list older spot
-Owes list (Take tag found value ∷ older) spot = Owes list older spot
-Owes list (Bell (Enlist at caller found) ∷ older) spot =
-    ((at ≡ list) × WasTold list caller found older) ⊎ Owes list older spot
-Owes list (Bell (Sight at found) ∷ older) spot = (at ≡ list → found ≢ 0) × Owes list older spot
-Owes list (Bell (Tell at mask found) ∷ older) spot =
-    (at ≡ list → (found ≢ 0) × (bit_and found mask ≡ 0)) × Owes list older spot
-Owes list (Bell (GetUp at caller found) ∷ older) spot =
-    ((at ≡ list) × WasTold list caller found older) ⊎ Owes list older spot
+-- who finds somebody's berth so may still have to see to a spot for the sake of e: that one was not told, for then it
+-- is on the way to every tag itself; and if it is e, it is listed
+abbrev pub Leaves : (Waiter → Bool) → ℕ → Berth → ℕ → Type 0
+Leaves kinds whom berth e = (¬ IsTold kinds berth) × (whom ≡ e → IsListed kinds berth)
+
+-- it has to see to the spot for the sake of e: it opened the spot, or was told; and since then it has not found or made
+-- the spot shut, told anybody, found anybody told, or found that e does not wait; nor did it fail to tell e as it had
+-- found it since, for then e has listed itself later
+abbrev pub Owes : {R : Type 0} → (Waiter → Bool) → List (Step R) → Spot → ℕ → Type 0
+Owes kinds [] spot e = ⊥
+Owes kinds (Word step ∷ older) spot e = (Opens step spot ⊎ Owes kinds older spot e) × ¬ Shuts step spot
+Owes kinds (Bell (LookAll found) ∷ older) spot e = (bit_at found e ≢ 0) × Owes kinds older spot e
+Owes kinds (Bell (Enlist caller waiter turn found) ∷ older) spot e = IsTold kinds found ⊎ Owes kinds older spot e
+Owes kinds (Bell (LookAt whom found) ∷ older) spot e = Leaves kinds whom found e × Owes kinds older spot e
+Owes kinds (Bell (Tell whom waiter turn found) ∷ older) spot e = Leaves kinds whom (told_as waiter turn found) e
+    × (whom ≡ e → ¬ Saw kinds older spot e waiter turn) × Owes kinds older spot e
+Owes kinds (Bell (GetUp caller found) ∷ older) spot e = IsTold kinds found ⊎ Owes kinds older spot e
+Owes kinds (step ∷ older) spot e = Owes kinds older spot e
 
 -- the two spots of a tag
 abbrev pub in_word : Layout → ℕ → Spot
@@ -91,18 +86,18 @@ in_word l tag = InWord (word_of l tag) (place_of l tag)
 abbrev pub in_aside : Layout → ℕ → Spot
 in_aside l tag = InAside (word_of l tag) (place_of l tag)
 
--- it has to see to the tag
-abbrev pub OwesTag : {R : Type 0} → Layout → ℕ → List (Step R) → ℕ → Type 0
-OwesTag l list steps tag = Owes list steps (in_word l tag) ⊎ Owes list steps (in_aside l tag)
+-- it has to see to the tag for the sake of e
+abbrev pub OwesTag : {R : Type 0} → Layout → (Waiter → Bool) → List (Step R) → ℕ → ℕ → Type 0
+OwesTag l kinds own tag e = Owes kinds own (in_word l tag) e ⊎ Owes kinds own (in_aside l tag) e
 
--- it has to see to no tag
-abbrev pub OwesNothing : {R : Type 0} → Layout → ℕ → List (Step R) → Type 0
-OwesNothing l list steps = (tag : ℕ) → tag < l.depth → ¬ OwesTag l list steps tag
+-- it has to see to no tag for anybody's sake
+abbrev pub OwesNothing : {R : Type 0} → Layout → (Waiter → Bool) → List (Step R) → Type 0
+OwesNothing l kinds own = (tag : ℕ) → tag < l.depth → (e : ℕ) → ¬ OwesTag l kinds own tag e
 
 -- since it listed itself last, it found or made both spots of the tag shut, maybe not at one moment
-abbrev pub TriedTag : {R : Type 0} → Layout → ℕ → List (Step R) → ℕ → Type 0
-TriedTag l list steps tag = Tried list steps (in_word l tag) × Tried list steps (in_aside l tag)
+abbrev pub TriedTag : {R : Type 0} → Layout → List (Step R) → ℕ → Type 0
+TriedTag l own tag = Tried own (in_word l tag) × Tried own (in_aside l tag)
 
 -- the same of every tag
-abbrev pub TriedAll : {R : Type 0} → Layout → ℕ → List (Step R) → Type 0
-TriedAll l list steps = (tag : ℕ) → tag < l.depth → TriedTag l list steps tag
+abbrev pub TriedAll : {R : Type 0} → Layout → List (Step R) → Type 0
+TriedAll l own = (tag : ℕ) → tag < l.depth → TriedTag l own tag

@@ -1,15 +1,14 @@
 //! How a caller sleeps until it is told, and how those told are woken.
-ghost use Rattle.std.specs.Prelude.{◌≡◌, ℕ, ◌<◌};
-ghost use Rattle.tag_core.specs.declared.bell.TheConstants.{LISTS};
-ghost use Rattle.tag_core.specs.Callers.{IsCallerOf, IsUnchanged};
+ghost use Rattle.std.specs.Prelude.{◌≡◌};
+ghost use Rattle.tag_core.specs.declared.berth.Waiter.{Waiter as WaiterIs};
+ghost use Rattle.tag_core.specs.declared.berth.Waiter.TheVariants.{Sleeper};
+ghost use Rattle.tag_core.specs.Callers.{IsCallerOf};
 ghost use Rattle.tag_core.specs.Holding.{HoldsSame};
-ghost use Rattle.tag_bell.specs.declared.told.TheConstants.{SLEEPERS};
 ghost use Rattle.tag_bell.specs.Callers.{IsWaiting, HasTriedAll, OwesNothing, WaitsAsBefore};
 ghost use Rattle.tag_bell.specs.Calls.{HasTriedNoLess, OwesNoMore};
 ghost use Rattle.tag_bell.specs.Sleeping.{SleepsUntilTold, told_by};
 
-use crate::told::{SLEEPERS, Told};
-use crate::waiting::is_told;
+use crate::told::Told;
 use std::sync::Wait;
 use tag_core::{Caller, Map, Roused, Unroused};
 use tag_model::MAX_CALLERS;
@@ -60,65 +59,56 @@ impl Woken {
     }
 }
 
-/// Sleeps until the caller finds itself told. It may sleep only if it is listed, has tried each tag in vain since, and has
-/// nothing to see to. It looks at the list before each time that it sleeps, and once more after the last.
+/// Sleeps until the caller finds itself told. It may sleep only if it waits as a sleeper, has tried each tag in vain since it
+/// listed itself, and has nothing to see to. It looks at its berth before each time that it sleeps, and once more after the
+/// last.
 pub fn sleep<W: Wait, R: Drop>(rt: &W, map: &Map<R>, caller: &mut Caller<R>)
     requires caller { IsCallerOf map.now caller.old }
-    requires waiting { IsWaiting SLEEPERS caller.old }
-    requires in_vain { HasTriedAll SLEEPERS caller.old }
-    requires done { (list : ℕ) → list < LISTS → OwesNothing list caller.old }
+    requires waiting { IsWaiting Sleeper caller.old }
+    requires in_vain { HasTriedAll caller.old }
+    requires done { (kind : WaiterIs) → OwesNothing kind caller.old }
     ensures caller { IsCallerOf map.now caller.new }
-    ensures sleeps { SleepsUntilTold SLEEPERS caller.old caller.new }
-    ensures waits { (list : ℕ) → WaitsAsBefore list caller.old caller.new }
-    ensures tried { (list : ℕ) → HasTriedNoLess list caller.old caller.new }
-    ensures owes { (list : ℕ) → OwesNoMore list caller.old caller.new }
+    ensures sleeps { SleepsUntilTold caller.old caller.new }
+    ensures waits { WaitsAsBefore caller.old caller.new }
+    ensures tried { HasTriedNoLess caller.old caller.new }
+    ensures owes { (kind : WaiterIs) → OwesNoMore kind caller.old caller.new }
     ensures kept { HoldsSame caller.old caller.new }
 {
     for _ in rt.forever() {
-        // Whoever tells the caller after its look rouses it after this line, so it misses no wakeup.
-        let turn = map.peek_own_turn(caller);
-        if is_told(map, caller, SLEEPERS) {
+        let berth = map.look_at_own(caller);
+        if !berth.is_listed() {
             return;
         }
-        map.sleep(rt, caller, turn);
+        // Whoever tells the caller after its look has changed the word on which it sleeps, so it misses no wakeup.
+        map.sleep(rt, caller, berth);
     }
     unreachable!()
 }
 
-/// Wakes the sleepers among those that a call told. It makes no step. Where no sleeper was told it rouses nobody, and
-/// leaves the caller as it is.
-pub fn wake<R>(map: &Map<R>, caller: &mut Caller<R>, told: Told) -> Woken
-    requires caller { IsCallerOf map.now caller.old }
-    ensures caller { IsCallerOf map.now caller.new }
-    ensures unchanged { IsUnchanged caller.old caller.new }
-    ensures woken { told_by result ≡ told }
-    ensures untouched { told.sleepers ≡ 0 → caller.new ≡ caller.old }
+/// Wakes the sleepers among those that a call told. It makes no step.
+pub fn wake<R>(map: &Map<R>, told: Told) -> Woken
+    ensures { told_by result ≡ told }
 {
     let Told {
         sleepers,
         listeners,
     } = told;
     Woken {
-        roused: rouse_each(map, caller, sleepers),
+        roused: rouse_each(map, sleepers),
         listeners,
     }
 }
 
 /// Rouses each of those told.
-fn rouse_each<R>(map: &Map<R>, caller: &mut Caller<R>, told: Unroused) -> Roused
-    requires caller { IsCallerOf map.now caller.old }
-    ensures caller { IsCallerOf map.now caller.new }
-    ensures unchanged { IsUnchanged caller.old caller.new }
-    ensures roused { result.callers ≡ told }
-    ensures untouched { told ≡ 0 → caller.new ≡ caller.old }
+fn rouse_each<R>(map: &Map<R>, told: Unroused) -> Roused
+    ensures { result.callers ≡ told }
 {
-    let mask = told.callers();
-    if mask == 0 {
-        return Roused::none();
-    }
     let mut roused = Roused::none();
+    if told.callers() == 0 {
+        return roused;
+    }
     for number in 0..MAX_CALLERS {
-        map.rouse(caller, number, &told, &mut roused);
+        map.rouse(number, &told, &mut roused);
     }
     roused
 }

@@ -66,7 +66,7 @@ impl TagAllocator for Map<u64> {
 
     #[inline]
     fn post(&self, caller: &mut Caller<u64>, tag: u32) {
-        Map::post(self, caller, tag);
+        Map::post(self, caller, tag, 0);
     }
 
     #[inline]

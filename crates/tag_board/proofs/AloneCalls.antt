@@ -127,10 +127,10 @@ module _ (pool : Pool ℕ) (old new : Hand ℕ) (own : IsPoolHandOf pool old) (t
         hint = record { at = p.hint.at j; round_robin = p.hint.round_robin j };
       }) c.set.other
 
-  pub posts : slots.Posts tag old new → Alters pool (ChangesTag post_in tag) old new
+  pub posts : slots.Posts tag 0 old new → Alters pool (ChangesTag post_in tag) old new
   posts p before after = let posted = p.set.changed in there post_in
       ((λ j. set_left l (posted.step.known j).steps (posted.hint j))
-      ∙ steps.post l (hint_of old kind) older number posted.value) p.set.other
+      ∙ steps.post l (hint_of old kind) older number 0 posted.value) p.set.other
 
   -- each step found what the older ones left
   found_there : AreAlone new → (newer : List (Step ℕ)) → (record_in new kind).steps ≡ newer → EachFound newer

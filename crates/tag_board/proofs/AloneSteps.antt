@@ -29,8 +29,9 @@ module _ (l : Layout) (hint : Hint) where
   fresh = λ j. record { layout = l; pool = blank_pool j; posted = λ tag. false; hint = hint }
 
   module _ (older : List (Step ℕ)) (number : ℕ) where
-    pub post : (value : ℕ) → set_left l (Post number value ∷ older) hint ≡ post_in number (set_left l older hint)
-    post value = λ j. record (set_left l older hint) {
+    pub post : (note value : ℕ) → set_left l (Post number note value ∷ older) hint
+        ≡ post_in number (set_left l older hint)
+    post note value = λ j. record (set_left l older hint) {
       posted = λ other. posted_bit (nat_eq other number) ((cells_left older).state other) j;
     }
 

@@ -61,10 +61,10 @@ module _ (queue : Queue ℕ) (old new : QueueHand ℕ) (own : IsHandOf queue old
     sets = alone.gives pool before after own.0 list g;
   }
 
-  pub post_does : (tag : ℕ) → slots.Posts tag before after → SameCounts old new
+  pub post_does : (tag : ℕ) → slots.Posts tag 0 before after → SameCounts old new
       → Effect queue (parted (nat_eq tag)) AsBefore (ChangesTag post_in tag) old new
   post_does tag p counts = counts_won queue old new (kind_of (split_of before) tag) 0
-      (tallies.posts _ _ (number_in_set (split_of before) tag) p.set.changed) counts p.set.other
+      (tallies.posts _ _ (number_in_set (split_of before) tag) 0 p.set.changed) counts p.set.other
       (λ t. part_holding old new (kind_of (split_of before) tag) t
       (holds_less before after (nat_eq tag) (λ other. other ≡ tag) (names_one tag) p.less))
       (alone.posts pool before after own.0 tag p)

@@ -78,8 +78,8 @@ module _ {R : Type 0} where
     pub finds : (found : List (ℕ × ℕ)) → MakesLooks (looks_from 0 found) old new → Tallies 0 0 old new
     finds found f = counted 0 0 _ f.known (looks_count found 0 (record_of (caller_in old))) f.hint
 
-    pub posts : (tag : ℕ) → Posts tag old new → Tallies 0 0 old new
-    posts tag p = counted 0 0 _ p.step.known record { won_is = refl; back_is = refl } p.hint
+    pub posts : (tag note : ℕ) → Posts tag note old new → Tallies 0 0 old new
+    posts tag note p = counted 0 0 _ p.step.known record { won_is = refl; back_is = refl } p.hint
 
     pub takes : (tag : ℕ) → Takes tag old new → Tallies 0 0 old new
     takes tag t = counted 0 0 _ t.step.known record { won_is = refl; back_is = refl } t.hint

@@ -10,5 +10,6 @@ pub mod Refusing
 pub mod Resizing
 pub mod Runs
 pub mod Sent
+pub mod Unfilled
 pub mod Words
 pub mod Begun

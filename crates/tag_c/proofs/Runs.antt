@@ -3,7 +3,8 @@ use Rattle.std.specs.Prelude.{◌+◌, ◌<◌, ◌≡◌, ◌≤◌}
 use Rattle.tag_c.proofs.Uses.{answer_of, ap, arith, batch_checks, Bool, CountsBatch, Err, false, Found, GetsBatch, Hand, hint_of, IfOk, IfSome, IsAnswer, IsOkAnd, IsTagIn, IsTrue, layout_of, MAX_DEPTH, None, Ok, OnOk, Option, PassesAll, PoolState, refl, reserved_of, Result, Some}
 use Rattle.tag_c.proofs.Uses.{subst, sym, TagFault, total_of, true, unwrap_or, whole_run, ℕ}
 use Rattle.tag_pool.specs.Sides as side
-use Rattle.tag_pool.specs.declared.kind.Kind.TheVariants.{Ordinary, Reserved}
+use Rattle.tag_pool.specs.declared.kind.Kind.{Kind}
+use Rattle.tag_pool.specs.declared.kind.Kind.TheVariants.{Ordinary}
 use Rattle.tag_pool.proofs.Getting.{run_low}
 
 few : (shared : PoolState) → total_of shared.tags ≤ MAX_DEPTH
@@ -54,26 +55,19 @@ pub each : {A E : Type 0} {P Q : A → Type 0} (answer : Result A E) → ((x : A
 each (Ok x) f p = f x p
 each (Err e) f p = tt
 
--- if a get answers a reserved tag of the pool, that is at most `MAX_DEPTH`
-pub reserved_fits : (shared : PoolState) (answer : Result (Option ℕ) TagFault)
-    → IfOk answer (λ found. (tag : ℕ) → IsAnswer found tag → IsTagIn shared.tags Reserved tag)
-    → IfOk answer (λ found. IfSome found (λ tag. tag ≤ MAX_DEPTH))
-reserved_fits shared (Err fault) low = tt
-reserved_fits shared (Ok None) low = tt
-reserved_fits shared (Ok (Some tag)) low = let below = (low tag refl).0 in let few = few shared in omega arith
-
-fits : (shared : PoolState) (answer : Option ℕ) → ((tag : ℕ) → IsAnswer answer tag → IsTagIn shared.tags Ordinary tag)
+fits : (shared : PoolState) {kind : Kind} (answer : Option ℕ)
+    → ((tag : ℕ) → IsAnswer answer tag → IsTagIn shared.tags kind tag)
     → IfSome answer (λ tag. tag ≤ MAX_DEPTH)
 fits shared None low = tt
 fits shared (Some tag) low = let below = (low tag refl).0 in let few = few shared in omega arith
 
--- the same of a get of an ordinary tag
-pub ordinary_fits : (shared : PoolState) {answer : Result (Option ℕ) TagFault} (found : Result (Found ℕ) TagFault)
+-- a tag of either kind that a get answers is at most `MAX_DEPTH`
+pub tag_fits : (shared : PoolState) (kind : Kind) {answer : Result (Option ℕ) TagFault} (found : Result (Found ℕ) TagFault)
     → answer ≡ answer_of found
-    → IfOk found (λ known. (tag : ℕ) → IsAnswer known.answer tag → IsTagIn shared.tags Ordinary tag)
+    → IfOk found (λ known. (tag : ℕ) → IsAnswer known.answer tag → IsTagIn shared.tags kind tag)
     → IfOk answer (λ known. IfSome known (λ tag. tag ≤ MAX_DEPTH))
-ordinary_fits shared (Ok known) is low = rw is (fits shared known.answer low)
-ordinary_fits shared (Err fault) is low = rw is tt
+tag_fits shared kind (Ok known) is low = rw is (fits shared known.answer low)
+tag_fits shared kind (Err fault) is low = rw is tt
 
 only_fits : (shared : PoolState) (tag : ℕ) (answer : Option ℕ) → tag < total_of shared.tags
     → IfSome answer (λ won. won ≡ tag) → IfSome answer (λ won. won ≤ MAX_DEPTH)

@@ -1,14 +1,16 @@
 -- What a call through the handle of a hand does: of a hand alone what `tag_pool` says, of one with a cache what `tag_cache`
 -- says.
 use Rattle.std.specs.Prelude.{◌≡◌}
-use Rattle.tag_c.specs.Uses.{arc_value, Found, IfOk, IfSome, List, None, Option, pos, Result, Set, Some, TagFault, Pool, ℕ, ℤ, ⊤}
+use Rattle.tag_c.specs.Uses.{arc_value, Bool, Found, IfOk, IfSome, List, None, Option, pos, Result, Set, Some, TagFault, Pool, ℕ, ℤ, ⊤}
 use Rattle.tag_pool.specs.Batches as batches
 use Rattle.tag_pool.specs.Clears as clears
 use Rattle.tag_pool.specs.Exact as exact
 use Rattle.tag_pool.specs.Gets as gets
+use Rattle.tag_pool.specs.Many as many
 use Rattle.tag_pool.specs.Slots as slots
 use Rattle.tag_cache.specs.Calls as caches
 use Rattle.tag_cache.specs.Exact as exact_caches
+use Rattle.tag_cache.specs.Many as many_caches
 use Rattle.tag_c.specs.declared.cached.CachedMember.{CachedMember}
 use Rattle.tag_c.specs.declared.member.Member.{Member}
 use Rattle.tag_c.specs.declared.object.Kind.{Kind}
@@ -17,7 +19,7 @@ use Rattle.tag_c.specs.declared.object.Object.{Object}
 use Rattle.tag_c.specs.declared.status.Status.TheVariants.{BadHandle}
 use Rattle.tag_c.specs.Holders.{Holder, Bare, Caching, Either}
 use Rattle.tag_c.specs.Codes.{code_of, done_of}
-use Rattle.tag_c.specs.Left.{left_of}
+use Rattle.tag_c.specs.Left.{left_of, left_of_many}
 
 -- a hand stays one of the same pool and changes by this relation
 abbrev pub HandCalls : (Pool ℕ → Holder → Holder → Type 0) → Member → Member → Type 0
@@ -57,9 +59,10 @@ abbrev pub DoesGet : ℕ → Pool ℕ → Result (Found ℕ) TagFault → Holder
 DoesGet left tags answer old new = Either (gets.DoesGet tags answer) (caches.DoesGet tags answer) old new
     × (left ≡ left_of answer)
 
--- gets a reserved tag
-abbrev pub DoesGetReserved : Pool ℕ → Result (Option ℕ) TagFault → Holder → Holder → Type 0
-DoesGetReserved tags answer = Either (gets.DoesGetReserved tags answer) (caches.DoesGetReserved tags answer)
+-- gets a reserved tag, and tells how many tags it left free, 0 if it is refused
+abbrev pub DoesGetReserved : ℕ → Pool ℕ → Result (Found ℕ) TagFault → Holder → Holder → Type 0
+DoesGetReserved left tags answer old new =
+    Either (gets.DoesGetReserved tags answer) (caches.DoesGetReserved tags answer) old new × (left ≡ left_of answer)
 
 -- gets an ordinary tag within the shares of a shallow depth, and tells how many tags it left free, 0 if it is refused
 abbrev pub DoesGetShallow : ℕ → ℕ → Pool ℕ → Result (Found ℕ) TagFault → Holder → Holder → Type 0
@@ -78,6 +81,12 @@ abbrev pub DoesGetBatch : ℕ → ℕ → ℕ → Pool ℕ → Result (Found (�
 DoesGetBatch n won left tags answer old new =
     Either (gets.DoesGetBatch n tags answer) (caches.DoesGetBatch n tags answer) old new
     × IfOk answer (λ found. IfSome found.answer (λ run. won ≡ run.1)) × (left ≡ left_of answer)
+
+-- gets as many ordinary tags as the list has places, or none, and tells how many tags it left free, 0 if it is refused
+abbrev pub DoesGetMany : List ℕ → List ℕ → ℕ → Pool ℕ → Result (Bool × ℕ) TagFault → Holder → Holder → Type 0
+DoesGetMany before list left tags answer old new =
+    Either (many.DoesGetMany tags before list answer) (many_caches.DoesGetMany tags before list answer) old new
+    × (left ≡ left_of_many answer)
 
 -- clears a tag, and tells nobody
 abbrev pub DoesClear : ℕ → Pool ℕ → Result ⊤ TagFault → Holder → Holder → Type 0
@@ -113,8 +122,8 @@ DoesWrite tag value former tags answer old new =
 
 -- posts a tag; how many kept tags go back is not told
 abbrev pub DoesPost : ℕ → Pool ℕ → Result ⊤ TagFault → Holder → Holder → Type 0
-DoesPost tag tags answer = Either (slots.DoesPost tag tags answer)
-    (λ old new. (freed : Result ℕ TagFault) × (answer ≡ done_of freed) × caches.DoesPost tag tags freed old new)
+DoesPost tag tags answer = Either (slots.DoesPost tag 0 tags answer)
+    (λ old new. (freed : Result ℕ TagFault) × (answer ≡ done_of freed) × caches.DoesPost tag 0 tags freed old new)
 
 -- takes a posted tag
 abbrev pub DoesTake : ℕ → Pool ℕ → Result ⊤ TagFault → Holder → Holder → Type 0

@@ -1,6 +1,6 @@
 -- The numbers that calls return, as tags.h names them; negsuc n is -(n + 1).
-use Rattle.tag_c.specs.Uses.{BadCount, CallerCount, Err, Found, LifeTooLong, Memory, negsuc, None, NoReserved, NoSuchTag, NotHeld, NotPosted, Ok, Option, pos, ReservedTooLarge, Result, OpenFault, ShiftTooLarge, Some, Spent, TagFault, TooShallow, TotalTooLarge}
-use Rattle.tag_c.specs.Uses.{ℕ, ℤ, ⊤}
+use Rattle.tag_c.specs.Uses.{BadCount, Bool, CallerCount, Err, false, Found, LifeTooLong, Memory, negsuc, None, NoReserved, NoSuchTag, NotHeld, NotPosted, Ok, Option, pos, ReservedTooLarge, Result, OpenFault, ShiftTooLarge, Some, Spent, TagFault, TooShallow, TotalTooLarge}
+use Rattle.tag_c.specs.Uses.{true, ℕ, ℤ, ⊤}
 use Rattle.tag_c.specs.Left.{answer_of}
 use Rattle.tag_c.specs.declared.status.Status.{Status}
 use Rattle.tag_c.specs.declared.status.Status.TheVariants.{Done, Refused, NoTag, BadHandle, NotEmpty, NoHand, HandsOut, BadKind, TooSmall, BadFlag, NotOpened, NoBerth, HandLost, InUse, HandsWait, CacheTooLarge}
@@ -67,6 +67,16 @@ code_of_batch (Err fault) = code_of_fault fault
 -- the same of a get that also tells how many tags it left free
 abbrev pub code_of_found_batch : Result (Found (ℕ × ℕ)) TagFault → ℤ
 code_of_found_batch found = code_of_batch (answer_of found)
+
+-- 0 if all of several tags were taken, or that there is no tag
+abbrev pub code_of_all : Bool → ℤ
+code_of_all true = pos 0
+code_of_all false = code_of NoTag
+
+-- the same of a get of several tags, or the reason for the refusal
+abbrev pub code_of_many : Result (Bool × ℕ) TagFault → ℤ
+code_of_many (Ok found) = code_of_all found.0
+code_of_many (Err fault) = code_of_fault fault
 
 -- 0 on success, or the reason for the refusal
 abbrev pub code_of_done : {A : Type 0} → Result A TagFault → ℤ

@@ -1,5 +1,5 @@
 -- What a get answers, and how many tags it left free.
-use Rattle.tag_c.specs.Uses.{Err, Found, Ok, Option, Result, TagFault, ℕ}
+use Rattle.tag_c.specs.Uses.{Bool, Err, Found, Ok, Option, Result, TagFault, ℕ}
 
 -- the answer without the number of tags left free
 abbrev pub answer_of : {A : Type 0} → Result (Found A) TagFault → Result (Option A) TagFault
@@ -10,3 +10,8 @@ answer_of (Err fault) = Err fault
 abbrev pub left_of : {A : Type 0} → Result (Found A) TagFault → ℕ
 left_of (Ok found) = found.left
 left_of (Err fault) = 0
+
+-- the same of a get of several tags
+abbrev pub left_of_many : Result (Bool × ℕ) TagFault → ℕ
+left_of_many (Ok found) = found.1
+left_of_many (Err fault) = 0

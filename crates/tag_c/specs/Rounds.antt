@@ -1,12 +1,14 @@
--- Rounds of a wait for an ordinary tag by the bell, through the handle of a hand.
-use Rattle.std.specs.Prelude.{if◌then◌else◌, ◌<◌, ◌∷◌, ◌≡◌, ◌≢◌, ◌⊎◌}
-use Rattle.tag_c.specs.Uses.{[], Bool, Checks, Err, false, Hand, hand_of, IfOk, KeepsNone, nat_eq, None, NoSuchTag, Ok, Option, Ordinary, Pool, pos, RefusesBy, reserved_of, Result, Some, Spent, TagFault, total_of, true, zero, ℕ, ℤ, ⊤}
+-- Rounds of a wait for a tag of a set by the bell, through the handle of a hand.
+use Rattle.std.specs.Prelude.{if◌then◌else◌, ◌∷◌, ◌≡◌, ◌≢◌, ◌≤◌, ◌⊎◌}
+use Rattle.tag_c.specs.Uses.{[], Bool, Checks, Err, false, Hand, hand_of, IfOk, KeepsNone, Kind, nat_eq, None, Ok, Option, Ordinary, Pool, pos, RefusesBy, Reserved, Result, Some, Spent, TagFault, true, zero, ℕ, ℤ, ⊤}
+use Rattle.tag_core.specs.declared.berth.Waiter.{Waiter}
 use Rattle.tag_bell.specs.declared.told.Told.{Told}
 use Rattle.tag_bell.specs.declared.waiting.Turn.{Turn}
 use Rattle.tag_bell.specs.declared.waiting.Turn.TheVariants.{Next as NextTurn, Same}
 use Rattle.tag_pool.specs.Gets as gets
-use Rattle.tag_pool.specs.Hands.{HasRoom}
+use Rattle.tag_pool.specs.Hands.{HasRoom, layout_of}
 use Rattle.tag_pool.specs.Holding as hand_holding
+use Rattle.tag_pool.specs.Refusals.{none_of}
 use Rattle.tag_pool.specs.Waits as hands
 use Rattle.tag_pool.specs.declared.gets.rounds.Next.{Next}
 use Rattle.tag_pool.specs.declared.gets.rounds.Next.TheVariants.{Won, Over, Sleep}
@@ -14,7 +16,10 @@ use Rattle.tag_cache.specs.declared.cache.Cache.{Cache}
 use Rattle.tag_cache.specs.Gets as cached_gets
 use Rattle.tag_cache.specs.Holding as user_holding
 use Rattle.tag_cache.specs.Waits as caches
+use Rattle.tag_c.specs.declared.bell.ToldHands.{ToldHands}
 use Rattle.tag_c.specs.declared.status.Status.TheVariants.{NoTag}
+use Rattle.tag_c.specs.Bell.{told_of}
+use Rattle.tag_c.specs.Calls.{Through}
 use Rattle.tag_c.specs.Codes.{code_of, code_of_fault}
 use Rattle.tag_c.specs.Holders.{Holder, Either}
 
@@ -44,70 +49,85 @@ abbrev pub IsWon : Next → ℕ → Type 0
 IsWon (Won tag) other = other ≡ tag
 IsWon _ other = ⊥
 
--- a round: there have to be ordinary tags, and if the wait goes on, the hand may have to win one
-abbrev pub round_checks : Bool → Pool ℕ → Hand ℕ → Checks TagFault
-round_checks over pool hand = (reserved_of pool < total_of pool, NoSuchTag)
-    ∷ (over ≡ false → HasRoom hand Ordinary 1, Spent) ∷ []
+-- a round: there have to be tags of this kind, and if the wait goes on, the hand may have to win one
+abbrev pub round_checks : Kind → Bool → Pool ℕ → Hand ℕ → Checks TagFault
+round_checks kind over pool hand = (1 ≤ (layout_of pool kind).depth, none_of kind)
+    ∷ (over ≡ false → HasRoom hand kind 1, Spent) ∷ []
 
 -- what comes before a round: nothing if the wait is over or the hand can wait at once, and otherwise a get, which may end
 -- the wait
-abbrev pub Begins : Pool ℕ → Bool → Option Next → Hand ℕ → Hand ℕ → Type 0
-Begins pool over None old new = (over ≡ false) × hands.CanWait new × ((new ≡ old) ⊎ gets.Gets pool Ordinary None old new)
-Begins pool over (Some Over) old new = (over ≡ true) × (new ≡ old)
-Begins pool over (Some (Won tag)) old new = (over ≡ false) × gets.Gets pool Ordinary (Some tag) old new
-Begins pool over (Some Sleep) old new = ⊥
+abbrev pub Begins : Pool ℕ → Kind → Bool → Option Next → Hand ℕ → Hand ℕ → Type 0
+Begins pool kind over None old new = (over ≡ false) × hands.CanWait kind new × ((new ≡ old) ⊎ gets.Gets pool kind None old new)
+Begins pool kind over (Some Over) old new = (over ≡ true) × (new ≡ old)
+Begins pool kind over (Some (Won tag)) old new = (over ≡ false) × gets.Gets pool kind (Some tag) old new
+Begins pool kind over (Some Sleep) old new = ⊥
 
 -- then the round itself, which is no end of the wait but by a tag; or that end
-abbrev pub GoesOn : Pool ℕ → ℕ → Option Next → Next → Told → Hand ℕ → Hand ℕ → Type 0
-GoesOn pool list None next told old new = (next ≢ Over) × hands.Goes pool list next told old new
-GoesOn pool list (Some end) next told old new = (next ≡ end) × hands.EndsWait pool list told old new
+abbrev pub GoesOn : Pool ℕ → Kind → Waiter → Turn → Option Next → Next → Told → Hand ℕ → Hand ℕ → Type 0
+GoesOn pool kind waiter turn None next told old new = (next ≢ Over) × hands.Goes pool kind waiter turn next told old new
+GoesOn pool kind waiter turn (Some end) next told old new = (next ≡ end) × hands.EndsWait pool kind told old new
 
 -- a hand made a round, or ended its wait, and told these; it gained the tag won, if there is one, and no other
-pub record MakesRound (pool : Pool ℕ) (list : ℕ) (over : Bool) (next : Next) (told : Told) (old new : Hand ℕ) : Type 0
-  where
-    pub end : Option Next
-    pub ready : Hand ℕ
-    pub begins : Begins pool over end old ready
-    pub goes : GoesOn pool list end next told ready new
-    pub more : hand_holding.HoldsMore (IsWon next) old new
+pub record MakesRound (pool : Pool ℕ) (kind : Kind) (waiter : Waiter) (turn : Turn) (over : Bool) (next : Next)
+    (told : Told) (old new : Hand ℕ) : Type 0 where
+  pub end : Option Next
+  pub ready : Hand ℕ
+  pub begins : Begins pool kind over end old ready
+  pub goes : GoesOn pool kind waiter turn end next told ready new
+  pub more : hand_holding.HoldsMore (IsWon next) old new
 
--- the same four of a hand with a cache, which gets the least kept tag if one is kept
-abbrev pub round_checks_over : Bool → Pool ℕ → Cache ℕ → Checks TagFault
-round_checks_over over pool cache = (reserved_of pool < total_of pool, NoSuchTag)
-    ∷ (over ≡ false → KeepsNone cache → HasRoom (hand_of cache) Ordinary 1, Spent) ∷ []
+-- the same four of a hand with a cache, which gets the least kept tag of the kind if one is kept: no reserved tag is
+abbrev pub round_checks_over : Kind → Bool → Pool ℕ → Cache ℕ → Checks TagFault
+round_checks_over kind over pool cache = (1 ≤ (layout_of pool kind).depth, none_of kind)
+    ∷ (over ≡ false → (kind ≡ Ordinary → KeepsNone cache) → HasRoom (hand_of cache) kind 1, Spent) ∷ []
 
-abbrev pub BeginsOver : Pool ℕ → Bool → Option Next → Cache ℕ → Cache ℕ → Type 0
-BeginsOver pool over None old new = (over ≡ false) × hands.CanWait (hand_of new)
-    × ((new ≡ old) ⊎ cached_gets.Gets pool None old new)
-BeginsOver pool over (Some Over) old new = (over ≡ true) × (new ≡ old)
-BeginsOver pool over (Some (Won tag)) old new = (over ≡ false) × cached_gets.Gets pool (Some tag) old new
-BeginsOver pool over (Some Sleep) old new = ⊥
+-- a get of this kind, of which there are tags
+abbrev pub get_checks_over : Kind → Cache ℕ → Checks TagFault
+get_checks_over kind cache = ((kind ≡ Ordinary → KeepsNone cache) → HasRoom (hand_of cache) kind 1, Spent) ∷ []
 
-abbrev pub GoesOnOver : Pool ℕ → ℕ → Option Next → Next → Told → Cache ℕ → Cache ℕ → Type 0
-GoesOnOver pool list None next told old new = (next ≢ Over) × caches.Goes pool list next told old new
-GoesOnOver pool list (Some end) next told old new = (next ≡ end) × caches.EndsWait pool list told old new
+abbrev pub GetsOver : Pool ℕ → Kind → Option ℕ → Cache ℕ → Cache ℕ → Type 0
+GetsOver pool Ordinary answer old new = cached_gets.Gets pool answer old new
+GetsOver pool Reserved answer old new = gets.Gets pool Reserved answer (hand_of old) (hand_of new)
+    × user_holding.HoldsMore (gets.IsAnswer answer) old new
 
-pub record MakesRoundOver (pool : Pool ℕ) (list : ℕ) (over : Bool) (next : Next) (told : Told) (old new : Cache ℕ)
-    : Type 0 where
+abbrev pub BeginsOver : Pool ℕ → Kind → Bool → Option Next → Cache ℕ → Cache ℕ → Type 0
+BeginsOver pool kind over None old new = (over ≡ false) × hands.CanWait kind (hand_of new)
+    × ((new ≡ old) ⊎ GetsOver pool kind None old new)
+BeginsOver pool kind over (Some Over) old new = (over ≡ true) × (new ≡ old)
+BeginsOver pool kind over (Some (Won tag)) old new = (over ≡ false) × GetsOver pool kind (Some tag) old new
+BeginsOver pool kind over (Some Sleep) old new = ⊥
+
+abbrev pub GoesOnOver : Pool ℕ → Kind → Waiter → Turn → Option Next → Next → Told → Cache ℕ → Cache ℕ → Type 0
+GoesOnOver pool kind waiter turn None next told old new =
+    (next ≢ Over) × caches.Goes pool kind waiter turn next told old new
+GoesOnOver pool kind waiter turn (Some end) next told old new = (next ≡ end) × caches.EndsWait pool kind told old new
+
+pub record MakesRoundOver (pool : Pool ℕ) (kind : Kind) (waiter : Waiter) (turn : Turn) (over : Bool) (next : Next)
+    (told : Told) (old new : Cache ℕ) : Type 0 where
   pub end : Option Next
   pub ready : Cache ℕ
-  pub begins : BeginsOver pool over end old ready
-  pub goes : GoesOnOver pool list end next told ready new
+  pub begins : BeginsOver pool kind over end old ready
+  pub goes : GoesOnOver pool kind waiter turn end next told ready new
   pub more : user_holding.HoldsMore (IsWon next) old new
 
--- a hand made a round in the list and told these, or is refused, and its wait has ended
-pub record DoesRoundOf (list : ℕ) (over : Bool) (told : Told) (pool : Pool ℕ) (answer : Result Next TagFault)
-    (old new : Hand ℕ) : Type 0 where
-  pub refusals : RefusesBy (round_checks over pool old) (hands.EndsWait pool list told old new) answer
-  pub makes : IfOk answer (λ next. MakesRound pool list over next told old new)
+-- a hand made a round as this waiter, with this turn, and told these, or is refused, and its wait has ended
+pub record DoesRoundOf (kind : Kind) (waiter : Waiter) (turn : Turn) (over : Bool) (told : Told) (pool : Pool ℕ)
+    (answer : Result Next TagFault) (old new : Hand ℕ) : Type 0 where
+  pub refusals : RefusesBy (round_checks kind over pool old) (hands.EndsWait pool kind told old new) answer
+  pub makes : IfOk answer (λ next. MakesRound pool kind waiter turn over next told old new)
 
 -- the same of a hand with a cache
-pub record DoesRoundOver (list : ℕ) (over : Bool) (told : Told) (pool : Pool ℕ) (answer : Result Next TagFault)
-    (old new : Cache ℕ) : Type 0 where
-  pub refusals : RefusesBy (round_checks_over over pool old) (caches.EndsWait pool list told old new) answer
-  pub makes : IfOk answer (λ next. MakesRoundOver pool list over next told old new)
+pub record DoesRoundOver (kind : Kind) (waiter : Waiter) (turn : Turn) (over : Bool) (told : Told) (pool : Pool ℕ)
+    (answer : Result Next TagFault) (old new : Cache ℕ) : Type 0 where
+  pub refusals : RefusesBy (round_checks_over kind over pool old) (caches.EndsWait pool kind told old new) answer
+  pub makes : IfOk answer (λ next. MakesRoundOver pool kind waiter turn over next told old new)
 
 -- the same of whoever holds tags through a handle
-abbrev pub DoesRound : ℕ → Bool → Told → Pool ℕ → Result Next TagFault → Holder → Holder → Type 0
-DoesRound list over told pool answer = Either (DoesRoundOf list over told pool answer)
-    (DoesRoundOver list over told pool answer)
+abbrev pub DoesRound : Kind → Waiter → Turn → Bool → Told → Pool ℕ → Result Next TagFault → Holder → Holder → Type 0
+DoesRound kind waiter turn over told pool answer = Either (DoesRoundOf kind waiter turn over told pool answer)
+    (DoesRoundOver kind waiter turn over told pool answer)
+
+-- a call makes a round, by the number that says why the wait is over, and returns the number of its answer
+abbrev pub CallsRound : Kind → Waiter → Turn → ℤ → ToldHands → ℤ → Pool ℕ → Holder → Holder → Type 0
+CallsRound kind waiter turn why told =
+    Through (DoesRound kind waiter turn (is_over why) (told_of told)) (code_of_round why)

@@ -1,8 +1,8 @@
 //! Turns the answers of `tag_pool` into the numbers that C sees. An error becomes its negative status of tags.h.
 ghost use Rattle.std.specs.Prelude.{◌≡◌, ◌≤◌, IfOk, IfSome, pos, min};
 ghost use Rattle.tag_layout.specs.declared.layout.TheConstants.{MAX_DEPTH};
-ghost use Rattle.tag_c.specs.Left.{answer_of, left_of};
-ghost use Rattle.tag_c.specs.Codes.{IsRefusal, code_of_get, code_of_batch, code_of_done, done_of};
+ghost use Rattle.tag_c.specs.Left.{answer_of, left_of, left_of_many};
+ghost use Rattle.tag_c.specs.Codes.{IsRefusal, code_of_get, code_of_batch, code_of_done, code_of_many, done_of};
 
 use crate::status::{Status, fault_code};
 use tag_pool::{Found, MAX_DEPTH, TagFault};
@@ -51,6 +51,25 @@ pub(crate) fn batch_code(answer: Result<Option<(u32, u64)>, TagFault>) -> i32
         Ok(Some((first, _))) => first as i32,
         Ok(None) => Status::NoTag.code(),
         Err(fault) => fault_code(fault),
+    }
+}
+
+/// Writes how many tags the get of several left free, 0 if it was refused. Returns 0 if it took all, `NoTag` if it took
+/// none, or the status of the error.
+#[inline]
+pub(crate) fn many_code(answer: Result<(bool, u64), TagFault>, left: &mut u64) -> i32
+    ensures code { result ≡ code_of_many answer }
+    ensures left { left.new ≡ left_of_many answer }
+{
+    match answer {
+        Ok((all, free)) => {
+            *left = free;
+            if all { 0 } else { Status::NoTag.code() }
+        }
+        Err(fault) => {
+            *left = 0;
+            fault_code(fault)
+        }
     }
 }
 

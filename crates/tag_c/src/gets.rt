@@ -1,14 +1,14 @@
 //! Takes tags through the handle of a hand. Each call is described in tags.h.
-ghost use Rattle.std.specs.Prelude.{◌≡◌};
-ghost use Rattle.tag_c.specs.declared.status.Status.TheVariants.{BadHandle};
+ghost use Rattle.std.specs.Prelude.{◌≡◌, ◌≢◌};
+ghost use Rattle.tag_c.specs.declared.status.Status.TheVariants.{BadHandle, NoTag};
 ghost use Rattle.tag_search.specs.declared.search.Unfinished.TheVariants.{Full, Lost};
 ghost use Rattle.tag_c.specs.Begun.{TriesFirst};
-ghost use Rattle.tag_c.specs.Calls.{HandCalls, CacheCalls, CallsBy, Through, DoesGet, DoesGetExactly, DoesGetReserved, DoesGetShallow, DoesGetBatch};
-ghost use Rattle.tag_c.specs.Codes.{IsRefusal, code_of, code_of_get, code_of_found, code_of_found_batch};
+ghost use Rattle.tag_c.specs.Calls.{HandCalls, CacheCalls, CallsBy, Through, DoesGet, DoesGetExactly, DoesGetReserved, DoesGetShallow, DoesGetBatch, DoesGetMany};
+ghost use Rattle.tag_c.specs.Codes.{IsRefusal, code_of, code_of_found, code_of_found_batch, code_of_many};
 
 use crate::any_hand::{AnyHand, on_hand};
 use crate::cached::CachedMember;
-use crate::codes::{batch_code, get_code, tell_left};
+use crate::codes::{batch_code, get_code, many_code, tell_left};
 use crate::handle::Handle;
 use crate::member::Member;
 use tag_pool::Unfinished;
@@ -19,9 +19,9 @@ trait GetCalls: AnyHand {
     fn get(&mut self, left: &mut u64) -> i32
         ensures { Self.changes (Through (DoesGet left.new) code_of_found result) self.old self.new };
 
-    /// Takes a free reserved tag and returns it.
-    fn get_reserved(&mut self) -> i32
-        ensures { Self.changes (Through DoesGetReserved code_of_get result) self.old self.new };
+    /// Takes a free reserved tag and returns it. `left` counts reserved tags.
+    fn get_reserved(&mut self, left: &mut u64) -> i32
+        ensures { Self.changes (Through (DoesGetReserved left.new) code_of_found result) self.old self.new };
 
     /// Takes a free ordinary tag within the words' shares of `depth` and returns it.
     fn get_shallow(&mut self, depth: u32, left: &mut u64) -> i32
@@ -38,6 +38,13 @@ trait GetCalls: AnyHand {
         ensures calls { Self.changes (Through (DoesGetBatch n won.new left.new) code_of_found_batch result)
             self.old self.new }
         ensures kept { IsRefusal result → won.new ≡ won.old };
+
+    /// Takes as many free ordinary tags as the slice has places and returns 0, or takes none. `NoTag` leaves anything in
+    /// the slice.
+    fn get_many(&mut self, tags: &mut [u32], left: &mut u64) -> i32
+        ensures calls { Self.changes (Through (DoesGetMany tags.old tags.new left.new) code_of_many result)
+            self.old self.new }
+        ensures kept { IsRefusal result → result ≢ code_of NoTag → tags.new ≡ tags.old };
 }
 
 // What a get does after its first try is out of line and called last, with numbers alone: the first try then needs no
@@ -100,8 +107,9 @@ impl GetCalls for Member {
     }
 
     #[inline(always)]
-    fn get_reserved(&mut self) -> i32 {
-        get_code(self.shared.tags.get_reserved(&mut self.hand))
+    fn get_reserved(&mut self, left: &mut u64) -> i32 {
+        let found = self.shared.tags.get_reserved_quietly(&mut self.hand);
+        get_code(tell_left(found, left))
     }
 
     #[inline(always)]
@@ -123,6 +131,12 @@ impl GetCalls for Member {
             *won = mask;
         }
         batch_code(answer)
+    }
+
+    #[inline(always)]
+    fn get_many(&mut self, tags: &mut [u32], left: &mut u64) -> i32 {
+        let answer = self.shared.tags.get_many_quietly(&mut self.hand, tags);
+        many_code(answer, left)
     }
 }
 
@@ -150,8 +164,9 @@ impl GetCalls for CachedMember {
     }
 
     #[inline(never)]
-    fn get_reserved(&mut self) -> i32 {
-        get_code(self.cache.get_reserved(&self.shared.tags))
+    fn get_reserved(&mut self, left: &mut u64) -> i32 {
+        let found = self.cache.get_reserved_quietly(&self.shared.tags);
+        get_code(tell_left(found, left))
     }
 
     #[inline(never)]
@@ -174,6 +189,12 @@ impl GetCalls for CachedMember {
         }
         batch_code(answer)
     }
+
+    #[inline(never)]
+    fn get_many(&mut self, tags: &mut [u32], left: &mut u64) -> i32 {
+        let answer = self.cache.get_many_quietly(&self.shared.tags, tags);
+        many_code(answer, left)
+    }
 }
 
 #[unsafe(no_mangle)]
@@ -187,11 +208,13 @@ pub extern "C" fn tags_get(hand: &mut Handle, left: &mut u64) -> i32
 }
 
 #[unsafe(no_mangle)]
-pub extern "C" fn tags_get_reserved(hand: &mut Handle) -> i32
-    ensures { CallsBy (Through DoesGetReserved code_of_get result) result
+pub extern "C" fn tags_get_reserved(hand: &mut Handle, left: &mut u64) -> i32
+    ensures calls { CallsBy (Through (DoesGetReserved left.new) code_of_found result) result
         hand.old.object.value hand.new.object.value }
+    ensures bad_handle { result ≡ code_of BadHandle → left.new ≡ 0 }
 {
-    on_hand!(hand.get_reserved())
+    *left = 0;
+    on_hand!(hand.get_reserved(left))
 }
 
 #[unsafe(no_mangle)]
@@ -223,4 +246,15 @@ pub extern "C" fn tags_get_batch(hand: &mut Handle, n: u32, won: &mut u64, left:
 {
     *left = 0;
     on_hand!(hand.get_batch(n, won, left))
+}
+
+#[unsafe(no_mangle)]
+pub extern "C" fn tags_get_many(hand: &mut Handle, tags: &mut [u32], left: &mut u64) -> i32
+    ensures calls { CallsBy (Through (DoesGetMany tags.old tags.new left.new) code_of_many result) result
+        hand.old.object.value hand.new.object.value }
+    ensures kept { IsRefusal result → result ≢ code_of NoTag → tags.new ≡ tags.old }
+    ensures bad_handle { result ≡ code_of BadHandle → left.new ≡ 0 }
+{
+    *left = 0;
+    on_hand!(hand.get_many(tags, left))
 }

@@ -1,15 +1,14 @@
-//! Rounds of a wait for an ordinary tag by the bell, through the handle of a hand. The C files of the library make these calls,
+//! Rounds of a wait for a tag by the bell, through the handle of a hand. The C files of the library make these calls,
 //! and between two rounds they sleep, or wait to be notified. They end a wait by a round, too: whoever calls says why it is
 //! over.
-ghost use Rattle.std.specs.Prelude.{◌≡◌, ◌<◌, ◌≤◌, IfOk};
+ghost use Rattle.std.specs.Prelude.{◌≡◌, ◌≤◌, IfOk};
 ghost use Rattle.refusals.specs.Refusals.{RefusesBy};
 ghost use Rattle.tag_layout.specs.declared.layout.TheConstants.{MAX_DEPTH};
-ghost use Rattle.tag_core.specs.declared.bell.TheConstants.{LISTS};
-ghost use Rattle.tag_bell.specs.declared.told.TheConstants.{SLEEPERS, LISTENERS};
-ghost use Rattle.tag_c.specs.Bell.{told_of};
-ghost use Rattle.tag_c.specs.Calls.{CallsBy, Through};
+ghost use Rattle.tag_core.specs.declared.berth.Waiter.TheVariants.{Listener, Sleeper};
+ghost use Rattle.tag_pool.specs.declared.kind.Kind.TheVariants.{Ordinary, Reserved};
+ghost use Rattle.tag_c.specs.Calls.{CallsBy};
 ghost use Rattle.tag_c.specs.Exports.{HasHand};
-ghost use Rattle.tag_c.specs.Rounds.{code_of_round, is_over, turn_of, DoesRound, IfWon};
+ghost use Rattle.tag_c.specs.Rounds.{code_of_round, is_over, turn_of, CallsRound, IfWon};
 
 use crate::any_hand::{AnyHand, on_hand};
 use crate::bell::ToldHands;
@@ -19,7 +18,7 @@ use crate::member::Member;
 use crate::rounds::bare::make_round;
 use crate::rounds::caching::make_round_over;
 use crate::status::{Status, fault_code};
-use tag_pool::{LISTENERS, Next, SLEEPERS, TagFault, Turn};
+use tag_pool::{Kind, Next, TagFault, Turn, Waiter};
 
 mod bare;
 mod caching;
@@ -56,21 +55,34 @@ fn round_code(answer: Result<Next, TagFault>, why: i32) -> i32
 
 /// Rounds of a wait.
 trait RoundCalls: AnyHand {
-    /// Makes a round in a list, with this turn, and fills in whom it told. If `why` is not 0 the wait is over, and it returns
-    /// that.
-    fn make_round(&mut self, list: u32, why: i32, turn: Turn, told: &mut ToldHands) -> i32
-        requires { list < LISTS }
-        ensures { Self.changes (Through (DoesRound list (is_over why) (told_of told.new)) (code_of_round why) result)
-            self.old self.new };
+    /// Makes a round for a tag of this kind as this waiter, with this turn, and fills in whom it told. If `why` is not 0
+    /// the wait is over, and it returns that.
+    fn make_round(
+        &mut self,
+        kind: Kind,
+        waiter: Waiter,
+        why: i32,
+        turn: Turn,
+        told: &mut ToldHands,
+    ) -> i32
+        ensures { Self.changes (CallsRound kind waiter turn why told.new result) self.old self.new };
 }
 
 impl RoundCalls for Member {
     #[inline(always)]
-    fn make_round(&mut self, list: u32, why: i32, turn: Turn, told: &mut ToldHands) -> i32 {
+    fn make_round(
+        &mut self,
+        kind: Kind,
+        waiter: Waiter,
+        why: i32,
+        turn: Turn,
+        told: &mut ToldHands,
+    ) -> i32 {
         let (answer, whom) = make_round(
             &self.shared.tags,
             &mut self.hand,
-            list,
+            kind,
+            waiter,
             is_over(why),
             turn,
         );
@@ -81,11 +93,19 @@ impl RoundCalls for Member {
 
 impl RoundCalls for CachedMember {
     #[inline(always)]
-    fn make_round(&mut self, list: u32, why: i32, turn: Turn, told: &mut ToldHands) -> i32 {
+    fn make_round(
+        &mut self,
+        kind: Kind,
+        waiter: Waiter,
+        why: i32,
+        turn: Turn,
+        told: &mut ToldHands,
+    ) -> i32 {
         let (answer, whom) = make_round_over(
             &self.shared.tags,
             &mut self.cache,
-            list,
+            kind,
+            waiter,
             is_over(why),
             turn,
         );
@@ -96,12 +116,12 @@ impl RoundCalls for CachedMember {
 
 #[unsafe(no_mangle)]
 pub extern "C" fn tags_wait_on(hand: &mut Handle, why: i32, again: u32, told: &mut ToldHands) -> i32
-    ensures calls { CallsBy (Through (DoesRound SLEEPERS (is_over why) (told_of told.new)) (code_of_round why) result) result
+    ensures calls { CallsBy (CallsRound Ordinary Sleeper (turn_of again) why told.new result) result
         hand.old.object.value hand.new.object.value }
     ensures kept { ¬ (HasHand hand.old.object.value) → told.new ≡ told.old }
 {
     let turn = turn_of(again);
-    on_hand!(hand.make_round(SLEEPERS, why, turn, told))
+    on_hand!(hand.make_round(Kind::Ordinary, Waiter::Sleeper, why, turn, told))
 }
 
 #[unsafe(no_mangle)]
@@ -111,10 +131,40 @@ pub extern "C" fn tags_listen_on(
     again: u32,
     told: &mut ToldHands,
 ) -> i32
-    ensures calls { CallsBy (Through (DoesRound LISTENERS (is_over why) (told_of told.new)) (code_of_round why) result) result
+    ensures calls { CallsBy (CallsRound Ordinary Listener (turn_of again) why told.new result) result
         hand.old.object.value hand.new.object.value }
     ensures kept { ¬ (HasHand hand.old.object.value) → told.new ≡ told.old }
 {
     let turn = turn_of(again);
-    on_hand!(hand.make_round(LISTENERS, why, turn, told))
+    on_hand!(hand.make_round(Kind::Ordinary, Waiter::Listener, why, turn, told))
+}
+
+#[unsafe(no_mangle)]
+pub extern "C" fn tags_wait_on_reserved(
+    hand: &mut Handle,
+    why: i32,
+    again: u32,
+    told: &mut ToldHands,
+) -> i32
+    ensures calls { CallsBy (CallsRound Reserved Sleeper (turn_of again) why told.new result) result
+        hand.old.object.value hand.new.object.value }
+    ensures kept { ¬ (HasHand hand.old.object.value) → told.new ≡ told.old }
+{
+    let turn = turn_of(again);
+    on_hand!(hand.make_round(Kind::Reserved, Waiter::Sleeper, why, turn, told))
+}
+
+#[unsafe(no_mangle)]
+pub extern "C" fn tags_listen_on_reserved(
+    hand: &mut Handle,
+    why: i32,
+    again: u32,
+    told: &mut ToldHands,
+) -> i32
+    ensures calls { CallsBy (CallsRound Reserved Listener (turn_of again) why told.new result) result
+        hand.old.object.value hand.new.object.value }
+    ensures kept { ¬ (HasHand hand.old.object.value) → told.new ≡ told.old }
+{
+    let turn = turn_of(again);
+    on_hand!(hand.make_round(Kind::Reserved, Waiter::Listener, why, turn, told))
 }

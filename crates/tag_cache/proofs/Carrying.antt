@@ -2,7 +2,7 @@
 use Rattle.tag_cache.proofs.Uses.{ap, AreOwn, Bool, Cache, count_ones, Err, false, false≢true, Hand, HoldsLess, HoldsMore, HoldsSame, IfErr, IfOk, inl, inr, IsIn, IsKept, IsKnown, IsLeftWith, IsOk, IsTrue, KeepsNone, KeepsSame, MOST_REUSED, NoSuchTag, NotPosted, Ok, OnErr, OnOk, refl, Result}
 use Rattle.tag_cache.proofs.Uses.{SameHand, SameTerms, subst, sym, TagFault, Pool, true, WhileHolding, Writes, ℕ, ⊎_elim, ◌∙◌}
 use Rattle.tag_model.proofs.HoldingFacts.{same_itself}
-use Rattle.std.specs.Prelude.{◌+◌, ◌^◌, ◌<◌, ◌↔◌, ◌≡◌, ◌≢◌, ◌≤◌}
+use Rattle.std.specs.Prelude.{◌+◌, ◌^◌, ◌<◌, ◌↔◌, ◌≡◌, ◌≢◌, ◌≤◌, Option}
 use mathlib.Core.Bool.{not}
 use Rattle.tag_pool.specs.Hands as hands
 use Rattle.tag_pool.specs.Holding as hand_holding
@@ -81,10 +81,10 @@ module _ {R : Type 0} where
         (λ other h l. still other (λ e. unknown (subst (λ (t : ℕ). IsKnown cache t) e l)) h))
 
   -- a call that may have posted a tag leaves the hand the others
-  pub post_still : (tag : ℕ) (a b : Hand R) (r : Result (Unit {0}) TagFault) → OnOk r (hand_slots.Posts tag a b)
+  pub post_still : (tag note : ℕ) (a b : Hand R) (r : Result (Unit {0}) TagFault) → OnOk r (hand_slots.Posts tag note a b)
       → OnErr r (b ≡ a) → (other : ℕ) → other ≢ tag → hands.Holds a other → hands.Holds b other
-  post_still tag a b (Ok u) p e other n h = (p.less.kept other n h).0
-  post_still tag a b (Err x) p e other n h = subst (λ (y : Hand R). hands.Holds y other) (sym e) h
+  post_still tag note a b (Ok u) p e other n h = (p.less.kept other n h).0
+  post_still tag note a b (Err x) p e other n h = subst (λ (y : Hand R). hands.Holds y other) (sym e) h
 
   -- a call that was refused, or did what leaves the hand its tags, leaves it them
   pub still_on : {A : Type 0} (a b : Hand R) (r : Result A TagFault) (P : A → Type 0) → IfOk r P → OnErr r (b ≡ a)
@@ -151,6 +151,13 @@ module _ {R : Type 0} where
         → IfOk r (λ value. hand_slots.Reads tag value old.hand new.hand) → OnOk r (HoldsSame old new)
     same_on tag (Ok v) p = same p.same
     same_on tag (Err e) p = tt
+
+    -- the load of a note leaves the user its tags, also where it is refused
+    pub note_same : (tag : ℕ) (r : Result (Option ℕ) TagFault)
+        → IfOk r (λ answer. hand_slots.ReadsNote tag answer old.hand new.hand) → OnErr r (new.hand ≡ old.hand)
+        → HoldsSame old new
+    note_same tag (Ok answer) p e = same p.same
+    note_same tag (Err fault) p e = same (unchanged_hand old.hand new.hand e)
 
   -- the hand of a cache that keeps nothing holds what the user holds
   pub left_with : (old new : Cache R) → HoldsSame old new → KeepsNone new → IsLeftWith old new.hand

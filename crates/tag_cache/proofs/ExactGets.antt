@@ -1,6 +1,6 @@
 -- What a get of one given tag gives the user of a cache.
 use Rattle.std.specs.Prelude.{◌≡◌}
-use Rattle.tag_cache.proofs.Uses.{answered, ap, arith, back_in_both, Cache, Err, FailsFirst, Found, Hand, HandsOut, IfOk, IfOk-weaker, inl, inr, IsAnswer, IsHandOf, IsKept, IsUnchanged, KeepsSame, kind_of, Layout, Ok, OnErr, Option, Ordinary, PassesAll, Pool, refl, RefusesBy}
+use Rattle.tag_cache.proofs.Uses.{answered, ap, arith, back_in_both, Cache, Err, FailsFirst, Found, Hand, HandsOut, IfOk, IfOk-weaker, inl, inr, IsAnswer, IsHandOf, IsKept, IsUnchanged, KeepsSame, kind_of, Layout, Ok, OnErr, Option, PassesAll, Pool, refl, RefusesBy}
 use Rattle.tag_cache.proofs.Uses.{reserved_of, Result, SameWindow, Side, Some, subst, sym, TagFault, Tallies, won_in_both, Woken, ℕ}
 use Rattle.tag_search.specs.Gains.{count_of}
 use Rattle.tag_pool.specs.Exact as hands
@@ -32,8 +32,8 @@ module _ {R : Type 0} (pool : Pool R) (tag : ℕ) where
   }
 
   looked : (answer : Option ℕ) (woken : Woken) (a b : Hand R)
-      → hand_gets.GetsAndLooks (hands.GetsExactly pool tag answer) woken a b → Gains (IsAnswer answer) (answered answer) a b
-  looked answer woken a b = looked_gains (IsAnswer answer) (answered answer) woken (hands.GetsExactly pool tag answer) a b
+      → hand_gets.GetsAndLooks (kind_of (reserved_of pool) tag) (hands.GetsExactly pool tag answer) woken a b → Gains (IsAnswer answer) (answered answer) a b
+  looked answer woken a b = looked_gains (kind_of (reserved_of pool) tag) (IsAnswer answer) (answered answer) woken (hands.GetsExactly pool tag answer) a b
       (λ x. exact_gains answer a x)
 
   pub exact_quiet_call : (a b : Hand R) (r : Result (Found ℕ) TagFault) → hands.DoesGetExactly tag pool r a b
@@ -44,7 +44,7 @@ module _ {R : Type 0} (pool : Pool R) (tag : ℕ) where
   }
 
   pub exact_call : (a b : Hand R) (r : Result (Got (Option ℕ)) TagFault)
-      → IfOk r (λ got. hand_gets.GetsAndLooks (hands.GetsExactly pool tag got.answer) got.woken a b) → OnErr r (b ≡ a)
+      → IfOk r (λ got. hand_gets.GetsAndLooks (kind_of (reserved_of pool) tag) (hands.GetsExactly pool tag got.answer) got.woken a b) → OnErr r (b ≡ a)
       → Gain r (λ got. IsAnswer got.answer) (λ got. answered got.answer) a b
   exact_call a b r gets err = record {
     gains = IfOk-weaker r _ _ (λ got. looked got.answer got.woken a b) gets;
@@ -70,10 +70,10 @@ module _ {R : Type 0} (pool : Pool R) (tag : ℕ) where
         moves_tallies (answered found.answer) 0 old new keeps (exact_gains found.answer _ _ x).moves) gets
 
     pub looking_gets : (r : Result (Got (Option ℕ)) TagFault)
-        → IfOk r (λ got. hand_gets.GetsAndLooks (hands.GetsExactly pool tag got.answer) got.woken old.hand new.hand)
+        → IfOk r (λ got. hand_gets.GetsAndLooks (kind_of (reserved_of pool) tag) (hands.GetsExactly pool tag got.answer) got.woken old.hand new.hand)
         → IfOk r (λ got. GetsAndLooks tag pool got.answer got.woken old new)
     looking_gets r gets = IfOk-weaker r _ _ (λ got
-        (x : hand_gets.GetsAndLooks (hands.GetsExactly pool tag got.answer) got.woken old.hand new.hand). record {
+        (x : hand_gets.GetsAndLooks (kind_of (reserved_of pool) tag) (hands.GetsExactly pool tag got.answer) got.woken old.hand new.hand). record {
           gets = record {
             more = more old new keeps (IsAnswer got.answer) (looked got.answer got.woken _ _ x).more;
             only = x.gets.only;
@@ -83,10 +83,10 @@ module _ {R : Type 0} (pool : Pool R) (tag : ℕ) where
         }) gets
 
     pub looking_tally : (r : Result (Got (Option ℕ)) TagFault)
-        → IfOk r (λ got. hand_gets.GetsAndLooks (hands.GetsExactly pool tag got.answer) got.woken old.hand new.hand)
+        → IfOk r (λ got. hand_gets.GetsAndLooks (kind_of (reserved_of pool) tag) (hands.GetsExactly pool tag got.answer) got.woken old.hand new.hand)
         → IfOk r (λ got. Tallies (answered got.answer) 0 old new)
     looking_tally r gets = IfOk-weaker r _ _ (λ got
-        (x : hand_gets.GetsAndLooks (hands.GetsExactly pool tag got.answer) got.woken old.hand new.hand).
+        (x : hand_gets.GetsAndLooks (kind_of (reserved_of pool) tag) (hands.GetsExactly pool tag got.answer) got.woken old.hand new.hand).
         moves_tallies (answered got.answer) 0 old new keeps (looked got.answer got.woken _ _ x).moves) gets
 
     fails : (fault : TagFault) → FailsFirst (of_hand.exact_checks pool tag old.hand) fault
@@ -125,8 +125,8 @@ module _ {R : Type 0} (pool : Pool R) (tag : ℕ) where
       (λ no. absurd (no out.takes.was), tt),
     )
 
-    pub kept_left : 0 ≡ hand_gets.left_free Ordinary old.hand new.hand
-    kept_left = subst (λ (h : Hand R). 0 ≡ hand_gets.left_free Ordinary old.hand h) (sym out.takes.hand) (omega arith)
+    pub kept_left : 0 ≡ hand_gets.left_free (kind_of (reserved_of pool) tag) old.hand new.hand
+    kept_left = subst (λ (h : Hand R). 0 ≡ hand_gets.left_free (kind_of (reserved_of pool) tag) old.hand h) (sym out.takes.hand) (omega arith)
 
     pub kept_tally : Tallies 1 0 old new
     kept_tally = let w = ap (λ (h : Hand R). won_in_both h) out.takes.hand in

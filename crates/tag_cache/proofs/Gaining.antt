@@ -36,10 +36,10 @@ module _ {R : Type 0} (pool : Pool R) where
   plain_gains kind answer a b g = record { more = g.more; moves = gets_moves pool kind answer a b g }
 
   -- an answer is a tag of its set
-  pub tag_in : (kind : Kind) (a b : Hand R) (r : Result (Option ℕ) TagFault)
-      → IfOk r (λ answer. hand_gets.Gets pool kind answer a b)
-      → IfOk r (λ answer. (tag : ℕ) → IsAnswer answer tag → IsTagIn pool kind tag)
-  tag_in kind a b (Ok answer) g = g.tag
+  pub tag_in : (kind : Kind) (a b : Hand R) (r : Result (Found ℕ) TagFault)
+      → IfOk r (λ found. hand_gets.Gets pool kind found.answer a b)
+      → IfOk r (λ found. (tag : ℕ) → IsAnswer found.answer tag → IsTagIn pool kind tag)
+  tag_in kind a b (Ok found) g = g.tag
   tag_in kind a b (Err fault) g = tt
 
   shallow_side : (l : Layout) (depth : ℕ) (answer : Option ℕ) (a b : Side R) → side.GetsShallow l depth answer a b
@@ -85,16 +85,17 @@ module _ {R : Type 0} where
   }
 
   -- who sees to what a get left free wins nothing and gives nothing back
-  pub looked_rests : (left : ℕ) (woken : Woken) (a b : Hand R) → LooksAfter left woken a b → Rests a b
-  looked_rests left woken a b l = ⊎_elim
+  pub looked_rests : (kind : Kind) (left : ℕ) (woken : Woken) (a b : Hand R) → LooksAfter kind left woken a b → Rests a b
+  looked_rests kind left woken a b l = ⊎_elim
       (λ (none : left < 1). rests_unchanged a b (l.none (omega arith)).0)
-      (λ (some : 1 ≤ left). sees_rests _ 6 (told_by woken) a b l.same (l.some some)) (cases_lt left 1)
+      (λ (some : 1 ≤ left). sees_rests kind _ side.see_to_steps (told_by woken) a b l.same (l.some some)) (cases_lt left 1)
 
   -- so it changes nothing about the get
-  pub looked_gains : (named : ℕ → Type 0) (count : ℕ) (woken : Woken) (gets : Hand R → Hand R → Type 0) (a b : Hand R)
-      → ((x : Hand R) → gets a x → Gains named count a x) → hand_gets.GetsAndLooks gets woken a b → Gains named count a b
-  looked_gains named count woken gets a b gains g = let first = gains g.searched g.gets in
-      let rests = looked_rests _ woken g.searched b g.looks in let fw = first.moves.won_is in
+  pub looked_gains : (kind : Kind) (named : ℕ → Type 0) (count : ℕ) (woken : Woken) (gets : Hand R → Hand R → Type 0)
+      (a b : Hand R) → ((x : Hand R) → gets a x → Gains named count a x) → hand_gets.GetsAndLooks kind gets woken a b
+      → Gains named count a b
+  looked_gains kind named count woken gets a b gains g = let first = gains g.searched g.gets in
+      let rests = looked_rests kind _ woken g.searched b g.looks in let fw = first.moves.won_is in
       let fb = first.moves.back_is in let rw = rests.moves.won_is in let rb = rests.moves.back_is in record {
         more = record {
           fresh = first.more.fresh;
@@ -150,27 +151,27 @@ module _ {R : Type 0} (pool : Pool R) (a b : Hand R) where
     refused = does.refusals.same;
   }
 
-  pub reserved_call : (r : Result (Option ℕ) TagFault) → hand_gets.DoesGetReserved pool r a b
-      → Gain r (λ answer. IsAnswer answer) (λ answer. answered answer) a b
-  reserved_call r does = record {
-    gains = IfOk-weaker r _ _ (λ answer. plain_gains pool Reserved answer a b) does.gets;
+  pub reserved_quiet_call : (r : Result (Found ℕ) TagFault) → hand_gets.DoesGetReserved pool r a b
+      → Gain r (λ found. IsAnswer found.answer) (λ found. answered found.answer) a b
+  reserved_quiet_call r does = record {
+    gains = IfOk-weaker r _ _ (λ found. plain_gains pool Reserved found.answer a b) does.gets;
     refused = does.refusals.same;
   }
 
-  pub get_call : (r : Result (Got (Option ℕ)) TagFault)
-      → IfOk r (λ got. hand_gets.GetsAndLooks (hand_gets.Gets pool Ordinary got.answer) got.woken a b) → OnErr r (b ≡ a)
+  pub get_call : (kind : Kind) (r : Result (Got (Option ℕ)) TagFault)
+      → IfOk r (λ got. hand_gets.GetsAndLooks kind (hand_gets.Gets pool kind got.answer) got.woken a b) → OnErr r (b ≡ a)
       → Gain r (λ got. IsAnswer got.answer) (λ got. answered got.answer) a b
-  get_call r gets err = record {
-    gains = IfOk-weaker r _ _ (λ got. looked_gains (IsAnswer got.answer) (answered got.answer) got.woken
-        (hand_gets.Gets pool Ordinary got.answer) a b (λ x. plain_gains pool Ordinary got.answer a x)) gets;
+  get_call kind r gets err = record {
+    gains = IfOk-weaker r _ _ (λ got. looked_gains kind (IsAnswer got.answer) (answered got.answer) got.woken
+        (hand_gets.Gets pool kind got.answer) a b (λ x. plain_gains pool kind got.answer a x)) gets;
     refused = err;
   }
 
   pub shallow_call : (depth : ℕ) (r : Result (Got (Option ℕ)) TagFault)
-      → IfOk r (λ got. hand_gets.GetsAndLooks (hand_gets.GetsShallow pool depth got.answer) got.woken a b)
+      → IfOk r (λ got. hand_gets.GetsAndLooks Ordinary (hand_gets.GetsShallow pool depth got.answer) got.woken a b)
       → OnErr r (b ≡ a) → Gain r (λ got. IsAnswer got.answer) (λ got. answered got.answer) a b
   shallow_call depth r gets err = record {
-    gains = IfOk-weaker r _ _ (λ got. looked_gains (IsAnswer got.answer) (answered got.answer) got.woken
+    gains = IfOk-weaker r _ _ (λ got. looked_gains Ordinary (IsAnswer got.answer) (answered got.answer) got.woken
         (hand_gets.GetsShallow pool depth got.answer) a b (λ x. shallow_gains pool depth got.answer a x)) gets;
     refused = err;
   }
@@ -180,10 +181,10 @@ module _ {R : Type 0} (pool : Pool R) (a b : Hand R) where
     pub batch_call : (robin : Bool) (r : Result (Got (Option (ℕ × ℕ))) TagFault)
         → RefusesBy ((counts, fault) ∷ later) (b ≡ a) r
         → (counts → IsTrue robin → IfOk r (λ got. (got.answer ≡ None) × (told_by got.woken ≡ nobody)) × (b ≡ a))
-        → (robin ≡ false → IfOk r (λ got. hand_gets.GetsAndLooks (hand_gets.GetsBatch pool n got.answer) got.woken a b))
+        → (robin ≡ false → IfOk r (λ got. hand_gets.GetsAndLooks Ordinary (hand_gets.GetsBatch pool n got.answer) got.woken a b))
         → Gain r (λ got. IsInRun got.answer) (λ got. answered_run got.answer) a b
     batch_call false r refusals none gets = record {
-      gains = IfOk-weaker r _ _ (λ got. looked_gains (IsInRun got.answer) (answered_run got.answer) got.woken
+      gains = IfOk-weaker r _ _ (λ got. looked_gains Ordinary (IsInRun got.answer) (answered_run got.answer) got.woken
           (hand_gets.GetsBatch pool n got.answer) a b (λ x. batch_gains pool n got.answer a x)) (gets refl);
       refused = refusals.same;
     }

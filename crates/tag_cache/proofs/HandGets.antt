@@ -20,26 +20,26 @@ module _ {R : Type 0} (pool : Pool R) (old new : Cache R) (keeps : KeepsSame old
   }
 
   looked : (answer : Option ℕ) (woken : Woken)
-      → hand_gets.GetsAndLooks (hand_gets.Gets pool Ordinary answer) woken old.hand new.hand
+      → hand_gets.GetsAndLooks Ordinary (hand_gets.Gets pool Ordinary answer) woken old.hand new.hand
       → Gains (IsAnswer answer) (answered answer) old.hand new.hand
-  looked answer woken x = looked_gains (IsAnswer answer) (answered answer) woken (hand_gets.Gets pool Ordinary answer)
+  looked answer woken x = looked_gains Ordinary (IsAnswer answer) (answered answer) woken (hand_gets.Gets pool Ordinary answer)
       old.hand new.hand (λ h. plain_gains pool Ordinary answer old.hand h) x
 
   pub gets_after : (r : Result (Got (Option ℕ)) TagFault)
-      → IfOk r (λ got. hand_gets.GetsAndLooks (hand_gets.Gets pool Ordinary got.answer) got.woken old.hand new.hand)
+      → IfOk r (λ got. hand_gets.GetsAndLooks Ordinary (hand_gets.Gets pool Ordinary got.answer) got.woken old.hand new.hand)
       → record {
         gets : IfOk r (λ got. GetsAndLooks pool got.answer got.woken old new);
         tally : IfOk r (λ got. Tallies (answered got.answer) 0 old new);
       }
   gets_after r got = record {
     gets = IfOk-weaker r _ _ (λ found
-        (x : hand_gets.GetsAndLooks (hand_gets.Gets pool Ordinary found.answer) found.woken old.hand new.hand). record {
-          gets = by_hand (hand_gets.GetsAndLooks (hand_gets.Gets pool Ordinary found.answer) found.woken) found.answer
+        (x : hand_gets.GetsAndLooks Ordinary (hand_gets.Gets pool Ordinary found.answer) found.woken old.hand new.hand). record {
+          gets = by_hand (hand_gets.GetsAndLooks Ordinary (hand_gets.Gets pool Ordinary found.answer) found.woken) found.answer
               (looked found.answer found.woken x) x.gets.tag x;
           quiet = λ some. absurd (some none);
         }) got;
     tally = IfOk-weaker r _ _ (λ found
-        (x : hand_gets.GetsAndLooks (hand_gets.Gets pool Ordinary found.answer) found.woken old.hand new.hand).
+        (x : hand_gets.GetsAndLooks Ordinary (hand_gets.Gets pool Ordinary found.answer) found.woken old.hand new.hand).
         moves_tallies (answered found.answer) 0 old new keeps (looked found.answer found.woken x).moves) got;
   }
 

@@ -14,13 +14,13 @@ pub mod Cautious
 pub mod Sleeping
 pub mod Winning
 pub mod Rested
-pub mod Waking
 pub mod Shifting
 pub mod Crossing
 pub mod Steady
 pub mod Reporting
 pub mod Meetings
 pub mod Gaining
+pub mod ManyGains
 pub mod ClearedLists
 pub mod Posting
 pub mod HandGets

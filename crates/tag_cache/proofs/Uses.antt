@@ -17,6 +17,7 @@ pub use Rattle.tag_search.specs.Gains.{count_of_run, count_of as won_by}
 pub use Rattle.tag_search.specs.declared.found.Found.{Found}
 pub use Rattle.tag_search.specs.declared.hint.Hint.{Hint}
 pub use Rattle.tag_core.specs.Callers.{Adds, record_of}
+pub use Rattle.tag_core.specs.declared.berth.Waiter.{Waiter}
 pub use Rattle.tag_core.specs.declared.caller.Caller.{Caller}
 pub use Rattle.tag_core.specs.declared.record.Record.{Record}
 pub use Rattle.tag_core.specs.declared.step.Step.TheVariants.{Word}
@@ -25,6 +26,7 @@ pub use Rattle.tag_bell.specs.Calls.{nobody, OnlyAdds}
 pub use Rattle.tag_bell.specs.Sleeping.{told_by}
 pub use Rattle.tag_bell.specs.declared.sleeping.Woken.{Woken}
 pub use Rattle.tag_bell.specs.declared.told.Told.{Told}
+pub use Rattle.tag_bell.specs.declared.waiting.Turn.{Turn}
 pub use Rattle.tag_pool.proofs.MaskTags.{bit_from, one_in-tags, place_one, tags_in-length, tags_in-one}
 pub use Rattle.tag_pool.proofs.Numbering.{IsOrdinary, IsReserved, ordinary_above, ordinary_at, reserved_at, reserved_below, stands}
 pub use Rattle.tag_pool.specs.Batches.{GivesBack as GivesBatch}

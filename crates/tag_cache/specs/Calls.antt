@@ -28,16 +28,17 @@ pub record DoesGet {R : Type 0} (pool : Pool R) (result : Result (Found ℕ) Tag
   pub knows : IfOk result (λ found. LearnsAnswer found.answer old new)
   pub tally : IfOk result (λ found. Tallies (answered found.answer) 0 old new)
 
--- gets a reserved tag
-pub record DoesGetReserved {R : Type 0} (pool : Pool R) (result : Result (Option ℕ) TagFault) (old new : Cache R)
+-- gets a reserved tag, and tells how many its sweeps left free
+pub record DoesGetReserved {R : Type 0} (pool : Pool R) (result : Result (Found ℕ) TagFault) (old new : Cache R)
     : Type 0 where
   pub refusals : RefusesBy (reserved_checks pool (hand_of old)) (IsUnchanged old new) result
-  pub gets : IfOk result (λ answer. hands.Gets pool Reserved answer (hand_of old) (hand_of new))
-  pub more : IfOk result (λ answer. HoldsMore (IsAnswer answer) old new)
-  pub reserved : IfOk result (λ answer. (tag : ℕ) → IsAnswer answer tag → IsTagIn pool Reserved tag)
+  pub gets : IfOk result (λ found. hands.Gets pool Reserved found.answer (hand_of old) (hand_of new))
+  pub left : IfOk result (λ found. found.left ≡ left_free Reserved (hand_of old) (hand_of new))
+  pub more : IfOk result (λ found. HoldsMore (IsAnswer found.answer) old new)
+  pub reserved : IfOk result (λ found. (tag : ℕ) → IsAnswer found.answer tag → IsTagIn pool Reserved tag)
   pub kept : KeepsSame old new
   pub window : SameWindow old new
-  pub tally : IfOk result (λ answer. Tallies (answered answer) 0 old new)
+  pub tally : IfOk result (λ found. Tallies (answered found.answer) 0 old new)
 
 -- gets an ordinary tag within the shares of a shallow depth, and tells how many its sweeps left free
 pub record DoesGetShallow {R : Type 0} (depth : ℕ) (pool : Pool R) (result : Result (Found ℕ) TagFault)
@@ -113,19 +114,27 @@ pub record DoesWrite {R : Type 0} (tag : ℕ) (value : R) (pool : Pool R) (resul
   pub kept : KeepsSame old new
   pub window : SameWindow old new
 
--- posts a tag, and tells how many kept tags went back before
-pub record DoesPost {R : Type 0} (tag : ℕ) (pool : Pool R) (result : Result ℕ TagFault) (old new : Cache R) : Type 0
-  where
-    pub refusals : RefusesBy (tag_checks pool old tag) (IsUnchanged old new) result
-    pub less : OnOk result (HoldsLess (λ other. other ≡ tag) old new)
-    pub kept : ¬ (IsLast tag old) → KeepsSame old new
-    pub posts : ¬ (IsLast tag old) → OnOk result (hand_slots.Posts tag (hand_of old) (hand_of new))
-    pub last : IsLast tag old → OnOk result (KeepsNone new)
-    pub flushes : IsLast tag old → OnOk result (PostsLast pool tag old new)
-    pub freed : IfOk result (λ freed. GivesBack freed old new)
-    pub terms : SameTerms old new
-    pub knows : OnOk result (KnowsLess tag old new)
-    pub tally : Tallies 0 0 old new
+-- posts a tag with a note, and tells how many kept tags went back before
+pub record DoesPost {R : Type 0} (tag note : ℕ) (pool : Pool R) (result : Result ℕ TagFault) (old new : Cache R)
+    : Type 0 where
+  pub refusals : RefusesBy (tag_checks pool old tag) (IsUnchanged old new) result
+  pub less : OnOk result (HoldsLess (λ other. other ≡ tag) old new)
+  pub kept : ¬ (IsLast tag old) → KeepsSame old new
+  pub posts : ¬ (IsLast tag old) → OnOk result (hand_slots.Posts tag note (hand_of old) (hand_of new))
+  pub last : IsLast tag old → OnOk result (KeepsNone new)
+  pub flushes : IsLast tag old → OnOk result (PostsLast pool tag note old new)
+  pub freed : IfOk result (λ freed. GivesBack freed old new)
+  pub terms : SameTerms old new
+  pub knows : OnOk result (KnowsLess tag old new)
+  pub tally : Tallies 0 0 old new
+
+-- reads the note of a tag
+pub record DoesReadNote {R : Type 0} (tag : ℕ) (pool : Pool R) (result : Result (Option ℕ) TagFault) (old new : Cache R)
+    : Type 0 where
+  pub hand : hand_slots.DoesReadNote tag pool result (hand_of old) (hand_of new)
+  pub same : HoldsSame old new
+  pub kept : KeepsSame old new
+  pub window : SameWindow old new
 
 -- takes a posted tag; whether it is posted only the step can tell
 pub record DoesTake {R : Type 0} (tag : ℕ) (pool : Pool R) (result : Result ⊤ TagFault) (old new : Cache R) : Type 0 where

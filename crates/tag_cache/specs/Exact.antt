@@ -1,6 +1,6 @@
 -- The effect of a get of one given tag on the cache that makes it.
 use Rattle.std.specs.Prelude.{◌≡◌, ◌⊎◌}
-use Rattle.tag_cache.specs.Uses.{Found, Hand, IfOk, IfSome, IsAnswer, left_free, nobody, Option, Ordinary, Pool, RefusesBy, Result, Some, TagFault, told_by, Woken, ℕ}
+use Rattle.tag_cache.specs.Uses.{Found, Hand, IfOk, IfSome, IsAnswer, kind_of, left_free, nobody, Option, Pool, RefusesBy, reserved_of, Result, Some, TagFault, told_by, Woken, ℕ}
 use Rattle.tag_pool.specs.Exact as hands
 use Rattle.tag_pool.specs.Gets as hand_gets
 use Rattle.tag_cache.specs.declared.cache.Cache.{Cache}
@@ -29,16 +29,16 @@ pub record GetsBy {R : Type 0} (tag : ℕ) (Search : Hand R → Hand R → Type 
   pub only : IfSome answer (λ won. won ≡ tag)
   pub source : WasKept tag answer old new ⊎ AsksPool tag Search old new
 
--- gets this tag if it is free, which a kept one is, and tells how many ordinary tags its sweeps left free
+-- gets this tag if it is free, which a kept one is, and tells how many of its kind its sweeps left free
 pub record DoesGetExactly {R : Type 0} (tag : ℕ) (pool : Pool R) (result : Result (Found ℕ) TagFault)
     (old new : Cache R) : Type 0 where
   pub refusals : RefusesBy (exact_checks pool tag old) (IsUnchanged old new) result
   pub gets : IfOk result (λ found. GetsBy tag (hands.GetsExactly pool tag found.answer) found.answer old new)
-  pub left : IfOk result (λ found. found.left ≡ left_free Ordinary (hand_of old) (hand_of new))
+  pub left : IfOk result (λ found. found.left ≡ left_free (kind_of (reserved_of pool) tag) (hand_of old) (hand_of new))
   pub tally : IfOk result (λ found. Tallies (answered found.answer) 0 old new)
 
 -- a get that sees to what it left free, and wakes those whom this told: nobody, if the tag was kept
 pub record GetsAndLooks {R : Type 0} (tag : ℕ) (pool : Pool R) (answer : Option ℕ) (woken : Woken) (old new : Cache R)
     : Type 0 where
-  pub gets : GetsBy tag (hand_gets.GetsAndLooks (hands.GetsExactly pool tag answer) woken) answer old new
+  pub gets : GetsBy tag (hand_gets.GetsAndLooks (kind_of (reserved_of pool) tag) (hands.GetsExactly pool tag answer) woken) answer old new
   pub quiet : IsKept old tag → told_by woken ≡ nobody

@@ -33,7 +33,7 @@ Gets pool answer = GetsBy (hands.Gets pool Ordinary answer) pool answer
 
 -- a get that sees to what it left free, and wakes those whom this told: nobody, if the tag was kept
 pub record GetsAndLooks {R : Type 0} (pool : Pool R) (answer : Option ℕ) (woken : Woken) (old new : Cache R) : Type 0 where
-  pub gets : GetsBy (hands.GetsAndLooks (hands.Gets pool Ordinary answer) woken) pool answer old new
+  pub gets : GetsBy (hands.GetsAndLooks Ordinary (hands.Gets pool Ordinary answer) woken) pool answer old new
   pub quiet : ¬ (KeepsNone old) → told_by woken ≡ nobody
 
 -- the user is known to hold the tag returned, if there is one, and otherwise what it was known to hold

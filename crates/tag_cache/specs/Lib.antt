@@ -16,3 +16,4 @@ pub mod Clears
 pub mod Same
 pub mod Slots
 pub mod Batches
+pub mod Many

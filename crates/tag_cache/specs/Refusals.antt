@@ -2,6 +2,7 @@
 -- hand check.
 use Rattle.std.specs.Prelude.{◌<◌, ◌∷◌, ◌≤◌}
 use Rattle.tag_cache.specs.Uses.{[], All, BadCount, Checks, HasRoom, kind_of, List, NoSuchTag, NotHeld, Ordinary, Pool, reserved_of, Spent, TagFault, tags_in, total_of, ℕ}
+use Rattle.tag_pool.specs.Hands.{layout_of}
 use Rattle.tag_pool.specs.Lists.{AreOrdinary}
 use Rattle.tag_pool.specs.Runs.{CountsTags}
 use Rattle.tag_cache.specs.declared.cache.Cache.{Cache}
@@ -19,7 +20,7 @@ exact_checks pool tag cache = (tag < total_of pool, NoSuchTag)
 
 -- a get that waits if no tag is kept
 abbrev pub blocking_checks : {R : Type 0} → Pool R → Cache R → Checks TagFault
-blocking_checks pool cache = (KeepsNone cache → reserved_of pool < total_of pool, NoSuchTag)
+blocking_checks pool cache = (KeepsNone cache → 1 ≤ (layout_of pool Ordinary).depth, NoSuchTag)
     ∷ (KeepsNone cache → HasRoom (hand_of cache) Ordinary 1, Spent) ∷ []
 
 -- a call on a tag that the user has to hold

@@ -11,18 +11,18 @@ use Rattle.tag_cache.specs.Holding.{HoldsSame}
 use Rattle.tag_cache.specs.Sleeping.{SeesToAndWakes, WakesFor}
 use Rattle.tag_cache.specs.Tallies.{Tallies}
 
--- how many ordinary tags a clear of a tag of this kind may make free with those that are kept: nobody waits for a reserved
--- tag
+-- how many tags of its kind a clear may make free: an ordinary one with those that are kept
 abbrev pub freed_with : Kind → ℕ → ℕ
 freed_with Ordinary kept = kept + 1
-freed_with Reserved kept = 0
+freed_with Reserved kept = 1
 
 -- the tag was cleared, then the hand saw to what it had to see to, as many tags as it kept and this one, and woke those
 -- whom this told
 pub record ClearsAndWakes {R : Type 0} (pool : Pool R) (tag : ℕ) (woken : Woken) (old new : Cache R) : Type 0 where
   pub between : Cache R
   pub goes : Goes pool tag old between
-  pub wakes : WakesFor (freed_with (kind_of (reserved_of pool) tag) (count_of old)) pool woken between new
+  pub wakes : let kind = kind_of (reserved_of pool) tag in
+      WakesFor kind (freed_with kind (count_of old)) pool woken between new
 
 -- the tags of the list were cleared, then the hand saw to what it had to see to, as many tags as it kept and these, and
 -- woke those whom this told
@@ -30,20 +30,20 @@ pub record ClearsListAndWakes {R : Type 0} (pool : Pool R) (list : List ℕ) (wo
   where
     pub between : Cache R
     pub goes : ListGoes pool list old between
-    pub wakes : SeesToAndWakes (count_of old + length list) pool woken between new
+    pub wakes : SeesToAndWakes Ordinary (count_of old + length list) pool woken between new
 
--- the tag was posted, then the hand saw to the kept tags that went back before, and woke those whom this told
-pub record PostsAndWakes {R : Type 0} (pool : Pool R) (tag : ℕ) (woken : Woken) (old new : Cache R) : Type 0 where
+-- the tag was posted with the note, then the hand saw to the kept tags that went back before, and woke those whom this told
+pub record PostsAndWakes {R : Type 0} (pool : Pool R) (tag note : ℕ) (woken : Woken) (old new : Cache R) : Type 0 where
   pub between : Cache R
   pub freed : ℕ
-  pub posts : DoesPost tag pool (Ok freed) old between
-  pub wakes : WakesFor freed pool woken between new
+  pub posts : DoesPost tag note pool (Ok freed) old between
+  pub wakes : WakesFor Ordinary freed pool woken between new
 
 -- all kept tags went back, then the hand saw to them, and woke those whom this told; the user holds the same tags
 pub record FlushesAndWakes {R : Type 0} (pool : Pool R) (woken : Woken) (old new : Cache R) : Type 0 where
   pub between : Cache R
   pub flushes : DoesFlush pool (count_of old) old between
-  pub wakes : WakesFor (count_of old) pool woken between new
+  pub wakes : WakesFor Ordinary (count_of old) pool woken between new
   pub same : HoldsSame old new
   pub none : KeepsNone new
   pub tally : Tallies 0 0 old new

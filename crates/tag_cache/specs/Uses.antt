@@ -2,11 +2,12 @@
 pub use Rattle.std.specs.Prelude.{[], All, AllPairs, Bool, Contains, count_ones, Err, false, IfErr, IfNone, IfOk, IfSome, IsOkAnd, IsTrue, length, List, max, None, Ok, OnErr, OnOk, Option, Result, Some, true, ℕ, ⊤}
 pub use mathlib.Core.Option.{some}
 pub use Rattle.refusals.specs.Refusals.{Checks, RefusesBy}
-pub use Rattle.tag_core.specs.declared.bell.TheConstants.{LISTS}
+pub use Rattle.tag_core.specs.declared.berth.Waiter.{Waiter}
 pub use Rattle.tag_bell.specs.Calls.{nobody, OwesNoMore}
 pub use Rattle.tag_bell.specs.Sleeping.{told_by}
 pub use Rattle.tag_bell.specs.declared.sleeping.Woken.{Woken}
 pub use Rattle.tag_bell.specs.declared.told.Told.{Told}
+pub use Rattle.tag_bell.specs.declared.waiting.Turn.{Turn}
 pub use Rattle.tag_search.specs.declared.found.Found.{Found}
 pub use Rattle.tag_pool.specs.Gets.{IsAnswer, IsInRun, IsTagIn, left_free, LooksAfter}
 pub use Rattle.tag_pool.specs.Hands.{back_of, caller_of, Changes, HasRoom, hint_of, reserved_of, split_of, total_of}

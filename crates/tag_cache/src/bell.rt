@@ -1,7 +1,6 @@
-//! Waits for an ordinary tag by the bell: a hand lists itself, learns that it was told, and gets up; and whoever makes
-//! ordinary tags free, or keeps them, sees to them.
-ghost use Rattle.std.specs.Prelude.{◌≡◌, ◌<◌};
-ghost use Rattle.tag_core.specs.declared.bell.TheConstants.{LISTS};
+//! Waits for a tag of a set by the bell: a hand lists itself, learns that it was told, and gets up; and whoever makes tags
+//! free, or keeps ordinary ones, sees to them.
+ghost use Rattle.std.specs.Prelude.{◌≡◌};
 ghost use Rattle.tag_pool.specs.Bell as bell;
 ghost use Rattle.tag_pool.specs.Hands.{layout_of, Changes};
 ghost use Rattle.tag_pool.specs.Sides as side;
@@ -15,52 +14,63 @@ ghost use Rattle.tag_cache.specs.Same.{SameTags};
 ghost use Rattle.tag_cache.specs.Tallies.{Tallies};
 
 use crate::cache::Cache;
-use tag_pool::{Pool, Told, Turn};
+use tag_pool::{Kind, Pool, Told, Turn, Waiter};
 
 impl<R: Copy> Cache<R> {
     /// Lists the hand among those that wait, as `Pool::list_self` does. A get that finds no tag keeps none either.
-    pub fn list_self(&mut self, pool: &Pool<R>, list: u32, turn: Turn)
-        requires cache { IsCacheOf pool.now self.old }
-        requires within { list < LISTS }
+    pub fn list_self(&mut self, pool: &Pool<R>, kind: Kind, waiter: Waiter, turn: Turn)
+        requires { IsCacheOf pool.now self.old }
         ensures cache { IsCacheOf pool.now self.new }
-        ensures lists { Changes Ordinary (bell.ListsSelf list) (hand_of self.old) (hand_of self.new) }
+        ensures lists { Changes kind (bell.ListsSelf waiter turn) (hand_of self.old) (hand_of self.new) }
         ensures same { SameTags self.old self.new }
     {
-        pool.list_self(&mut self.hand, list, turn);
+        pool.list_self(&mut self.hand, kind, waiter, turn);
     }
 
-    /// Ends the hand's wait, and returns whether somebody had told it, or it did not wait there, as `Pool::get_up` does.
-    pub fn get_up(&mut self, pool: &Pool<R>, list: u32) -> bool
-        requires cache { IsCacheOf pool.now self.old }
-        requires within { list < LISTS }
+    /// Ends the hand's wait, and returns whether somebody had told it, as `Pool::get_up` does.
+    pub fn get_up(&mut self, pool: &Pool<R>, kind: Kind) -> bool
+        requires { IsCacheOf pool.now self.old }
         ensures cache { IsCacheOf pool.now self.new }
-        ensures gets_up { Changes Ordinary (bell.GetsUp list result) (hand_of self.old) (hand_of self.new) }
+        ensures gets_up { Changes kind (bell.GetsUp result) (hand_of self.old) (hand_of self.new) }
         ensures same { SameTags self.old self.new }
     {
-        pool.get_up(&mut self.hand, list)
+        pool.get_up(&mut self.hand, kind)
     }
 
     /// Looks whether the hand was told, as `Pool::is_told` does.
-    pub fn is_told(&mut self, pool: &Pool<R>, list: u32) -> bool
-        requires cache { IsCacheOf pool.now self.old }
-        requires within { list < LISTS }
-        ensures cache { IsCacheOf pool.now self.new }
-        ensures looks { Changes Ordinary (bell.LooksIfTold list result) (hand_of self.old) (hand_of self.new) }
-        ensures same { SameTags self.old self.new }
-    {
-        pool.is_told(&mut self.hand, list)
-    }
-
-    /// Sees to all that the hand has to see to, after its user gave `freed` ordinary tags back, which became free or are
-    /// kept. Where somebody waits, it gives all kept tags back, and tells up to as many hands of each list as became free,
-    /// and one at least. Returns those told, who are to be woken. Where nobody waits it makes two loads.
-    #[inline]
-    pub fn see_to(&mut self, pool: &Pool<R>, freed: u32) -> Told
+    pub fn is_told(&mut self, pool: &Pool<R>, kind: Kind) -> bool
         requires { IsCacheOf pool.now self.old }
         ensures cache { IsCacheOf pool.now self.new }
-        ensures does { SeesTo freed pool.now result self.old self.new }
+        ensures looks { Changes kind (bell.LooksIfTold result) (hand_of self.old) (hand_of self.new) }
+        ensures same { SameTags self.old self.new }
     {
-        if !pool.finds_waiters(&mut self.hand) {
+        pool.is_told(&mut self.hand, kind)
+    }
+
+    /// Sees to all that the hand has to see to, after its user gave `freed` tags of this kind back, which became free or are
+    /// kept. Where somebody waits for an ordinary tag, it gives all kept tags back, and tells others as `Pool::see_to` does,
+    /// of as many tags as became free; for a reserved tag it tells them at once, and keeps what it keeps. Returns those
+    /// told, who are to be woken (`Pool::wake_told`). Where nobody waits it makes one load.
+    #[inline]
+    pub fn see_to(&mut self, pool: &Pool<R>, kind: Kind, freed: u32) -> Told
+        requires { IsCacheOf pool.now self.old }
+        ensures cache { IsCacheOf pool.now self.new }
+        ensures does { SeesTo kind freed pool.now result self.old self.new }
+    {
+        match kind {
+            Kind::Ordinary => self.see_with_kept(pool, freed),
+            Kind::Reserved => pool.see_to(&mut self.hand, Kind::Reserved, freed),
+        }
+    }
+
+    /// Sees to ordinary tags, the kept ones among them.
+    #[inline]
+    fn see_with_kept(&mut self, pool: &Pool<R>, freed: u32) -> Told
+        requires { IsCacheOf pool.now self.old }
+        ensures cache { IsCacheOf pool.now self.new }
+        ensures does { SeesTo Ordinary freed pool.now result self.old self.new }
+    {
+        if !pool.finds_waiters(&mut self.hand, Kind::Ordinary) {
             return Told::none();
         }
         self.give_back_and_tell(pool, freed)
@@ -80,18 +90,18 @@ impl<R: Copy> Cache<R> {
         ensures window { SameWindow self.old self.new }
     {
         let kept = self.flush_quietly(pool);
-        pool.see_to(&mut self.hand, freed.max(kept))
+        pool.see_to(&mut self.hand, Kind::Ordinary, freed.max(kept))
     }
 
     /// Sees to all that the hand has to see to, after it was told and got up, and won another tag or gave up, as
     /// `Pool::see_to_all` does. Returns those told, who are to be woken.
-    pub fn see_to_all(&mut self, pool: &Pool<R>) -> Told
+    pub fn see_to_all(&mut self, pool: &Pool<R>, kind: Kind) -> Told
         requires { IsCacheOf pool.now self.old }
         ensures cache { IsCacheOf pool.now self.new }
-        ensures sees_to { Changes Ordinary (side.SeesTo 1 (see_to_all_steps (layout_of pool.now Ordinary)) result)
+        ensures sees_to { Changes kind (side.SeesTo 1 (see_to_all_steps (layout_of pool.now kind)) result)
             (hand_of self.old) (hand_of self.new) }
         ensures same { SameTags self.old self.new }
     {
-        pool.see_to_all(&mut self.hand)
+        pool.see_to_all(&mut self.hand, kind)
     }
 }

@@ -8,7 +8,8 @@ ghost use Rattle.tag_cache.specs.Caches.{IsCacheOf, KeepsNone, hand_of};
 ghost use Rattle.tag_cache.specs.Changes.{IsUnchanged, KeepsSame};
 ghost use Rattle.tag_cache.specs.Gets.{LearnsAnswer};
 ghost use Rattle.refusals.specs.Refusals.{RefusesBy};
-ghost use Rattle.tag_cache.specs.Calls.{DoesGet, DoesGetShallow, DoesGetBatch};
+ghost use Rattle.tag_cache.specs.Calls.{DoesGet, DoesGetReserved, DoesGetShallow, DoesGetBatch};
+ghost use Rattle.tag_cache.specs.Many.{DoesGetMany};
 
 use crate::cache::Cache;
 use tag_pool::{Found, Pool, TagFault};
@@ -66,6 +67,16 @@ impl<R: Copy> Cache<R> {
         })
     }
 
+    /// Like `get_reserved`, but tells nobody (see `get_quietly`): `left` counts reserved tags. It is refused as `get_reserved`
+    /// is: `NoReserved`, `Spent`.
+    pub fn get_reserved_quietly(&mut self, pool: &Pool<R>) -> Result<Found<u32>, TagFault>
+        requires { IsCacheOf pool.now self.old }
+        ensures cache { IsCacheOf pool.now self.new }
+        ensures does { DoesGetReserved pool.now result self.old self.new }
+    {
+        pool.get_reserved_quietly(&mut self.hand)
+    }
+
     /// Like `get_shallow`, but tells nobody (see `get_quietly`). It is refused as `get_shallow` is: `TooShallow`, `Spent`.
     pub fn get_shallow_quietly(
         &mut self,
@@ -90,5 +101,20 @@ impl<R: Copy> Cache<R> {
         ensures does { DoesGetBatch n pool.now result self.old self.new }
     {
         pool.get_batch_quietly(&mut self.hand, n)
+    }
+
+    /// Like `get_many`, but tells nobody: after its answer it returns the sum of how many ordinary tags each of its gets left
+    /// free, and of those that it gave back. The caller sees to so many (`see_to`, `wake`). It is refused as `get_many` is:
+    /// `BadCount`, `Spent`.
+    pub fn get_many_quietly(
+        &mut self,
+        pool: &Pool<R>,
+        tags: &mut [u32],
+    ) -> Result<(bool, u64), TagFault>
+        requires { IsCacheOf pool.now self.old }
+        ensures cache { IsCacheOf pool.now self.new }
+        ensures does { DoesGetMany pool.now tags.old tags.new result self.old self.new }
+    {
+        pool.get_many_quietly(&mut self.hand, tags)
     }
 }

@@ -1,56 +1,100 @@
-//! A wait for an ordinary tag by the bell, round by round, as `Pool::wait_on` makes them. A kept tag ends the wait at once, and
-//! a cache whose hand may sleep keeps nothing.
-ghost use Rattle.std.specs.Prelude.{◌≡◌, ◌↔◌, ◌<◌, IsTrue};
-ghost use Rattle.tag_core.specs.declared.bell.TheConstants.{LISTS};
+//! A wait for a tag of a set by the bell, round by round, as `Pool::wait_on` makes them. A kept tag ends a wait for an
+//! ordinary one at once, and a cache whose hand may sleep for one keeps nothing; a wait for a reserved tag goes past the
+//! kept tags.
+ghost use Rattle.std.specs.Prelude.{◌≡◌, ◌↔◌, IsTrue};
 ghost use Rattle.tag_pool.specs.Waits.{CanWait};
 ghost use Rattle.tag_pool.specs.declared.gets.rounds.Next.TheVariants.{Over};
+ghost use Rattle.tag_pool.specs.declared.kind.Kind.TheVariants.{Ordinary, Reserved};
 ghost use Rattle.tag_cache.specs.Caches.{IsCacheOf, KeepsNone, hand_of};
-ghost use Rattle.tag_cache.specs.Waits.{EndsWait, Goes, Tries};
+ghost use Rattle.tag_cache.specs.Waits.{EndsWait, Goes, GoesOrdinary, GoesPast, Tries};
 
 use crate::cache::Cache;
-use tag_pool::{Next, Pool, Told, Turn};
+use tag_pool::{Kind, Next, Pool, Told, Turn, Waiter};
 
 impl<R> Cache<R> {
-    /// Returns whether the hand can wait, as `Hand::can_wait` does. This makes no step.
-    pub fn can_wait(&self) -> bool
-        ensures { IsTrue result ↔ CanWait (hand_of self.now) }
+    /// Returns whether the hand can wait for a tag of this kind, as `Hand::can_wait` does. This makes no step.
+    pub fn can_wait(&self, kind: Kind) -> bool
+        ensures { IsTrue result ↔ CanWait kind (hand_of self.now) }
     {
-        self.hand.can_wait()
+        self.hand.can_wait(kind)
     }
 }
 
 impl<R: Copy> Cache<R> {
-    /// One round of a wait in a list: hands the least kept tag out, or has the hand list itself and try each tag; or ends
-    /// the wait. If it answers `Sleep`, nothing is kept, and the hand may sleep, and can wait again. Otherwise it waits no
-    /// more and has nothing to see to, and those told are to be woken.
-    pub fn wait_on(&mut self, pool: &Pool<R>, list: u32, is_over: bool, turn: Turn) -> (Next, Told)
+    /// One round of a wait for a tag of this kind, as this waiter. For an ordinary one it hands the least kept tag out, or
+    /// has the hand list itself and try each tag; for a reserved one it always has the hand do so; or it ends the wait. If
+    /// it answers `Sleep`, the hand may sleep, and can wait again, and no tag of this kind is kept. Otherwise it waits no
+    /// more and has nothing to see to, and those told are to be woken (`Pool::wake_told`).
+    pub fn wait_on(
+        &mut self,
+        pool: &Pool<R>,
+        kind: Kind,
+        waiter: Waiter,
+        is_over: bool,
+        turn: Turn,
+    ) -> (Next, Told)
         requires cache { IsCacheOf pool.now self.old }
-        requires within { list < LISTS }
-        requires can { CanWait (hand_of self.old) }
+        requires can { CanWait kind (hand_of self.old) }
         ensures cache { IsCacheOf pool.now self.new }
         ensures over { result.0 ≡ Over ↔ IsTrue is_over }
-        ensures goes { Goes pool.now list result.0 result.1 self.old self.new }
+        ensures goes { Goes pool.now kind waiter turn result.0 result.1 self.old self.new }
     {
-        if is_over {
-            return (Next::Over, self.end_wait(pool, list));
+        match kind {
+            Kind::Ordinary => self.wait_with_kept(pool, waiter, is_over, turn),
+            Kind::Reserved => self.wait_past_kept(pool, waiter, is_over, turn),
         }
-        if self.keeps_none() {
-            return self.try_listed(pool, list, turn);
-        }
-        let tag = self.reuse();
-        (Next::Won(tag), self.end_wait(pool, list))
     }
 
-    /// Has the hand make a round that is not the end of its wait.
-    fn try_listed(&mut self, pool: &Pool<R>, list: u32, turn: Turn) -> (Next, Told)
+    /// One round of a wait for an ordinary tag.
+    fn wait_with_kept(
+        &mut self,
+        pool: &Pool<R>,
+        waiter: Waiter,
+        is_over: bool,
+        turn: Turn,
+    ) -> (Next, Told)
         requires cache { IsCacheOf pool.now self.old }
-        requires within { list < LISTS }
-        requires can { CanWait (hand_of self.old) }
+        requires can { CanWait Ordinary (hand_of self.old) }
+        ensures cache { IsCacheOf pool.now self.new }
+        ensures over { result.0 ≡ Over ↔ IsTrue is_over }
+        ensures goes { GoesOrdinary pool.now waiter turn result.0 result.1 self.old self.new }
+    {
+        if is_over {
+            return (Next::Over, self.end_wait(pool, Kind::Ordinary));
+        }
+        if self.keeps_none() {
+            return self.try_listed(pool, waiter, turn);
+        }
+        let tag = self.reuse();
+        (Next::Won(tag), self.end_wait(pool, Kind::Ordinary))
+    }
+
+    /// One round of a wait for a reserved tag.
+    fn wait_past_kept(
+        &mut self,
+        pool: &Pool<R>,
+        waiter: Waiter,
+        is_over: bool,
+        turn: Turn,
+    ) -> (Next, Told)
+        requires cache { IsCacheOf pool.now self.old }
+        requires can { CanWait Reserved (hand_of self.old) }
+        ensures cache { IsCacheOf pool.now self.new }
+        ensures over { result.0 ≡ Over ↔ IsTrue is_over }
+        ensures goes { GoesPast pool.now waiter turn result.0 result.1 self.old self.new }
+    {
+        pool.wait_on(&mut self.hand, Kind::Reserved, waiter, is_over, turn)
+    }
+
+    /// Has the hand make a round for an ordinary tag that is not the end of its wait.
+    fn try_listed(&mut self, pool: &Pool<R>, waiter: Waiter, turn: Turn) -> (Next, Told)
+        requires cache { IsCacheOf pool.now self.old }
+        requires can { CanWait Ordinary (hand_of self.old) }
         requires none { KeepsNone self.old }
         ensures cache { IsCacheOf pool.now self.new }
-        ensures tries { Tries pool.now list result.0 result.1 self.old self.new }
+        ensures tries { Tries pool.now waiter turn result.0 result.1 self.old self.new }
     {
-        let (next, told) = pool.wait_on(&mut self.hand, list, false, turn);
+        let (next, told) = pool.wait_on(&mut self.hand, Kind::Ordinary, waiter, false, turn);
         let Next::Won(tag) = next else {
             return (next, told);
         };
@@ -58,14 +102,13 @@ impl<R: Copy> Cache<R> {
         (Next::Won(tag), told)
     }
 
-    /// Ends a wait: the hand gets up, and then sees to all tags. Returns those told, who are to be woken.
-    pub fn end_wait(&mut self, pool: &Pool<R>, list: u32) -> Told
+    /// Ends a wait: the hand gets up, and then sees to all tags of this kind. Returns those told, who are to be woken.
+    pub fn end_wait(&mut self, pool: &Pool<R>, kind: Kind) -> Told
         requires cache { IsCacheOf pool.now self.old }
-        requires within { list < LISTS }
         ensures cache { IsCacheOf pool.now self.new }
-        ensures ends { EndsWait pool.now list result self.old self.new }
+        ensures ends { EndsWait pool.now kind result self.old self.new }
     {
-        pool.get_up(&mut self.hand, list);
-        pool.see_to_all(&mut self.hand)
+        pool.get_up(&mut self.hand, kind);
+        pool.see_to_all(&mut self.hand, kind)
     }
 }

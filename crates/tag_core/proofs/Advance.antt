@@ -1,7 +1,7 @@
 -- One step of one caller keeps the rule, where the cells, the tags and the slots are shown to follow.
 use Rattle.std.specs.Prelude.{◌+◌, ◌<◌, ◌∷◌, ◌≡◌, ◌≢◌}
 use Rattle.tag_core.proofs.Uses.{ap, at_set, back_by, bit_at, cells_after, cells_of, each_same, event_of, FindsIn, FindsPost, first_only, get_elem?, get_or, HasCells, held_after, History, IsBy, IsKnown, IsWithin, last_post, Layout, List, MayHappen, own_view, place_of, posted, Record}
-use Rattle.tag_core.proofs.Uses.{record_after, refl, set, Shape, Shown, SlotIs, some, State, Step, subst, swept_after, sym, tag_bit, View, won_by, word_of, words, world_of, ℕ, ⊎_elim, ◌∙◌}
+use Rattle.tag_core.proofs.Uses.{record_after, refl, set, Shape, Shown, SlotIs, some, State, Step, steps_by, subst, swept_after, sym, tag_bit, View, won_by, word_of, words, world_of, ℕ, ⊎_elim, ◌∙◌}
 use mathlib.Core.Option as maybe
 use Rattle.tag_core.proofs.Picks.{placed}
 use Rattle.tag_core.proofs.Turns.{Shows}
@@ -15,7 +15,7 @@ module _ (R : Type 0) (k : Shape) where
   -- what is owed of one step of the caller of r
   pub record Owed (s : TableState) (sh : Shown k s) (r : Record R) (st : Step R) (words' : List ℕ) : Type 0 where
     pub finds : FindsIn st (cells_of sh.history)
-    pub own : IsBy r.number st
+    pub own : IsBy r.number st (steps_by r.number sh.history)
     pub value : FindsPost st sh.history
     pub needs : MayHappen k.layout k.callers (world_of k sh.history) (event_of k.layout r.number st)
     pub cells : HasCells k words' (cells_after st (cells_of sh.history))

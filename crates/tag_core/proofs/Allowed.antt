@@ -1,19 +1,17 @@
 -- Each kind of step is allowed by the rule.
 use Rattle.std.specs.Prelude.{◌%◌, ◌+◌, ◌-◌, ◌<◌, ◌^◌, ◌∷◌, ◌≡◌, ◌≤◌, ◌⊎◌}
-use Rattle.tag_core.proofs.Uses.{Act, Allows, ap, arith, Bell, BellStep, bit_and, bit_at, bit_of, bit_or, carried_after, Carries, Claimed, claimed, count_ones, Enlist, enlisted, event_of, FindsHeld, gave, get_elem?, get_or, GetUp, Give, got_up, held, homes_after, inl, IsKnown, IsWithin, last_post}
-use Rattle.tag_core.proofs.Uses.{Layout, length, List, LISTS, Look, LookAside, looked, looked_aside, Me, MOST_WON, none, or_lt, own_view, Place, place_after, place_of, posted, posted_by, Put, put_aside, Record, record_after, refl, same_record, set, set-get_or, Shape, Shown, Sight, sighted, some}
-use Rattle.tag_core.proofs.Uses.{Spill, spilled, State, Step, step, Stepped, subst, Swap, swapped, sym, tag_bit, Tell, Valid, value_of, View, without, Word, word_depth, word_of, word_of-below, words, world_of, ℕ, ◌∙◌}
+use Rattle.tag_core.proofs.Uses.{Act, Allows, ap, arith, Bell, BellStep, bit_at, bit_or, carried_after, Carries, Claimed, claimed, count_ones, event_of, FindsHeld, gave, get_elem?, get_or, Give, held, homes_after, inl, IsKnown, IsWithin, last_post}
+use Rattle.tag_core.proofs.Uses.{Layout, length, List, Look, LookAside, looked, looked_aside, Me, MOST_WON, none, or_lt, own_view, Place, place_after, place_of, posted, posted_by, Put, put_aside, Record, record_after, refl, same_record, set, set-get_or, Shape, Shown, some}
+use Rattle.tag_core.proofs.Uses.{Spill, spilled, State, Step, step, Stepped, subst, Swap, swapped, sym, tag_bit, Valid, value_of, View, Word, word_depth, word_of, word_of-below, words, world_of, ℕ, ◌∙◌}
 use mathlib.Core.Option as maybe
 use Rattle.tag_core.specs.declared.word_step.WordStep.{WordStep}
-use Rattle.tag_core.specs.Spacing.{list_at, word_at, aside_at}
-use Rattle.tag_core.specs.Plays as plays
+use Rattle.tag_core.specs.Spacing.{word_at, aside_at}
 use Rattle.tag_core.proofs.Picks.{among, placed}
 use Rattle.tag_core.proofs.TagBits.{small_word, among_here}
 use Rattle.tag_core.proofs.Owing.{claim_owed, give_owed, look_owed, look_aside_owed, held_shown}
 use Rattle.tag_core.proofs.OwingTags.{put_owed, swap_owed, swept_taken, spill_owed}
 use Rattle.tag_core.proofs.Masks.{add_bit, take_bits}
-use Rattle.tag_core.proofs.Listing.{enlist_owed, sight_owed, tell_owed, get_up_owed}
-use Rattle.tag_core.proofs.Stand.{list_at_one, bit_tag, word_at_one, aside_at_one, tag_mask_within}
+use Rattle.tag_core.proofs.Stand.{bit_tag, word_at_one, aside_at_one, tag_mask_within}
 use Rattle.tag_core.proofs.Advance.{Owed}
 use Rattle.tag_core.proofs.Moving.{moved, kept, told}
 
@@ -26,8 +24,8 @@ PostsNone {R} l c st = (t : ℕ) → ((q : Place) → place_after l (event_of l 
 pub word_posts_none : {R : Type 0} (l : Layout) (c : ℕ) (st : WordStep) → PostsNone {R = R} l c (Word st)
 word_posts_none l c st t = ((λ q e. grind arith), λ before. refl)
 
--- nor does one on a list
-bell_posts_none : {R : Type 0} (l : Layout) (c : ℕ) (st : BellStep) → PostsNone {R = R} l c (Bell st)
+-- nor does one by which callers wait
+pub bell_posts_none : {R : Type 0} (l : Layout) (c : ℕ) (st : BellStep) → PostsNone {R = R} l c (Bell st)
 bell_posts_none l c st t = ((λ q e. grind arith), λ before. refl)
 
 module _ (R : Type 0) (k : Shape) (narrow : k.layout.shift ≤ 6) (id : ℕ) (me : Me R (View R)) (r : Record R)
@@ -90,7 +88,7 @@ module _ (R : Type 0) (k : Shape) (narrow : k.layout.shift ≤ 6) (id : ℕ) (me
       )
 
   -- a step on the word that `at` gives for i is allowed where this is owed, and tells what follows from it
-  allowed_of : (at : ℕ → ℕ) → ((i j : ℕ) → at i ≡ at j → i ≡ j) → (i : ℕ) (f : ℕ → ℕ) (st : ℕ → Record R → ℕ → Step R)
+  pub allowed_of : (at : ℕ → ℕ) → ((i j : ℕ) → at i ≡ at j → i ≡ j) → (i : ℕ) (f : ℕ → ℕ) (st : ℕ → Record R → ℕ → Step R)
       (tells : ℕ → Record R → ℕ → Me R (View R) → Type 0) → ((n : ℕ) → PostsNone k.layout r.number (st i r n))
       → ((s : State R (View R)) (sh : Shown k s) → IsKnown k sh.history r
       → Owed R k s sh r (st i r (get_or s.words (at i) 0)) (set s.words (at i) (f (get_or s.words (at i) 0)))
@@ -120,50 +118,6 @@ module _ (R : Type 0) (k : Shape) (narrow : k.layout.shift ≤ 6) (id : ℕ) (me
       (λ n me'. (i' : ℕ) (r' : Record R) → at i ≡ at i' → me.0 ≡ own_view r' → tells i' r' n me')
   allowed at one i f st tells = allowed_of at one i f (λ i r n. Word (st i r n)) tells
       (λ n. word_posts_none k.layout r.number (st i r n))
-
-  -- a step on a list is allowed where it is owed, and tells that it was made
-  listing : (i : ℕ) (f : ℕ → ℕ) (st : ℕ → Record R → ℕ → BellStep)
-      → ((s : State R (View R)) (sh : Shown k s) → IsKnown k sh.history r
-      → Owed R k s sh r (Bell (st i r (get_or s.words (list_at i) 0)))
-      (set s.words (list_at i) (f (get_or s.words (list_at i) 0))))
-      → Allows (Shown k) k.layout.depth id me (list_at i) f
-      (λ n me'. (i' : ℕ) (r' : Record R) → list_at i ≡ list_at i' → me.0 ≡ own_view r'
-      → Stepped (Bell (st i' r' n)) r' me me')
-  listing i f st owes = allowed_of list_at list_at_one i f (λ i r n. Bell (st i r n))
-      (λ i r n me'. Stepped (Bell (st i r n)) r me me') (λ n. bell_posts_none k.layout r.number (st i r n))
-      (λ s sh o. (owes s sh o, λ me' did. did))
-
-  -- the table allows an or of a list and the caller's bit
-  pub enlist_allowed : (i : ℕ) → i < LISTS
-      → Allows (Shown k) k.layout.depth id me (list_at i) (λ n. bit_or n (bit_of r.number))
-      (enlisted (step k.layout.depth (list_at i) (bit_of r.number) 0 none) me)
-  enlist_allowed i inside = listing i (λ n. bit_or n (bit_of r.number)) (λ i r n. Enlist i r.number n)
-      (λ s sh o. enlist_owed R k narrow s sh r o i inside)
-
-  -- a load of a list
-  pub sight_allowed : (i : ℕ) → i < LISTS
-      → Allows (Shown k) k.layout.depth id me (list_at i) (λ n. n)
-      (sighted (step k.layout.depth (list_at i) 0 0 none) me)
-  sight_allowed i inside = listing i (λ n. n) (λ i r n. Sight i n) (λ s sh o. sight_owed R k narrow s sh r o i inside)
-
-  -- an and of a list and the complement of a mask
-  pub tell_allowed : (i kept : ℕ) → i < LISTS → kept < 2 ^ 64
-      → Allows (Shown k) k.layout.depth id me (list_at i) (λ n. bit_and n kept)
-      (plays.told (step k.layout.depth (list_at i) kept 0 none) me)
-  tell_allowed i kept inside fits = listing i (λ n. bit_and n kept) (λ i r n. Tell i (2 ^ 64 - 1 - kept) n)
-      (λ s sh o. subst (λ (x : ℕ). Owed R k s sh r (Bell (Tell i (2 ^ 64 - 1 - kept) (get_or s.words (list_at i) 0)))
-      (set s.words (list_at i) (bit_and (get_or s.words (list_at i) 0) x))) (twice kept fits)
-      (tell_owed R k narrow s sh r o i inside (2 ^ 64 - 1 - kept)))
-    where
-      twice : (m : ℕ) → m < 2 ^ 64 → 2 ^ 64 - 1 - (2 ^ 64 - 1 - m) ≡ m
-      twice m fits = omega arith
-
-  -- an and of a list and the complement of the caller's bit
-  pub get_up_allowed : (i : ℕ) → i < LISTS
-      → Allows (Shown k) k.layout.depth id me (list_at i) (λ n. bit_and n (2 ^ 64 - 1 - bit_of r.number))
-      (got_up (step k.layout.depth (list_at i) (2 ^ 64 - 1 - bit_of r.number) 0 none) me)
-  get_up_allowed i inside = listing i (λ n. without n (bit_of r.number)) (λ i r n. GetUp i r.number n)
-      (λ s sh o. get_up_owed R k narrow s sh r o i inside)
 
   -- a load of a word
   pub look_allowed : (i : ℕ) → i < words k.layout

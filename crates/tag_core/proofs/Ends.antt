@@ -1,7 +1,7 @@
 -- What the last state tells where one seat has the records of all callers.
 use Rattle.std.specs.Prelude.{◌<◌, ◌∷◌, ◌≡◌, ◌≢◌, ◌≤◌, ◌⊎◌}
-use Rattle.tag_core.proofs.Uses.{[], after_history, ap, arith, aside, back_in, Balances, balances-history, caller_of, count_ones, dec_lt, dite, eq-eqb, Event, events_of, free, get_elem?, get_or, got_in, held, held_bit, held_in, is_held, is_in_mask, is_posted, IsHistory, IsWithin, length, List}
-use Rattle.tag_core.proofs.Uses.{nat_eq, ne_eqb, number_in, number_once, one_if, one_if-le, opening_world, Place, place_after, posted, posted_bit, posted_in, Record, refl, Shape, Shown, size_of, some, State, suc, sum_below, sum_below-first, sum_below-le, sum_below-none, sum_below-only}
+use Rattle.tag_core.proofs.Uses.{[], after_history, ap, arith, aside, back_in, Balances, balances-history, caller_of, cells_of, count_ones, dec_lt, dite, eq-eqb, Event, events_of, free, get_elem?, get_or, got_in, held, held_bit, held_in, is_held, is_in_mask, is_posted, IsHistory, IsWithin, length, List}
+use Rattle.tag_core.proofs.Uses.{nat_eq, ne_eqb, number_in, number_once, one_if, one_if-le, opening_world, Place, place_after, posted, posted_bit, posted_by_word, posted_in, Record, refl, Shape, Shown, size_of, some, State, state_word, suc, sum_below, sum_below-first, sum_below-le, sum_below-none, sum_below-only}
 use Rattle.tag_core.proofs.Uses.{sum_below-same, sum_below-swap, sweep, sym, tag_bit, total_of, total_of_all, View, word_of, word_of-below, words, World, world_of, zero, ℕ, ⊎_elim, ◌∙◌}
 use Rattle.tag_model.proofs.MaskFacts.{sum_below-mask}
 use Rattle.tag_core.specs.Spacing.{state_at}
@@ -123,17 +123,17 @@ module _ (k : Shape) where
           (λ d e. known (events_of k.layout sh.history) (opening_world k) (λ t' d' e'. absurd cc)
           sh.lawful.happens t d e))
 
-    zero_or_one : (q : Place) → one_if (nat_eq (posted_bit q) 1) ≡ one_if (is_posted q)
-    zero_or_one q = grind arith
+    zero_or_one : (q : Place) (note : ℕ) → posted_by_word (state_word (posted_bit q) note) ≡ one_if (is_posted q)
+    zero_or_one q note = grind arith
 
-    -- the states that are 1
-    pub posted_all : sum_below
-        (λ t. one_if (nat_eq (get_or s.words (state_at k.layout t) 0) 1)) k.layout.depth
+    -- the states that are not 0
+    pub posted_all : sum_below (λ t. posted_by_word (get_or s.words (state_at k.layout t) 0)) k.layout.depth
         ≡ posted_in k.layout (world_of k sh.history)
-    posted_all = sum_below-same (λ t. one_if (nat_eq (get_or s.words (state_at k.layout t) 0) 1))
+    posted_all = sum_below-same (λ t. posted_by_word (get_or s.words (state_at k.layout t) 0))
         (λ t. one_if (is_posted ((world_of k sh.history).place t))) k.layout.depth
-        (λ t l. ap (λ (z : ℕ). one_if (nat_eq z 1)) (sh.cells.state t l ∙ sym (sh.tags t l).posted)
-        ∙ zero_or_one ((world_of k sh.history).place t))
+        (λ t l. (λ j. posted_by_word ((sh.cells.state t l
+        ∙ ap (λ (z : ℕ). state_word z ((cells_of sh.history).note t)) (sym (sh.tags t l).posted)) j))
+        ∙ zero_or_one ((world_of k sh.history).place t) _)
 
     -- the world is in balance
     pub even_all : Balances k.layout k.callers (world_of k sh.history)

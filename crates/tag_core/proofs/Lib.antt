@@ -10,11 +10,16 @@ pub mod Advance
 pub mod TagBits
 pub mod Owing
 pub mod OwingTags
+pub mod ListedBits
+pub mod Berths
+pub mod Waiters
 pub mod Listing
 pub mod Acts
 pub mod Moving
 pub mod Allowed
+pub mod Notes
 pub mod AllowedStates
+pub mod AllowedWaits
 pub mod Keepings
 pub mod Passing
 pub mod Asking
@@ -42,4 +47,3 @@ pub mod OneBit
 pub mod OnePlace
 pub mod Numbers
 pub mod FewCallers
-pub mod Ticking

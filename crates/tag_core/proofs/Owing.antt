@@ -1,10 +1,10 @@
 -- What a claim, a give and a look owe.
-use Rattle.std.specs.Prelude.{◌%◌, ◌+◌, ◌-◌, ◌/◌, ◌<◌, ◌^◌, ◌≡◌, ◌≤◌}
-use Rattle.tag_core.proofs.Uses.{ap, arith, aside_bit, bit_at, bit_or, Cells, cells_of, changed_at, Claimed, count_ones, dite, events_of, free, get_or, get_or-set_other, get_or-set_same, Give, HasCells, held, held_bit, IsKnown, IsWithin, length-set, List, LISTS, Look, LookAside, max, MayHappen, min}
-use Rattle.tag_core.proofs.Uses.{MOST_WON, None, opening_world, or_lt, Place, place_of, Record, set, Shape, Shown, State, Step, subst, sym, tag_bit, Take, View, without, won-history, Word, word_bit, word_depth, word_of, word_of-below, words, World, world_of, ℕ, ℕ_discrete}
+use Rattle.std.specs.Prelude.{◌%◌, ◌*◌, ◌+◌, ◌-◌, ◌/◌, ◌<◌, ◌^◌, ◌≡◌, ◌≤◌}
+use Rattle.tag_core.proofs.Uses.{ap, arith, aside_bit, Berth, berth_word, bit_at, bit_or, Cells, cells_of, changed_at, Claimed, count_ones, dite, events_of, free, get_or, get_or-set_other, get_or-set_same, Give, HasCells, held, held_bit, IsKnown, IsWithin, length-set, List, Look, LookAside, max, MAX_CALLERS, MayHappen, min}
+use Rattle.tag_core.proofs.Uses.{MOST_WON, None, opening_world, or_lt, Place, place_of, posted_bit, ReadNote, Record, refl, set, Shape, Shown, State, state_word, Step, subst, suc, sym, tag_bit, Take, TURNS, View, with_berth, without, won-history, Word, word_bit, word_depth, word_of, word_of-below, words, World, world_of, zero, ℕ, ℕ_discrete}
 use Rattle.tag_core.proofs.Uses.{◌∙◌}
 use Rattle.tag_model.specs.declared.event.Event.TheVariants as event
-use Rattle.tag_core.specs.Spacing.{list_at, word_at, aside_at, state_at}
+use Rattle.tag_core.specs.Spacing.{aside_at, berth_at, clock_at, state_at, waiters_at, word_at}
 use Rattle.tag_core.proofs.Picks.{pick, among, among_one, pick_among}
 use Rattle.tag_core.proofs.Turns.{Shows, claims, gives, unchanged, reshow, free_from, held_from}
 use Rattle.tag_core.proofs.Masks.{bit_minus, minus_le, ones_minus}
@@ -15,30 +15,54 @@ use Rattle.tag_core.proofs.TagBits.{place_small, small_word, among_here, among_e
 -- what a change of one of the table's words is
 ruleset change = (length-set, get_or-set_same, get_or-set_other, spread)
 
+-- a tag whose state has the word 0 is not posted
+unposted : (q : Place) (posted note : ℕ) → posted_bit q ≡ posted → state_word posted note ≡ 0 → posted ≡ 0
+unposted q zero note is none_there = refl
+unposted q (suc posted) note is none_there = grind (arith, none_there)
+
 module _ (k : Shape) (ws : List ℕ) (c : Cells) (has : HasCells k ws c) where
   -- the table after a change of one word
   pub word_cells : (i x x' : ℕ) → i < words k.layout → x ≡ x' → IsWithin k.layout i x'
       → HasCells k (set ws (word_at i) x) (record c { words = record c.words { word = changed_at c.words.word i x' } })
   word_cells i x x' h same fits =
-      grind (arith, change, has.word, has.aside, has.state, has.list, has.word_within, has.aside_within)
+      grind (arith, change, has.word, has.aside, has.state, has.waiters, has.clock, has.berth, has.word_within, has.aside_within)
 
   -- after a change of one cleared set
   pub aside_cells : (i x x' : ℕ) → i < words k.layout → x ≡ x' → IsWithin k.layout i x'
       → HasCells k (set ws (aside_at i) x)
       (record c { words = record c.words { aside = changed_at c.words.aside i x' } })
   aside_cells i x x' h same fits =
-      grind (arith, change, has.word, has.aside, has.state, has.list, has.word_within, has.aside_within)
+      grind (arith, change, has.word, has.aside, has.state, has.waiters, has.clock, has.berth, has.word_within, has.aside_within)
 
-  -- after a change of one tag's state
-  pub state_cells : (u x : ℕ) → u < k.layout.depth
-      → HasCells k (set ws (state_at k.layout u) x) (record c { state = changed_at c.state u x })
-  state_cells u x h = grind (arith, change, has.word, has.aside, has.state, has.list, has.word_within, has.aside_within)
+  -- after a post of one tag
+  pub post_cells : (u note x : ℕ) → u < k.layout.depth → x ≡ suc note → HasCells k (set ws (state_at k.layout u) x)
+      (record c { state = changed_at c.state u 1; note = changed_at c.note u note })
+  post_cells u note x h same =
+      grind (arith, change, has.word, has.aside, has.state, has.waiters, has.clock, has.berth, has.word_within, has.aside_within)
 
-  -- after a change of one list
-  pub list_cells : (i x x' : ℕ) → i < LISTS → x ≡ x'
-      → HasCells k (set ws (list_at i) x) (record c { lists = changed_at c.lists i x' })
-  list_cells i x x' h same =
-      grind (arith, change, has.word, has.aside, has.state, has.list, has.word_within, has.aside_within)
+  -- after a take of one tag
+  pub take_cells : (u : ℕ) → u < k.layout.depth
+      → HasCells k (set ws (state_at k.layout u) 0) (record c { state = changed_at c.state u 0 })
+  take_cells u h =
+      grind (arith, change, has.word, has.aside, has.state, has.waiters, has.clock, has.berth, has.word_within, has.aside_within)
+
+  -- after a change of the word of all who wait
+  pub waiters_cells : (x x' : ℕ) → x ≡ x'
+      → HasCells k (set ws waiters_at x) (record c { waits = record c.waits { waiters = x' } })
+  waiters_cells x x' same =
+      grind (arith, change, has.word, has.aside, has.state, has.waiters, has.clock, has.berth, has.word_within, has.aside_within)
+
+  -- after a change of the clock
+  pub clock_cells : (x clock : ℕ) → x ≡ 8 * (clock % TURNS)
+      → HasCells k (set ws clock_at x) (record c { waits = record c.waits { clock = clock } })
+  clock_cells x clock same =
+      grind (arith, change, has.word, has.aside, has.state, has.waiters, has.clock, has.berth, has.word_within, has.aside_within)
+
+  -- after a change of one berth
+  pub berth_cells : (d x : ℕ) (berth : Berth) → d < MAX_CALLERS → x ≡ berth_word berth → HasCells k (set ws (berth_at d) x)
+      (record c { waits = record c.waits { berths = with_berth c.waits.berths d berth } })
+  berth_cells d x berth low same =
+      grind (arith, change, has.word, has.aside, has.state, has.waiters, has.clock, has.berth, has.word_within, has.aside_within)
 
 module _ (R : Type 0) (k : Shape) (narrow : k.layout.shift ≤ 6) (s : State R (View R)) (sh : Shown k s) (r : Record R)
     (ok : IsKnown k sh.history r) where
@@ -205,7 +229,19 @@ module _ (R : Type 0) (k : Shape) (narrow : k.layout.shift ≤ 6) (s : State R (
   -- a take that found no post
   pub miss_owed : (u : ℕ) → u < k.layout.depth → get_or s.words (state_at k.layout u) 0 ≡ 0 → Unmoved (Take u 0 None)
   miss_owed u l e = record {
-    finds = sym e ∙ sh.cells.state u l;
+    finds = sym (unposted (now_world.place u) (now_cells.state u) (now_cells.note u) (sh.tags u l).posted
+        (sym (sh.cells.state u l) ∙ e));
+    own = tt;
+    value = tt;
+    needs = look_needs;
+    cells = sh.cells;
+    tags = same_tags;
+  }
+
+  -- a load of a tag's state
+  pub read_owed : (u : ℕ) → u < k.layout.depth → Unmoved (ReadNote u (get_or s.words (state_at k.layout u) 0))
+  read_owed u l = record {
+    finds = sh.cells.state u l;
     own = tt;
     value = tt;
     needs = look_needs;

@@ -1,15 +1,15 @@
 -- What steps on one tag and sweeps owe.
 use Rattle.std.specs.Prelude.{◌%◌, ◌+◌, ◌-◌, ◌/◌, ◌<◌, ◌^◌, ◌≡◌, ◌≤◌}
 use Rattle.tag_core.proofs.Uses.{ap, arith, aside, aside_bit, bit_at, bit_or, Cells, cells_of, changed_at, cond, count_ones, get_or, held, held_bit, IsKnown, Keep, last_post, length, max, min, MOST_WON, nat_eq, or_lt, Place, place_of, Post, posted, posted_bit, pow_pos, Put, Record, refl, set, Shape}
-use Rattle.tag_core.proofs.Uses.{Shown, Some, some, Spill, State, subst, suc, Swap, sweep, sweep_bit, sym, tag_bit, Take, View, without, Word, word_bit, word_depth, word_of, word_of-below, words, World, world_of, ℕ, ◌∙◌}
+use Rattle.tag_core.proofs.Uses.{Shown, Some, some, Spill, State, subst, Swap, sweep, sweep_bit, sym, tag_bit, Take, View, without, Word, word_bit, word_depth, word_of, word_of-below, words, World, world_of, ℕ, ◌∙◌}
 use Rattle.tag_core.specs.Spacing.{word_at, aside_at, state_at}
 use Rattle.tag_core.proofs.Picks.{only, only_one, among, among_one, pick_among, pick_only, pick_swept, pick_spilled}
-use Rattle.tag_core.proofs.Turns.{puts, posts, takes, gathers, keeps, spills, posted_small, posted_from, aside_small, sweep_small, reshow, held_from, swept_from}
+use Rattle.tag_core.proofs.Turns.{puts, posts, takes, gathers, keeps, spills, posted_small, aside_small, sweep_small, reshow, held_from, swept_from}
 use Rattle.tag_core.proofs.Masks.{minus_le}
 use Rattle.tag_core.proofs.Stand.{bit_tag, tag_mask_within}
 use Rattle.tag_core.proofs.Advance.{Owed}
 use Rattle.tag_core.proofs.TagBits.{or_bit, minus_bit, list_bit, only_among, tag_mask, only_small, only_is, among_as, among_small, none_left, tag_named}
-use Rattle.tag_core.proofs.Owing.{word_cells, aside_cells, state_cells, none_more, held_or, held_minus}
+use Rattle.tag_core.proofs.Owing.{word_cells, aside_cells, post_cells, take_cells, none_more, held_or, held_minus}
 
 -- a tag's state once one tag is posted
 posted_at : (state : ℕ → ℕ) (q : Place) (u t : ℕ) → posted_bit q ≡ state t
@@ -93,9 +93,9 @@ module _ (R : Type 0) (k : Shape) (narrow : k.layout.shift ≤ 6) (s : State R (
       }
 
   -- a post of a held tag
-  pub post_owed : (u : ℕ) (y : R) → u < k.layout.depth → tag_bit k.layout r.held u ≡ 1
-      → Owed R k s sh r (Post u y) (set s.words (state_at k.layout u) 1)
-  post_owed u y lu has = record {
+  pub post_owed : (u note : ℕ) (y : R) → u < k.layout.depth → tag_bit k.layout r.held u ≡ 1
+      → Owed R k s sh r (Post u note y) (set s.words (state_at k.layout u) (note + 1))
+  post_owed u note y lu has = record {
     finds = tt;
     own = tt;
     value = tt;
@@ -106,7 +106,7 @@ module _ (R : Type 0) (k : Shape) (narrow : k.layout.shift ≤ 6) (s : State R (
       places =
           λ t l is. held_tag u t has lu (only_one t u is);
     };
-    cells = state_cells k s.words now_cells sh.cells u 1 lu;
+    cells = post_cells k s.words now_cells sh.cells u note (note + 1) lu (omega arith);
     tags = λ t l. let tag = sh.tags t l in
         let q : Place = now_world.place t in
         reshow
@@ -116,33 +116,30 @@ module _ (R : Type 0) (k : Shape) (narrow : k.layout.shift ≤ 6) (s : State R (
         (held_without u t lu l) (ok.swept t l);
   }
 
-  -- a compare-exchange of 1 by 0 that found the state 1
-  pub take_owed : (u f : ℕ) (y : R) → u < k.layout.depth → get_or s.words (state_at k.layout u) 0 ≡ suc f → f ≡ 0
-      → last_post u sh.history ≡ some y
-      → Owed R k s sh r (Take u (suc f) (Some y)) (set s.words (state_at k.layout u) 0)
-  take_owed u f y lu is one last = let shown : now_cells.state u ≡ suc f = sym (sh.cells.state u lu) ∙ is in
-      let its : now_world.place u ≡ posted = posted_from (now_world.place u)
-      ((sh.tags u lu).posted ∙ shown ∙ ap suc one) in record {
-        finds = sym shown;
-        own = tt;
-        value = (y, refl, last);
-        needs = record {
-          in_layout = lu;
-          caller = ok.number;
-          unspent = none_won;
-          places =
-              λ t l is. subst (λ (z : ℕ). now_world.place z ≡ posted)
-              (sym (only_is k narrow t u (only_one t u is))) its;
-        };
-        cells = state_cells k s.words now_cells sh.cells u 0 lu;
-        tags = λ t l. let tag = sh.tags t l in let q : Place = now_world.place t in
-            reshow
-            (takes r.number q (only t u) (only_small k narrow t u)
-            (λ a. subst (λ (z : ℕ). now_world.place z ≡ posted) (sym (only_is k narrow t u a)) its))
-            (pick_only t u (held r.number) q) tag.word tag.aside
-            (taken_at now_cells.state q u t tag.posted)
-            (held_with u t lu l) (ok.swept t l);
-      }
+  -- a swap of a posted tag's state with 0
+  pub take_owed : (u : ℕ) (y : R) → u < k.layout.depth → now_world.place u ≡ posted → last_post u sh.history ≡ some y
+      → Owed R k s sh r (Take u 1 (Some y)) (set s.words (state_at k.layout u) 0)
+  take_owed u y lu its last = record {
+    finds = sym (ap posted_bit its) ∙ (sh.tags u lu).posted;
+    own = tt;
+    value = (y, refl, last);
+    needs = record {
+      in_layout = lu;
+      caller = ok.number;
+      unspent = none_won;
+      places =
+          λ t l is. subst (λ (z : ℕ). now_world.place z ≡ posted)
+          (sym (only_is k narrow t u (only_one t u is))) its;
+    };
+    cells = take_cells k s.words now_cells sh.cells u lu;
+    tags = λ t l. let tag = sh.tags t l in let q : Place = now_world.place t in
+        reshow
+        (takes r.number q (only t u) (only_small k narrow t u)
+        (λ a. subst (λ (z : ℕ). now_world.place z ≡ posted) (sym (only_is k narrow t u a)) its))
+        (pick_only t u (held r.number) q) tag.word tag.aside
+        (taken_at now_cells.state q u t tag.posted)
+        (held_with u t lu l) (ok.swept t l);
+  }
 
   -- ---- a sweep: swap, then spill
 

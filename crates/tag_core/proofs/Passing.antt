@@ -2,7 +2,7 @@
 use Rattle.std.specs.Prelude.{◌%◌, ◌<◌, ◌^◌, ◌∷◌, ◌≡◌}
 use Rattle.tag_core.proofs.Uses.{[], all_fresh, ap, arith, bit_at, bit_at-zero, Bool, both_views, cond, first_view, fresh_record, get_elem?, get_or, HasHistory, History, IsKnown, IsOpening, Joins, Layout, length, length-replicate, List, map, ne_eqb, opening, other_views, place_of, pow_pos, Record}
 use Rattle.tag_core.proofs.Uses.{refl, replicate, Shape, Shown, some, Splits, Standing, standing-fresh, StartsAtZero, State, subst, suc, sum_below-none, sym, tag_bit, tags_from, View, viewing, word_depth, word_of, words, zero, ℕ, ◌∙◌}
-use Rattle.tag_core.specs.Spacing.{list_at, word_at, aside_at, state_at, table_width}
+use Rattle.tag_core.specs.Spacing.{aside_at, berth_at, clock_at, state_at, table_width, waiters_at, word_at}
 use Rattle.step_ledger.proofs.Moves.{splits_first, joins_behind}
 
 -- each of so many zeros is 0
@@ -76,7 +76,9 @@ module _ (R : Type 0) (k : Shape) where
           word = λ i l. blank (word_at i);
           aside = λ i l. blank (aside_at i);
           state = λ t l. blank (state_at k.layout t);
-          list = λ i l. blank (list_at i);
+          waiters = blank waiters_at;
+          clock = blank clock_at;
+          berth = λ i l. blank (berth_at i);
           word_within = λ i l. pow_pos (word_depth k.layout i);
           aside_within = λ i l. pow_pos (word_depth k.layout i);
         };

@@ -1,12 +1,11 @@
 -- A seat that has the records of all callers.
-use Rattle.std.specs.Prelude.{◌++◌, ◌+◌, ◌<◌, ◌∷◌, ◌≡◌}
+use Rattle.std.specs.Prelude.{◌++◌, ◌+◌, ◌∷◌, ◌≡◌}
 use Rattle.tag_core.proofs.Uses.{[], Allows, ap, append_assoc, AreSettled, AreUnchanged, arith, Caller, get_elem?, HasRecords, IsUnchanged, length-append, List, map, map-append, Me, none, pairs_more, posted_in, Record, record_of, refl, settled, Shape, Shown, size_of, some, State, step, subst, suc}
 use Rattle.tag_core.proofs.Uses.{sym, total_of, Totals, View, world_of, ℕ, ◌∙◌}
 use Rattle.std.proofs.Common.{get_or}
-use Rattle.tag_core.specs.Plays.{list_settled}
-use Rattle.tag_core.specs.Settling.{LeavesList}
-use Rattle.tag_core.specs.Spacing.{list_at}
-use Rattle.tag_core.specs.declared.bell.TheConstants.{LISTS}
+use Rattle.tag_core.specs.Plays.{waiters_settled}
+use Rattle.tag_core.specs.Settling.{LeavesWaiters}
+use Rattle.tag_core.specs.Spacing.{waiters_at}
 use Rattle.tag_core.proofs.Fronts.{idle_allowed, load_allowed}
 use Rattle.tag_core.proofs.Ends.{few_records, won_all, back_all, held_all, even_all}
 
@@ -51,23 +50,22 @@ settle_allowed R k d id me = idle_allowed R k d id me _
     × AreSettled z me.0.records.value totals)
     (sym is) (λ all. (totals_there k s sh id me.0 at all, settled_there k s sh id me.0 at all)))
 
--- the table allows a load of a list by which all callers come together
-pub list_allowed : (R : Type 0) (k : Shape) (d id : ℕ) (me : Me R (View R)) (i : ℕ)
-    → Allows (Shown k) d id me (list_at i) (λ n. n) (list_settled (step d (list_at i) 0 0 none) me)
-list_allowed R k d id me i = load_allowed R k d id me (list_at i)
-    (λ (found : ℕ). (list : ℕ) (r : Record R) → list_at i ≡ list_at list → list < LISTS
-    → get_elem? me.0.records.value 0 ≡ some r → HasRecords r.shape.callers me.0.records.value
-    → LeavesList r.shape me.0.records.value list found)
-    (λ s sh at list r e low first.
+-- the table allows a load of the word of all who wait by which all callers come together
+pub waiters_allowed : (R : Type 0) (k : Shape) (d id : ℕ) (me : Me R (View R))
+    → Allows (Shown k) d id me waiters_at (λ n. n) (waiters_settled (step d waiters_at 0 0 none) me)
+waiters_allowed R k d id me = load_allowed R k d id me waiters_at
+    (λ (found : ℕ). (r : Record R) → waiters_at ≡ waiters_at → get_elem? me.0.records.value 0 ≡ some r
+    → HasRecords r.shape.callers me.0.records.value → LeavesWaiters r.shape me.0.records.value found)
+    (λ s sh at r e first.
     let is : r.shape ≡ k = (sh.records id me.0 at 0 r first).0.shape in
     subst (λ (z : Shape). HasRecords z.callers me.0.records.value
-    → LeavesList z me.0.records.value list (get_or s.words (list_at i) 0))
+    → LeavesWaiters z me.0.records.value (get_or s.words waiters_at 0))
     (sym is) (λ all. record {
       history = sh.history;
       lawful = sh.lawful;
       each = λ n q f. (sh.records id me.0 at n q f).0;
       every = all;
-      listed_is = ap (λ (z : ℕ). get_or s.words z 0) e ∙ sh.cells.list list low;
+      waiting_is = sh.cells.waiters;
     }))
 
 module _ {R : Type 0} where

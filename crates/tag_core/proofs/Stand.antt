@@ -1,62 +1,44 @@
--- Lists, words, cleared sets and states stand apart in the table, and tags in their words.
+-- The words by which callers wait, words, cleared sets and states stand apart in the table, and tags in their words.
 use Rattle.std.specs.Prelude.{◌*◌, ◌+◌, ◌<◌, ◌^◌, ◌≡◌, ◌≢◌}
-use Rattle.tag_core.proofs.Uses.{arith, bit_at, bit_at_above, div-add-mod', IsWithin, Layout, LISTS, MAX_CALLERS, place_of, place_of-below, place_of-tag_at, pow_below, sym, tag_at, tag_at-below, word_bits, word_depth, word_of, word_of-tag_at, words, ℕ, ◌∙◌}
-use Rattle.tag_core.specs.Spacing.{list_at, clock_at, turn_at, word_at, aside_at, state_at, table_width}
+use Rattle.tag_core.proofs.Uses.{arith, bit_at, bit_at_above, div-add-mod', IsWithin, Layout, MAX_CALLERS, place_of, place_of-below, place_of-tag_at, pow_below, sym, tag_at, tag_at-below, word_bits, word_depth, word_of, word_of-tag_at, words, ℕ, ◌∙◌}
+use Rattle.tag_core.specs.Spacing.{aside_at, bell_at, berth_at, clock_at, state_at, table_width, waiters_at, word_at}
 
--- different lists stand at different indexes
-pub list_at_one : (i j : ℕ) → list_at i ≡ list_at j → i ≡ j
-unfolding list_at
-list_at_one i j e = omega arith
+-- the words by which callers wait stand at different indexes
+pub bell_at_one : (i j : ℕ) → bell_at i ≡ bell_at j → i ≡ j
+unfolding bell_at
+bell_at_one i j e = omega arith
 
--- no list stands at the index of a word
-pub list_no_word : (i j : ℕ) → i < LISTS → list_at i ≢ word_at j
-unfolding list_at word_at
-list_no_word i j h e = omega arith
+pub berth_at_one : (i j : ℕ) → berth_at i ≡ berth_at j → i ≡ j
+berth_at_one i j e = let same = bell_at_one (i + 7) (j + 7) e in omega arith
+
+-- none of them stands at the index of a word
+pub bell_no_word : (i j : ℕ) → i < 71 → bell_at i ≢ word_at j
+unfolding bell_at word_at
+bell_no_word i j h e = omega arith
 
 -- nor at that of a cleared set
-pub list_no_aside : (i j : ℕ) → i < LISTS → list_at i ≢ aside_at j
-unfolding list_at aside_at
-list_no_aside i j h e = omega arith
+pub bell_no_aside : (i j : ℕ) → i < 71 → bell_at i ≢ aside_at j
+unfolding bell_at aside_at
+bell_no_aside i j h e = omega arith
 
 -- nor at that of a state
-pub list_no_state : (l : Layout) (i j : ℕ) → i < LISTS → list_at i ≢ state_at l j
-unfolding list_at state_at
-list_no_state l i j h e = omega arith
+pub bell_no_state : (l : Layout) (i j : ℕ) → i < 71 → bell_at i ≢ state_at l j
+unfolding bell_at state_at
+bell_no_state l i j h e = omega arith
 
--- each list stands in the table
-pub list_in : (l : Layout) (i : ℕ) → i < LISTS → list_at i < table_width l
-unfolding list_at table_width
-list_in l i h = omega arith
+-- each of them stands in the table
+pub bell_in : (l : Layout) (i : ℕ) → i < 71 → bell_at i < table_width l
+unfolding bell_at table_width
+bell_in l i h = omega arith
 
--- nothing that the rule speaks of stands at this index
-pub record IsApart (l : Layout) (at : ℕ) : Type 0 where
-  pub word : (i : ℕ) → word_at i ≢ at
-  pub aside : (i : ℕ) → aside_at i ≢ at
-  pub state : (i : ℕ) → state_at l i ≢ at
-  pub list : (i : ℕ) → i < LISTS → list_at i ≢ at
-  pub in_table : at < table_width l
+pub waiters_in : (l : Layout) → waiters_at < table_width l
+waiters_in l = bell_in l 0 (omega arith)
 
--- so it is with the clock of turns
-pub clock_apart : (l : Layout) → IsApart l clock_at
-unfolding clock_at list_at word_at aside_at state_at table_width
-clock_apart l = record {
-  word = λ i e. omega arith;
-  aside = λ i e. omega arith;
-  state = λ i e. omega arith;
-  list = λ i h e. omega arith;
-  in_table = omega arith;
-}
+pub clock_in : (l : Layout) → clock_at < table_width l
+clock_in l = bell_in l 1 (omega arith)
 
--- and with each caller's turn
-pub turn_apart : (l : Layout) (caller : ℕ) → caller < MAX_CALLERS → IsApart l (turn_at caller)
-unfolding turn_at list_at word_at aside_at state_at table_width
-turn_apart l caller low = record {
-  word = λ i e. omega arith;
-  aside = λ i e. omega arith;
-  state = λ i e. omega arith;
-  list = λ i h e. omega arith;
-  in_table = omega arith;
-}
+pub berth_in : (l : Layout) (caller : ℕ) → caller < MAX_CALLERS → berth_at caller < table_width l
+berth_in l caller low = bell_in l (caller + 7) (omega arith)
 
 -- different words stand at different indexes
 pub word_at_one : (i j : ℕ) → word_at i ≡ word_at j → i ≡ j
@@ -103,13 +85,13 @@ pub state_in : (l : Layout) (t : ℕ) → t < l.depth → state_at l t < table_w
 unfolding state_at table_width
 state_in l t h = omega arith
 
--- where lists, words, cleared sets and states stand
+-- where all of them stand
 pub ruleset spread = (
-  list_at_one,
-  list_no_word,
-  list_no_aside,
-  list_no_state,
-  list_in,
+  bell_at_one,
+  bell_no_word,
+  bell_no_aside,
+  bell_no_state,
+  bell_in,
   word_at_one,
   aside_at_one,
   state_at_one,

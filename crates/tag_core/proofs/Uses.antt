@@ -40,15 +40,15 @@ pub use Rattle.tag_model.specs.declared.place.Place.TheVariants.{Aside as aside,
 pub use Rattle.tag_model.specs.declared.totals.Totals.{Totals}
 pub use Rattle.tag_model.specs.declared.world.TheConstants.{MAX_CALLERS, MOST_WON}
 pub use prog.Atomic.{either}
-pub use Rattle.tag_core.specs.Bits.{aside_bit, held_bit, posted_bit, sweep_bit, word_bit}
+pub use Rattle.tag_core.specs.Berths.{berth_of, berth_word, IsListed, IsListedAs, IsTold, IsUp, same_waiter, told_as, TurnFits, waiter_bit, waiter_of}
+pub use Rattle.tag_core.specs.Bits.{aside_bit, held_bit, posted_bit, posted_by_word, state_word, sweep_bit, word_bit}
 pub use Rattle.tag_core.specs.Callers.{Adds, AddsTwo, AreUnchanged, HaveOwnNumbers, Holds, IsCallerOf, IsUnchanged, layout_of, record_of, slot_of}
 pub use Rattle.tag_core.specs.Chain.{CountsChain, Epoch, GoesOn, HasChain, IsChain, opened, reopened}
 pub use Rattle.tag_core.specs.Gathering.{gathered, numbers, numbers_of}
-pub use Rattle.tag_core.specs.Histories.{Cells, cells_after, cells_of, event_of, events_of, FindsIn, FindsPost, History, IsLawful, last_post, opening_world, posted_by, steps_by, world_of}
+pub use Rattle.tag_core.specs.Histories.{Cells, cells_after, cells_of, EachFinds, event_of, events_of, FindsIn, FindsPost, History, IsLawful, last_post, opening_world, posted_by, steps_by, world_of}
 pub use Rattle.tag_core.specs.Holding.{HoldsLess, HoldsMore, HoldsSame, IsInMask}
-pub use Rattle.tag_core.specs.Lists.{bit_of, FindsListed, IsBy, IsOwn, lists_after}
 pub use Rattle.tag_core.specs.Meeting.{AreApart, HasHistory, ShareHistory}
-pub use Rattle.tag_core.specs.Plays.{claimed, counted, enlisted, FindsHeld, fronted, gave, got_up, kept_least, looked, looked_aside, met, ordered, put_aside, settled, sighted, spilled, Stepped, swapped, told, took}
+pub use Rattle.tag_core.specs.Plays.{claimed, counted, enlisted, entered, FindsHeld, fronted, gave, got_up, kept_least, looked, looked_all, looked_aside, looked_at, met, note_read, ordered, put_aside, settled, spilled, Stepped, swapped, told, took, turn_taken}
 pub use Rattle.tag_core.specs.Records.{but, Carries, fresh_record, held_after, joined, parted, record_after, StartsAtZero, swept_after, tag_bit, tags_from, value_of}
 pub use Rattle.tag_core.specs.Reopening.{AllFree, AreReopened, GoesOnFrom, HasCounts, IsNext, LeadsOn, reopened_record}
 pub use Rattle.tag_core.specs.Rule.{HasCells, IsKnown, IsOpening, Shown, SlotIs}
@@ -56,13 +56,18 @@ pub use Rattle.tag_core.specs.Settling.{AreSettled, HasRecords}
 pub use Rattle.tag_core.specs.Sizes.{size_of, total_of}
 pub use Rattle.tag_core.specs.Steps.{changed_at, least_bit, without}
 pub use Rattle.tag_core.specs.Views.{all_fresh, fresh, steps_of, View}
-pub use Rattle.tag_core.specs.declared.bell.TheConstants.{LISTS}
+pub use Rattle.tag_core.specs.Waits.{AgreesWith, bit_of, FindsWaits, HasTaken, IsBy, IsIn, IsOwn, newly_told, Waits, waits_after, waits_as, with_berth}
 pub use Rattle.tag_core.specs.declared.bell_step.BellStep.{BellStep}
-pub use Rattle.tag_core.specs.declared.bell_step.BellStep.TheVariants.{Enlist, GetUp, Sight, Tell}
+pub use Rattle.tag_core.specs.declared.bell_step.BellStep.TheVariants.{Enlist, Enter, GetUp, Leave, LookAll, LookAt, TakeTurn, Tell}
+pub use Rattle.tag_core.specs.declared.berth.Berth.{Berth}
+pub use Rattle.tag_core.specs.declared.berth.Berth.TheVariants.{Listed, Told, Up}
+pub use Rattle.tag_core.specs.declared.berth.TheConstants.{TURNS}
+pub use Rattle.tag_core.specs.declared.berth.Waiter.{Waiter}
+pub use Rattle.tag_core.specs.declared.berth.Waiter.TheVariants.{Listener, Sleeper}
 pub use Rattle.tag_core.specs.declared.caller.Caller.{Caller}
 pub use Rattle.tag_core.specs.declared.map.Map.{Map}
 pub use Rattle.tag_core.specs.declared.record.Record.{Record}
 pub use Rattle.tag_core.specs.declared.shape.Shape.{Shape}
 pub use Rattle.tag_core.specs.declared.step.Step.{Step}
-pub use Rattle.tag_core.specs.declared.step.Step.TheVariants.{Bell, Post, Take, Word}
+pub use Rattle.tag_core.specs.declared.step.Step.TheVariants.{Bell, Post, ReadNote, Take, Word}
 pub use Rattle.tag_core.specs.declared.word_step.WordStep.TheVariants.{Claimed, Give, Keep, Look, LookAside, Put, Spill, Swap}

@@ -1,11 +1,12 @@
 -- What contracts see of a map and of its callers.
 use Rattle.std.specs.Prelude.{◌<◌, ◌≡◌}
-use Rattle.tag_core.specs.Uses.{get_elem?, Layout, length, List, replicate, some, words, ℕ}
+use Rattle.tag_core.specs.Uses.{get_elem?, Layout, length, List, none, replicate, some, words, ℕ}
 use mathlib.Core.Option as maybe
 use Rattle.tag_core.specs.declared.step.Step.{Step}
 use Rattle.tag_core.specs.declared.record.Record.{Record}
 use Rattle.tag_core.specs.declared.caller.Caller.{Caller}
 use Rattle.tag_core.specs.declared.map.Map.{Map}
+use Rattle.tag_core.specs.Waits.{IsIn, waits_as}
 use Rattle.tag_core.specs.Records.{record_after, tag_bit, value_of}
 use Rattle.tag_core.specs.Views.{steps_of}
 
@@ -43,6 +44,14 @@ HaveOwnNumbers {R} callers =
 -- the value of the slot of a tag that the caller holds
 abbrev pub slot_of : {R : Type 0} → Caller R → ℕ → maybe.Option R
 slot_of caller tag = value_of caller.seat.me.1 tag
+
+-- by its own steps the caller is among all who wait
+abbrev pub IsAmongWaiters : {R : Type 0} → Caller R → Type 0
+IsAmongWaiters caller = IsIn (record_of caller).steps
+
+-- by its own steps it does not wait
+abbrev pub HasGotUp : {R : Type 0} → Caller R → Type 0
+HasGotUp caller = waits_as (record_of caller).steps ≡ none
 
 -- the caller belongs to the same map as before
 abbrev pub SameMap : {R : Type 0} → Caller R → Caller R → Type 0

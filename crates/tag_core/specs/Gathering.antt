@@ -1,12 +1,13 @@
 -- What all callers of a map show when they come together.
 use Rattle.std.specs.Prelude.{◌+◌, ◌<◌, ◌≡◌}
-use Rattle.tag_core.specs.Uses.{AreTotals, get_elem?, Layout, length, List, map, nat_eq, one_if, Posted, slice_index, some, sum_below, ℕ}
+use Rattle.tag_core.specs.Uses.{AreTotals, get_elem?, Layout, length, List, map, Posted, slice_index, some, sum_below, ℕ}
 use Rattle.tag_core.specs.declared.shape.Shape.{Shape}
 use Rattle.tag_core.specs.declared.record.Record.{Record}
 use Rattle.tag_core.specs.declared.caller.Caller.{Caller}
 use Rattle.tag_core.specs.declared.map.Map.{Map}
 use Rattle.tag_core.specs.declared.closed.Closed.{Closed}
 use Rattle.tag_core.specs.declared.together.Gathering.{Gathering}
+use Rattle.tag_core.specs.Bits.{posted_by_word}
 use Rattle.tag_core.specs.Spacing.{state_at}
 use Rattle.tag_core.specs.Histories.{History, IsLawful, world_of, steps_by, last_post}
 use Rattle.tag_core.specs.Sizes.{total_of, size_of}
@@ -32,9 +33,9 @@ pub record IsGathered {R : Type 0} (k : Shape) (rs : List (Record R)) (closed : 
       (tag : ℕ) → tag < k.layout.depth → (world_of k history).place tag ≡ Posted
       → get_elem? closed.slots.items tag ≡ last_post tag history
 
--- how many tags have a state of 1 in a table's words
+-- how many tags have a state that is not 0 in a table's words
 abbrev pub states_posted : Layout → List ℕ → ℕ
-states_posted l table = sum_below (λ tag. one_if (nat_eq (slice_index table (state_at l tag)) 1)) l.depth
+states_posted l table = sum_below (λ tag. posted_by_word (slice_index table (state_at l tag))) l.depth
 
 -- the numbers of these callers
 abbrev pub numbers_of : {R : Type 0} → List (Caller R) → List ℕ

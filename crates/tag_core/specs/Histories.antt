@@ -8,36 +8,47 @@ use Rattle.tag_model.specs.World.{World}
 use Rattle.tag_model.specs.Runs.{after_history, IsHistory}
 use Rattle.tag_core.specs.declared.shape.Shape.{Shape}
 use Rattle.tag_core.specs.declared.step.Step.{Step}
-use Rattle.tag_core.specs.declared.step.Step.TheVariants.{Word, Post, Take, Bell}
+use Rattle.tag_core.specs.declared.step.Step.TheVariants.{Word, Post, Take, ReadNote, Bell}
 use Rattle.tag_core.specs.declared.word_step.WordStep.{WordStep}
 use Rattle.tag_core.specs.declared.word_step.WordStep.TheVariants.{Look, LookAside, Claimed, Give, Put, Swap, Keep, Spill}
 use Rattle.tag_core.specs.Steps.{Words, changed_at, without, Finds, words_after}
-use Rattle.tag_core.specs.Lists.{FindsListed, lists_after, IsBy}
+use Rattle.tag_core.specs.declared.berth.Berth.TheVariants.{Up}
+use Rattle.tag_core.specs.Bits.{state_word}
+use Rattle.tag_core.specs.Waits.{FindsWaits, IsBy, Waits, waits_after}
 
--- the words, each tag's state: 1 is posted, and the lists of who waits by their index: 1 is listed
+-- the words, each tag's state: 1 is posted, the note with which each was posted last, and who waits
 pub record Cells : Type 0 where
   pub words : Words
   pub state : ℕ → ℕ
-  pub lists : ℕ → ℕ
+  pub note : ℕ → ℕ
+  pub waits : Waits
 
 -- all of them as a map opens
 abbrev pub blank : Cells
-blank = record { words = record { word = λ i. 0; aside = λ i. 0 }; state = λ tag. 0; lists = λ list. 0 }
+blank = record {
+  words = record { word = λ i. 0; aside = λ i. 0 };
+  state = λ tag. 0;
+  note = λ tag. 0;
+  waits = record { waiters = 0; clock = 0; berths = λ caller. Up };
+}
 
 -- the step found what stands there
 abbrev pub FindsIn : {R : Type 0} → Step R → Cells → Type 0
 FindsIn (Word step) c = Finds step c.words
-FindsIn (Post tag value) c = Unit {0}
+FindsIn (Post tag note value) c = Unit {0}
 FindsIn (Take tag found value) c = found ≡ c.state tag
-FindsIn (Bell step) c = FindsListed step c.lists
+FindsIn (ReadNote tag found) c = found ≡ state_word (c.state tag) (c.note tag)
+FindsIn (Bell step) c = FindsWaits step c.waits
 
 -- the cells after the step
 abbrev pub cells_after : {R : Type 0} → Step R → Cells → Cells
 cells_after (Word step) c = record c { words = words_after step c.words }
-cells_after (Post tag value) c = record c { state = changed_at c.state tag 1 }
+cells_after (Post tag note value) c =
+    record c { state = changed_at c.state tag 1; note = changed_at c.note tag note }
 cells_after (Take tag zero value) c = c
 cells_after (Take tag (suc found) value) c = record c { state = changed_at c.state tag 0 }
-cells_after (Bell step) c = record c { lists = lists_after step c.lists }
+cells_after (ReadNote tag found) c = c
+cells_after (Bell step) c = record c { waits = waits_after step c.waits }
 
 -- what the caller's step on a word changes of the world
 abbrev pub event_of_word : Layout → ℕ → WordStep → Event
@@ -53,16 +64,17 @@ event_of_word l caller (Spill i mask found) = event.Spill caller i
 -- what the caller's step changes of the world
 abbrev pub event_of : {R : Type 0} → Layout → ℕ → Step R → Event
 event_of l caller (Word step) = event_of_word l caller step
-event_of l caller (Post tag value) = event.Post caller tag
+event_of l caller (Post tag note value) = event.Post caller tag
 event_of l caller (Take tag zero value) = event.Look
 event_of l caller (Take tag (suc found) value) = event.Take caller tag
+event_of l caller (ReadNote tag found) = event.Look
 event_of l caller (Bell step) = event.Look
 
 -- steps, each with the number of its caller, the newest first
 abbrev pub History : Type 0 → Type 0
 History R = List (ℕ × Step R)
 
--- the words, the states and the lists that a history leaves of blank ones
+-- the cells that a history leaves of blank ones
 abbrev pub cells_of : {R : Type 0} → History R → Cells
 cells_of [] = blank
 cells_of (x ∷ older) = cells_after x.1 (cells_of older)
@@ -87,8 +99,9 @@ world_of k h = after_history k.layout (events_of k.layout h) (opening_world k)
 -- the value that the step posted for the tag, else the one before
 abbrev pub posted_by : {R : Type 0} → ℕ → Step R → maybe.Option R → maybe.Option R
 posted_by tag (Word step) before = before
-posted_by tag (Post other value) before = cond (nat_eq tag other) (some value) before
+posted_by tag (Post other note value) before = cond (nat_eq tag other) (some value) before
 posted_by tag (Take other found value) before = before
+posted_by tag (ReadNote other found) before = before
 posted_by tag (Bell step) before = before
 
 -- the value of the tag's last Post
@@ -99,24 +112,25 @@ last_post tag (x ∷ older) = posted_by tag x.1 (last_post tag older)
 -- a Take that won found the value of the tag's last Post
 abbrev pub FindsPost : {R : Type 0} → Step R → History R → Type 0
 FindsPost (Word step) older = Unit {0}
-FindsPost (Post tag value) older = Unit {0}
+FindsPost (Post tag note value) older = Unit {0}
 FindsPost (Take tag zero value) older = Unit {0}
 FindsPost {R} (Take tag (suc found) value) older = (posted : R) × (value ≡ Some posted)
     × (last_post tag older ≡ some posted)
+FindsPost (ReadNote tag found) older = Unit {0}
 FindsPost (Bell step) older = Unit {0}
 
--- each step is by a caller of the map, and found what the older ones left
+-- a caller's own steps
+abbrev pub steps_by : {R : Type 0} → ℕ → History R → List (Step R)
+steps_by caller [] = []
+steps_by caller (x ∷ older) = cond (nat_eq x.0 caller) (x.1 ∷ steps_by caller older) (steps_by caller older)
+
+-- each step is by a caller of the map that might make it, and found what the older ones left
 abbrev pub EachFinds : {R : Type 0} → ℕ → History R → Type 0
 EachFinds callers [] = Unit {0}
-EachFinds callers (x ∷ older) = (x.0 < callers) × IsBy x.0 x.1 × FindsIn x.1 (cells_of older)
+EachFinds callers (x ∷ older) = (x.0 < callers) × IsBy x.0 x.1 (steps_by x.0 older) × FindsIn x.1 (cells_of older)
     × FindsPost x.1 older × EachFinds callers older
 
 -- each step found what the older ones left, and its event could happen in their world
 pub record IsLawful {R : Type 0} (k : Shape) (h : History R) : Type 0 where
   pub finds : EachFinds k.callers h
   pub happens : IsHistory k.layout k.callers (opening_world k) (events_of k.layout h)
-
--- a caller's own steps
-abbrev pub steps_by : {R : Type 0} → ℕ → History R → List (Step R)
-steps_by caller [] = []
-steps_by caller (x ∷ older) = cond (nat_eq x.0 caller) (x.1 ∷ steps_by caller older) (steps_by caller older)

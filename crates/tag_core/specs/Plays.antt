@@ -1,20 +1,22 @@
 -- What each kind of step on the table tells the caller that makes it.
-use Rattle.std.specs.Prelude.{◌*◌, ◌+◌, ◌-◌, ◌<◌, ◌^◌, ◌∷◌, ◌≡◌, ◌≢◌, ◌≤◌}
+use Rattle.std.specs.Prelude.{◌*◌, ◌+◌, ◌/◌, ◌<◌, ◌∷◌, ◌≡◌, ◌≢◌, ◌≤◌}
 use Rattle.tag_core.specs.Uses.{[], back_by, bit_at, get_elem?, length, List, map, Me, MOST_WON, None, own_view, place_of, slice_index, Some, some, Totals, viewing, word_of, ℕ}
 use Rattle.atomic_table.specs.Table as table
 use Rattle.tag_core.specs.Views.{View}
 use Rattle.tag_core.specs.declared.step.Step.{Step}
-use Rattle.tag_core.specs.declared.step.Step.TheVariants.{Word, Post, Take, Bell}
-use Rattle.tag_core.specs.declared.bell_step.BellStep.TheVariants.{Enlist, Sight, Tell, GetUp}
+use Rattle.tag_core.specs.declared.step.Step.TheVariants.{Word, Post, Take, ReadNote, Bell}
+use Rattle.tag_core.specs.declared.bell_step.BellStep.TheVariants.{Enlist, Enter, GetUp, Leave, LookAll, LookAt, TakeTurn, Tell}
+use Rattle.tag_core.specs.declared.berth.Waiter.{Waiter}
+use Rattle.tag_core.specs.declared.berth.Berth.TheVariants.{Listed}
 use Rattle.tag_core.specs.declared.word_step.WordStep.TheVariants.{Look, LookAside, Claimed, Give, Put, Swap, Keep, Spill}
 use Rattle.tag_core.specs.declared.record.Record.{Record}
-use Rattle.tag_core.specs.declared.bell.TheConstants.{LISTS}
+use Rattle.tag_core.specs.Berths.{berth_of, berth_word}
 use Rattle.tag_core.specs.Steps.{least_bit}
-use Rattle.tag_core.specs.Spacing.{list_at, word_at, aside_at, state_at}
+use Rattle.tag_core.specs.Spacing.{aside_at, berth_at, clock_at, state_at, waiters_at, word_at}
 use Rattle.tag_core.specs.Histories.{event_of}
 use Rattle.tag_core.specs.Records.{record_after, held_after, tag_bit, value_of, tags_from, but, Carries}
 use Rattle.tag_core.specs.Meeting.{HasHistory, ShareHistory, AreApart}
-use Rattle.tag_core.specs.Settling.{HasRecords, AreSettled, LeavesList}
+use Rattle.tag_core.specs.Settling.{HasRecords, AreSettled, LeavesWaiters}
 
 -- the caller of this record made the step: the slots of its tags are with it, and those of tags that it keeps have
 -- their values
@@ -82,49 +84,70 @@ module _ {R : Type 0} (st : table.Step R) (me : Me R (View R)) (found : ℕ) (me
       (i : ℕ) (r : Record R) → st.word ≡ word_at i → me.0 ≡ own_view r
       → Stepped (Word (Spill i (slice_index r.swept i) found)) r me me'
 
-  -- a store of 1 in a held tag's state
+  -- a store of one more than a note in a held tag's state
   abbrev pub posted : Type 0
   posted =
-      (tag : ℕ) (value : R) (r : Record R) → st.word ≡ state_at r.shape.layout tag
+      (tag note : ℕ) (value : R) (r : Record R) → st.word ≡ state_at r.shape.layout tag → st.first ≡ note + 1
       → value_of me.1 tag ≡ some value → me.0 ≡ own_view r
-      → Stepped (Post tag value) r me me'
+      → Stepped (Post tag note value) r me me'
 
-  -- an exchange of a state's 1 for 0: where it was 1, the slot that came has the value of the tag's last Post, and
-  -- the tag was
+  -- a swap of a state with 0: where it was not 0, the slot that came has the value of the tag's last Post, and the tag was
   -- not the caller's
   abbrev pub took : Type 0
   took =
       (tag : ℕ) (r : Record R) → st.word ≡ state_at r.shape.layout tag → me.0 ≡ own_view r
-      → (found ≡ 1 → (value : R) × (value_of me'.1 tag ≡ some value) × Stepped (Take tag 1 (Some value)) r me me'
+      → (found ≢ 0 → (value : R) × (value_of me'.1 tag ≡ some value) × Stepped (Take tag 1 (Some value)) r me me'
       × (tag_bit r.shape.layout r.held tag ≢ 1))
-      × (found ≢ 1 → (found ≡ 0) × Stepped (Take tag 0 None) r me me')
+      × (found ≡ 0 → Stepped (Take tag 0 None) r me me')
 
-  -- an or of a list and the caller's bit
+  -- a load of a state
+  abbrev pub note_read : Type 0
+  note_read =
+      (tag : ℕ) (r : Record R) → st.word ≡ state_at r.shape.layout tag → me.0 ≡ own_view r
+      → tag < r.shape.layout.depth → Stepped (ReadNote tag found) r me me'
+
+  -- an or of the word of all who wait and the caller's bit
+  abbrev pub entered : Type 0
+  entered =
+      (r : Record R) → st.word ≡ waiters_at → me.0 ≡ own_view r → Stepped (Bell (Enter r.number found)) r me me'
+
+  -- an and of the word of all who wait and the complement of the caller's bit
+  abbrev pub left : Type 0
+  left = (r : Record R) → st.word ≡ waiters_at → me.0 ≡ own_view r → Stepped (Bell (Leave r.number found)) r me me'
+
+  -- a load of the word of all who wait
+  abbrev pub looked_all : Type 0
+  looked_all = (r : Record R) → st.word ≡ waiters_at → me.0 ≡ own_view r → Stepped (Bell (LookAll found)) r me me'
+
+  -- a sum of the clock and 8
+  abbrev pub turn_taken : Type 0
+  turn_taken = (r : Record R) → st.word ≡ clock_at → me.0 ≡ own_view r → Stepped (Bell (TakeTurn (found / 8))) r me me'
+
+  -- a swap of the caller's own berth
   abbrev pub enlisted : Type 0
   enlisted =
-      (list : ℕ) (r : Record R) → st.word ≡ list_at list → me.0 ≡ own_view r
-      → Stepped (Bell (Enlist list r.number found)) r me me'
+      (waiter : Waiter) (turn : ℕ) (r : Record R) → st.word ≡ berth_at r.number
+      → st.first ≡ berth_word (Listed waiter turn) → me.0 ≡ own_view r
+      → Stepped (Bell (Enlist r.number waiter turn (berth_of found))) r me me'
 
-  -- a load of a list
-  abbrev pub sighted : Type 0
-  sighted =
-      (list : ℕ) (r : Record R) → st.word ≡ list_at list → me.0 ≡ own_view r → Stepped (Bell (Sight list found)) r me me'
+  -- a load of a berth
+  abbrev pub looked_at : Type 0
+  looked_at =
+      (whom : ℕ) (r : Record R) → st.word ≡ berth_at whom → me.0 ≡ own_view r
+      → Stepped (Bell (LookAt whom (berth_of found))) r me me'
 
-  -- an and of a list and the complement of a mask
+  -- an exchange of a berth that is listed so for one that is told
   abbrev pub told : Type 0
   told =
-      (list : ℕ) (r : Record R) → st.word ≡ list_at list → me.0 ≡ own_view r
-      → Stepped (Bell (Tell list (2 ^ 64 - 1 - st.first) found)) r me me'
+      (whom : ℕ) (waiter : Waiter) (turn : ℕ) (r : Record R) → st.word ≡ berth_at whom
+      → st.first ≡ berth_word (Listed waiter turn) → me.0 ≡ own_view r
+      → Stepped (Bell (Tell whom waiter turn (berth_of found))) r me me'
 
-  -- an and of a list and the complement of the caller's bit
+  -- a swap of the caller's own berth with 0
   abbrev pub got_up : Type 0
   got_up =
-      (list : ℕ) (r : Record R) → st.word ≡ list_at list → me.0 ≡ own_view r
-      → Stepped (Bell (GetUp list r.number found)) r me me'
-
-  -- a change of a turn, which says nothing
-  abbrev pub turned : Type 0
-  turned = me' ≡ me
+      (r : Record R) → st.word ≡ berth_at r.number → me.0 ≡ own_view r
+      → Stepped (Bell (GetUp r.number (berth_of found))) r me me'
 
   -- a load that brings a held tag's slot to the front
   abbrev pub fronted : Type 0
@@ -168,9 +191,10 @@ module _ {R : Type 0} (st : table.Step R) (me : Me R (View R)) (found : ℕ) (me
       × ((r : Record R) → get_elem? me.0.records.value 0 ≡ some r → HasRecords r.shape.callers me.0.records.value
       → (totals : Totals) × AreSettled r.shape me.0.records.value totals)
 
-  -- a load of a list by a seat that has the records of all callers: one history shows them, and leaves the list so
-  abbrev pub list_settled : Type 0
-  list_settled =
+  -- a load of the word of all who wait by a seat that has the records of all callers: one history shows them, and leaves
+  -- the word so
+  abbrev pub waiters_settled : Type 0
+  waiters_settled =
       (me' ≡ me)
-      × ((list : ℕ) (r : Record R) → st.word ≡ list_at list → list < LISTS → get_elem? me.0.records.value 0 ≡ some r
-      → HasRecords r.shape.callers me.0.records.value → LeavesList r.shape me.0.records.value list found)
+      × ((r : Record R) → st.word ≡ waiters_at → get_elem? me.0.records.value 0 ≡ some r
+      → HasRecords r.shape.callers me.0.records.value → LeavesWaiters r.shape me.0.records.value found)

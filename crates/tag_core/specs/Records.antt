@@ -4,7 +4,7 @@ use Rattle.tag_core.specs.Uses.{[], back_by, bit_at, bit_or, cond, Layout, List,
 use mathlib.Core.Option as maybe
 use Rattle.tag_core.specs.declared.shape.Shape.{Shape}
 use Rattle.tag_core.specs.declared.step.Step.{Step}
-use Rattle.tag_core.specs.declared.step.Step.TheVariants.{Word, Post, Take, Bell}
+use Rattle.tag_core.specs.declared.step.Step.TheVariants.{Word, Post, Take, ReadNote, Bell}
 use Rattle.tag_core.specs.declared.word_step.WordStep.{WordStep}
 use Rattle.tag_core.specs.declared.word_step.WordStep.TheVariants.{Look, LookAside, Claimed, Give, Put, Swap, Keep, Spill}
 use Rattle.tag_core.specs.declared.record.Record.{Record}
@@ -33,9 +33,10 @@ held_after_word (Spill i mask found) held = held
 -- the held set after the caller's step, one mask for each word
 abbrev pub held_after : {R : Type 0} → Layout → Step R → List ℕ → List ℕ
 held_after l (Word step) held = held_after_word step held
-held_after l (Post tag value) held = parted held (word_of l tag) (2 ^ place_of l tag)
+held_after l (Post tag note value) held = parted held (word_of l tag) (2 ^ place_of l tag)
 held_after l (Take tag zero value) held = held
 held_after l (Take tag (suc found) value) held = joined held (word_of l tag) (2 ^ place_of l tag)
+held_after l (ReadNote tag found) held = held
 held_after l (Bell step) held = held
 
 -- the sweep after a step on a word
@@ -48,8 +49,9 @@ swept_after_word _ swept = swept
 -- the sweep after the caller's step, one mask for each word
 abbrev pub swept_after : {R : Type 0} → Step R → List ℕ → List ℕ
 swept_after (Word step) swept = swept_after_word step swept
-swept_after (Post tag value) swept = swept
+swept_after (Post tag note value) swept = swept
 swept_after (Take tag found value) swept = swept
+swept_after (ReadNote tag found) swept = swept
 swept_after (Bell step) swept = swept
 
 -- the record after the caller's step

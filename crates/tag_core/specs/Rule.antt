@@ -1,14 +1,16 @@
 -- The rule of the table: words, states, slots and records show one world, which one history of all callers' steps
 -- gives.
-use Rattle.std.specs.Prelude.{◌<◌, ◌≡◌, ◌≤◌}
+use Rattle.std.specs.Prelude.{◌%◌, ◌*◌, ◌<◌, ◌≡◌, ◌≤◌}
 use Rattle.tag_core.specs.Uses.{back_in, bit_at, EachStands, get_elem?, got_in, Held, IsWithin, length, List, MOST_WON, none, Place, place_of, Posted, slice_index, some, State, word_of, words, ℕ}
 use mathlib.Core.Option as maybe
 use Rattle.tag_core.specs.Views.{View}
 use Rattle.tag_core.specs.declared.shape.Shape.{Shape}
 use Rattle.tag_core.specs.declared.record.Record.{Record}
-use Rattle.tag_core.specs.declared.bell.TheConstants.{LISTS}
-use Rattle.tag_core.specs.Spacing.{list_at, word_at, aside_at, state_at, table_width}
-use Rattle.tag_core.specs.Bits.{word_bit, aside_bit, posted_bit, held_bit, sweep_bit}
+use Rattle.tag_model.specs.declared.world.TheConstants.{MAX_CALLERS}
+use Rattle.tag_core.specs.declared.berth.TheConstants.{TURNS}
+use Rattle.tag_core.specs.Berths.{berth_word}
+use Rattle.tag_core.specs.Spacing.{aside_at, berth_at, clock_at, state_at, table_width, waiters_at, word_at}
+use Rattle.tag_core.specs.Bits.{word_bit, aside_bit, posted_bit, held_bit, state_word, sweep_bit}
 use Rattle.tag_core.specs.Histories.{Cells, History, cells_of, opening_world, world_of, IsLawful, last_post, steps_by}
 use Rattle.tag_core.specs.Records.{tag_bit}
 
@@ -17,13 +19,18 @@ pub record IsOpening (k : Shape) : Type 0 where
   pub unspent : (caller : ℕ) → (opening_world k).won caller ≤ MOST_WON
   pub even : got_in k.callers (opening_world k) ≡ back_in k.callers (opening_world k)
 
--- the table's words are the cells, of which no word has a bit that its layout has not
+-- the table's words are the cells, of which no word has a bit that its layout has not; the clock counts turns by 8, and
+-- begins anew where a turn would not fit a berth
 pub record HasCells (k : Shape) (table : List ℕ) (c : Cells) : Type 0 where
   pub wide : length table ≡ table_width k.layout
   pub word : (i : ℕ) → i < words k.layout → slice_index table (word_at i) ≡ c.words.word i
   pub aside : (i : ℕ) → i < words k.layout → slice_index table (aside_at i) ≡ c.words.aside i
-  pub state : (tag : ℕ) → tag < k.layout.depth → slice_index table (state_at k.layout tag) ≡ c.state tag
-  pub list : (list : ℕ) → list < LISTS → slice_index table (list_at list) ≡ c.lists list
+  pub state : (tag : ℕ) → tag < k.layout.depth → slice_index table (state_at k.layout tag)
+      ≡ state_word (c.state tag) (c.note tag)
+  pub waiters : slice_index table waiters_at ≡ c.waits.waiters
+  pub clock : slice_index table clock_at ≡ 8 * (c.waits.clock % TURNS)
+  pub berth : (caller : ℕ) → caller < MAX_CALLERS
+      → slice_index table (berth_at caller) ≡ berth_word (c.waits.berths caller)
   pub word_within : (i : ℕ) → i < words k.layout → IsWithin k.layout i (c.words.word i)
   pub aside_within : (i : ℕ) → i < words k.layout → IsWithin k.layout i (c.words.aside i)
 

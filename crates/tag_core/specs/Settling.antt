@@ -27,10 +27,10 @@ pub record AreSettled {R : Type 0} (k : Shape) (rs : List (Record R)) (totals : 
   pub totals_are : AreTotals k.layout k.callers (world_of k history) totals
   pub balance : totals.got ≡ totals.back + totals.held + totals.posted
 
--- these are the records of all callers; one lawful history shows them all, and leaves the list so
-pub record LeavesList {R : Type 0} (k : Shape) (rs : List (Record R)) (list listed : ℕ) : Type 0 where
+-- these are the records of all callers; one lawful history shows them all, and leaves the word of all who wait so
+pub record LeavesWaiters {R : Type 0} (k : Shape) (rs : List (Record R)) (waiting : ℕ) : Type 0 where
   pub history : History R
   pub lawful : IsLawful k history
   pub each : (i : ℕ) (r : Record R) → get_elem? rs i ≡ some r → IsKnown k history r
   pub every : HasRecords k.callers rs
-  pub listed_is : listed ≡ (cells_of history).lists list
+  pub waiting_is : waiting ≡ (cells_of history).waits.waiters

@@ -1,20 +1,24 @@
--- Where the lists of who waits, their turns, the words, the cleared sets and the states stand in the table. A spare word
--- at 0, the lists behind it and the clock of turns share 64 bytes; then come 64 words of turns, one for each caller; and
--- each word, its cleared set behind it, and then each state has 64 bytes of its own.
+-- Where the words stand by which callers wait, and the words, the cleared sets and the states of the tags. A spare word
+-- at 0, the word of all who wait behind it and the clock of turns share 64 bytes; then come 64 berths, one for each
+-- caller; and each word, its cleared set behind it, and then each state has 64 bytes of its own.
 use Rattle.std.specs.Prelude.{◌*◌, ◌+◌}
 use Rattle.tag_core.specs.Uses.{Layout, words, ℕ}
 
--- the index of a list of the callers that wait
-unfoldable pub list_at : ℕ → ℕ
-list_at list = list + 1
+-- the index of a word by which callers wait
+unfoldable pub bell_at : ℕ → ℕ
+bell_at i = i + 1
 
--- the index of the clock of turns
-unfoldable pub clock_at : ℕ
-clock_at = 3
+-- that of all who wait
+abbrev pub waiters_at : ℕ
+waiters_at = bell_at 0
 
--- the index of a caller's turn
-unfoldable pub turn_at : ℕ → ℕ
-turn_at caller = caller + 8
+-- the clock of turns
+abbrev pub clock_at : ℕ
+clock_at = bell_at 1
+
+-- a caller's berth
+abbrev pub berth_at : ℕ → ℕ
+berth_at caller = bell_at (caller + 7)
 
 -- the index of a word in the table
 unfoldable pub word_at : ℕ → ℕ

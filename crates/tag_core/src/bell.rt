@@ -1,22 +1,23 @@
-//! Lists of the callers that wait: how a caller lists itself, is told, and gets up.
-ghost use Rattle.std.specs.Prelude.{◌≡◌, ℕ, ◌<◌, ◌^◌, ◌↔◌, IsTrue, bit_and};
-ghost use Rattle.std.specs.Int.{bit_at};
+//! Callers that wait: how a caller lists itself, is told, and gets up.
+ghost use Rattle.std.specs.Prelude.{◌≡◌, ℕ, ◌<◌, bit_or};
 ghost use Rattle.tag_model.specs.declared.world.TheConstants.{MAX_CALLERS};
-ghost use Rattle.tag_core.specs.Callers.{IsCallerOf, IsUnchanged, record_of, Adds};
+ghost use Rattle.tag_core.specs.declared.berth.Berth.{Berth as BerthIs};
+ghost use Rattle.tag_core.specs.declared.berth.TheConstants.{TURNS};
+ghost use Rattle.tag_core.specs.Berths.{TurnFits};
+ghost use Rattle.tag_core.specs.Callers.{IsCallerOf, IsAmongWaiters, HasGotUp, record_of, Adds};
 ghost use Rattle.tag_core.specs.Holding.{HoldsSame};
-ghost use Rattle.tag_core.specs.Lists.{bit_of};
+ghost use Rattle.tag_core.specs.Waits.{AgreesWith, bit_of, HasTaken, newly_told};
 ghost use Rattle.tag_core.specs.declared.step.Step.TheVariants.{Bell};
-ghost use Rattle.tag_core.specs.declared.bell_step.BellStep.TheVariants.{Enlist, Sight, Tell, GetUp};
+ghost use Rattle.tag_core.specs.declared.bell_step.BellStep.TheVariants.{Enlist, Enter, GetUp, Leave, LookAll, LookAt, TakeTurn, Tell};
 
+use crate::berth::{Berth, Waiter};
 use crate::caller::Caller;
 use crate::map::Map;
-use crate::plays::{Enlisting, GettingUp, Sighting, Telling, Turning};
-use crate::sleeps::TURN;
-use crate::spots::{clock_spot, list_spot, turn_spot};
+use crate::plays::{
+    Enlisting, Entering, GettingUp, Leaving, LookingAll, LookingAt, TakingTurn, Telling,
+};
+use crate::spots::{berth_spot, clock_spot, waiters_spot};
 use std::marker::Model;
-
-/// Number of lists of the callers that wait: one of those that sleep, and one of those that are told by other means.
-pub const LISTS: u32 = 2;
 
 /// Callers that were told, a bit for the number of each: 1 is told. Contracts see the number. Only `tell` makes one that is
 /// not 0, and only its callers can be roused by it.
@@ -45,10 +46,17 @@ impl Unroused {
     {
         self.callers
     }
+
+    /// Adds those of another one.
+    pub fn join(&mut self, others: Unroused)
+        ensures { self.new ≡ bit_or self.old others }
+    {
+        self.callers |= others.callers;
+    }
 }
 
 impl<R> Map<R> {
-    /// The caller's bit in a list.
+    /// The caller's bit in the word of all who wait.
     fn own_bit(&self, caller: &Caller<R>) -> u64
         requires { IsCallerOf self.now caller.now }
         ensures { result ≡ bit_of (record_of caller.now).number }
@@ -56,87 +64,138 @@ impl<R> Map<R> {
         1 << caller.number
     }
 
-    /// Returns whether the caller is listed in a list that was found so. No step.
-    pub fn is_listed(&self, caller: &Caller<R>, listed: u64) -> bool
-        requires { IsCallerOf self.now caller.now }
-        ensures { IsTrue result ↔ (bit_at listed (record_of caller.now).number ≡ 1) }
-    {
-        listed >> caller.number & 1 == 1
-    }
-
-    /// Lists the caller among those that wait. One step, `fetch_or`.
-    pub fn enlist(&self, caller: &mut Caller<R>, list: u32)
-        requires caller { IsCallerOf self.now caller.old }
-        requires within { list < LISTS }
-        ensures caller { IsCallerOf self.now caller.new }
-        ensures step { (found : ℕ) × Adds (Bell (Enlist list (record_of caller.old).number found)) caller.old caller.new }
-        ensures kept { HoldsSame caller.old caller.new }
-    {
-        let bit = self.own_bit(caller);
-        let table = &self.table.shared;
-        table.fetch_or::<Enlisting>(&mut caller.seat, list_spot(list), bit);
-    }
-
-    /// Returns a list: a bit is 1 if the caller of that number is listed. One step, a load.
-    pub fn sight(&self, caller: &mut Caller<R>, list: u32) -> u64
-        requires caller { IsCallerOf self.now caller.old }
-        requires within { list < LISTS }
-        ensures caller { IsCallerOf self.now caller.new }
-        ensures step { Adds (Bell (Sight list result)) caller.old caller.new }
-        ensures kept { HoldsSame caller.old caller.new }
-    {
-        let table = &self.table.shared;
-        table.load::<Sighting>(&mut caller.seat, list_spot(list))
-    }
-
-    /// Removes the callers of a mask from a list. Those of them that were listed are told by it, and returned. One step,
-    /// `fetch_and`.
-    pub fn tell(&self, caller: &mut Caller<R>, list: u32, mask: u64) -> Unroused
-        requires caller { IsCallerOf self.now caller.old }
-        requires within { list < LISTS }
-        ensures caller { IsCallerOf self.now caller.new }
-        ensures step { (found : ℕ) × (found < 2 ^ 64) × Adds (Bell (Tell list mask found)) caller.old caller.new
-            × (result ≡ bit_and found mask) }
-        ensures kept { HoldsSame caller.old caller.new }
-    {
-        let table = &self.table.shared;
-        let found = table.fetch_and::<Telling>(&mut caller.seat, list_spot(list), !mask);
-        Unroused {
-            callers: found & mask,
-        }
-    }
-
-    /// Removes the caller from a list, and returns the list as it was: its own bit is 0 there if somebody has told it. One
-    /// step, `fetch_and`.
-    pub fn get_up(&self, caller: &mut Caller<R>, list: u32) -> u64
-        requires caller { IsCallerOf self.now caller.old }
-        requires within { list < LISTS }
-        ensures caller { IsCallerOf self.now caller.new }
-        ensures step { Adds (Bell (GetUp list (record_of caller.old).number result)) caller.old caller.new }
-        ensures kept { HoldsSame caller.old caller.new }
-    {
-        let bit = self.own_bit(caller);
-        let table = &self.table.shared;
-        table.fetch_and::<GettingUp>(&mut caller.seat, list_spot(list), !bit)
-    }
-
-    /// Gives the caller the next turn: a number above that of whoever took one before. A `fetch_add` of the clock and a
-    /// store of the caller's own turn, which stand in no list of steps.
-    pub fn take_turn(&self, caller: &mut Caller<R>)
+    /// The caller joins all who wait, before it lists itself. One step, `fetch_or`.
+    pub fn enter(&self, caller: &mut Caller<R>)
         requires { IsCallerOf self.now caller.old }
         ensures caller { IsCallerOf self.now caller.new }
-        ensures unchanged { IsUnchanged caller.old caller.new }
+        ensures step { (found : ℕ) × Adds (Bell (Enter (record_of caller.old).number found)) caller.old caller.new }
+        ensures kept { HoldsSame caller.old caller.new }
     {
+        let bit = self.own_bit(caller);
         let table = &self.table.shared;
-        let turn = table.fetch_add::<Turning>(&mut caller.seat, clock_spot(), TURN);
-        table.store::<Turning>(&mut caller.seat, turn_spot(caller.number), turn);
+        table.fetch_or::<Entering>(&mut caller.seat, waiters_spot(), bit);
     }
 
-    /// Loads the turn that the caller of this number took last, 0 if none. The load is in no list of steps, so no clause
-    /// says what it finds.
-    pub fn peek_turn(&self, caller: u32) -> u64
-        requires { caller < MAX_CALLERS }
+    /// The caller leaves all who wait, after it got up. One step, `fetch_and`.
+    pub fn leave(&self, caller: &mut Caller<R>)
+        requires caller { IsCallerOf self.now caller.old }
+        requires last { HasGotUp caller.old }
+        ensures caller { IsCallerOf self.now caller.new }
+        ensures step { (found : ℕ) × Adds (Bell (Leave (record_of caller.old).number found)) caller.old caller.new }
+        ensures kept { HoldsSame caller.old caller.new }
     {
-        self.table.shared.peek(turn_spot(caller))
+        let bit = self.own_bit(caller);
+        let table = &self.table.shared;
+        table.fetch_and::<Leaving>(&mut caller.seat, waiters_spot(), !bit);
+    }
+
+    /// Returns all who wait: a bit is 1 if the caller of that number does. One step, a load.
+    pub fn look_all(&self, caller: &mut Caller<R>) -> u64
+        requires { IsCallerOf self.now caller.old }
+        ensures caller { IsCallerOf self.now caller.new }
+        ensures step { Adds (Bell (LookAll result)) caller.old caller.new }
+        ensures kept { HoldsSame caller.old caller.new }
+    {
+        let table = &self.table.shared;
+        table.load::<LookingAll>(&mut caller.seat, waiters_spot())
+    }
+
+    /// Returns the next turn, which the caller takes. One step, `fetch_add` of the clock, which counts by 8 so that it
+    /// begins anew after `TURNS` turns.
+    pub fn take_turn(&self, caller: &mut Caller<R>) -> u64
+        requires { IsCallerOf self.now caller.old }
+        ensures caller { IsCallerOf self.now caller.new }
+        ensures step { Adds (Bell (TakeTurn result)) caller.old caller.new }
+        ensures within { result < TURNS }
+        ensures kept { HoldsSame caller.old caller.new }
+    {
+        let table = &self.table.shared;
+        let found = table.fetch_add::<TakingTurn>(&mut caller.seat, clock_spot(), 8);
+        found / 8
+    }
+
+    /// Lists the caller as this waiter, with a turn that it took, and returns its berth as it was. It is among all who
+    /// wait already. One step, a swap.
+    pub fn enlist(&self, caller: &mut Caller<R>, waiter: Waiter, turn: u64) -> Berth
+        requires caller { IsCallerOf self.now caller.old }
+        requires first { IsAmongWaiters caller.old }
+        requires taken { HasTaken turn (record_of caller.old).steps }
+        ensures caller { IsCallerOf self.now caller.new }
+        ensures step { Adds (Bell (Enlist (record_of caller.old).number waiter turn result)) caller.old caller.new }
+        ensures own { AgreesWith (record_of caller.old).steps result }
+        ensures kept { HoldsSame caller.old caller.new }
+    {
+        let word = Berth::Listed(waiter, turn).to_word();
+        let table = &self.table.shared;
+        let found = table.swap::<Enlisting>(&mut caller.seat, berth_spot(caller.number), word);
+        Berth::of_word(found)
+    }
+
+    /// Returns the berth of the caller of this number, which may be the caller itself. One step, a load.
+    pub fn look_at(&self, caller: &mut Caller<R>, whom: u32) -> Berth
+        requires caller { IsCallerOf self.now caller.old }
+        requires within { whom < MAX_CALLERS }
+        ensures caller { IsCallerOf self.now caller.new }
+        ensures step { Adds (Bell (LookAt whom result)) caller.old caller.new }
+        ensures fits { TurnFits result }
+        ensures own { whom ≡ (record_of caller.old).number → AgreesWith (record_of caller.old).steps result }
+        ensures kept { HoldsSame caller.old caller.new }
+    {
+        let table = &self.table.shared;
+        let found = table.load::<LookingAt>(&mut caller.seat, berth_spot(whom));
+        Berth::of_word(found)
+    }
+
+    /// Returns the caller's own berth. One step, a load.
+    pub fn look_at_own(&self, caller: &mut Caller<R>) -> Berth
+        requires { IsCallerOf self.now caller.old }
+        ensures caller { IsCallerOf self.now caller.new }
+        ensures step { Adds (Bell (LookAt (record_of caller.old).number result)) caller.old caller.new }
+        ensures fits { TurnFits result }
+        ensures own { AgreesWith (record_of caller.old).steps result }
+        ensures kept { HoldsSame caller.old caller.new }
+    {
+        let number = caller.number;
+        self.look_at(caller, number)
+    }
+
+    /// Tells the caller of this number, if it is listed as this waiter with this turn, and returns it then. One step, a
+    /// compare-and-exchange.
+    pub fn tell(&self, caller: &mut Caller<R>, whom: u32, waiter: Waiter, turn: u64) -> Unroused
+        requires caller { IsCallerOf self.now caller.old }
+        requires within { whom < MAX_CALLERS }
+        requires fits { turn < TURNS }
+        ensures caller { IsCallerOf self.now caller.new }
+        ensures step { (found : BerthIs) × Adds (Bell (Tell whom waiter turn found)) caller.old caller.new
+            × (result ≡ newly_told whom waiter turn found) }
+        ensures kept { HoldsSame caller.old caller.new }
+    {
+        let listed = Berth::Listed(waiter, turn).to_word();
+        let told = Berth::Told(waiter, turn).to_word();
+        let table = &self.table.shared;
+        let found = table.compare_exchange::<Telling>(
+            &mut caller.seat,
+            berth_spot(whom),
+            listed,
+            told,
+        );
+        if found != listed {
+            return Unroused::none();
+        }
+        Unroused { callers: 1 << whom }
+    }
+
+    /// The caller gets up: it is listed no more. Returns its berth as it was, which shows whether somebody had told it. One
+    /// step, a swap.
+    pub fn get_up(&self, caller: &mut Caller<R>) -> Berth
+        requires { IsCallerOf self.now caller.old }
+        ensures caller { IsCallerOf self.now caller.new }
+        ensures step { Adds (Bell (GetUp (record_of caller.old).number result)) caller.old caller.new }
+        ensures own { AgreesWith (record_of caller.old).steps result }
+        ensures kept { HoldsSame caller.old caller.new }
+    {
+        let table = &self.table.shared;
+        let found = table.swap::<GettingUp>(&mut caller.seat, berth_spot(caller.number), 0);
+        Berth::of_word(found)
     }
 }

@@ -26,7 +26,7 @@ fn count_posted<R>(ended: &Ended<R, Global>, layout: Layout) -> u64
 {
     let mut posted = 0u64;
     for tag in 0..layout.depth() {
-        if ended.word(state_spot(layout, tag)) == 1 {
+        if ended.word(state_spot(layout, tag)) != 0 {
             posted += 1;
         }
     }

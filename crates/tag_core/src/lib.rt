@@ -4,6 +4,7 @@
 
 mod bell;
 mod bell_step;
+mod berth;
 mod caller;
 mod claims;
 mod clears;
@@ -31,8 +32,9 @@ mod together;
 mod word_held;
 mod word_step;
 
-pub use bell::{LISTS, Unroused};
+pub use bell::Unroused;
 pub use bell_step::BellStep;
+pub use berth::{Berth, TURNS, Waiter};
 pub use caller::Caller;
 pub use claims::{Claim, Spent};
 pub use closed::{Closed, GatherFault};
@@ -40,10 +42,11 @@ pub use kept::Kept;
 pub use loans::{Lender, Loans};
 pub use map::Map;
 pub use opens::OpenFault;
+pub use posts::MOST_NOTE;
 pub use record::{Record, View};
 pub use settled::Settled;
 pub use shape::Shape;
-pub use sleeps::{OwnTurn, Roused};
+pub use sleeps::Roused;
 pub use step::Step;
 pub use step_ledger::GatherCause;
 pub use together::Gathering;

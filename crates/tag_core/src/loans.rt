@@ -5,10 +5,10 @@ ghost use Rattle.step_ledger.specs.Gather.{HasAll};
 
 use crate::caller::{APART, Caller};
 use crate::map::Map;
-use crate::plays::{Settling, SettlingList};
+use crate::plays::{Settling, SettlingWaiters};
 use crate::record::View;
 use crate::shape::Shape;
-use crate::spots::{SPARE, first_state, list_spot};
+use crate::spots::{SPARE, first_state, waiters_spot};
 use crate::together::Gathering;
 use atomic_table::Seat;
 use std::snapshot::Snapshot;
@@ -47,9 +47,7 @@ pub struct Loans<R> {
 impl<R> Gathering<R> {
     ghost use Rattle.tag_core.specs.Gathering.{IsGatheringOf, gathered, numbers};
     ghost use Rattle.tag_core.specs.Lending.{lent, AreLoansOf, BeginsWith};
-    ghost use Rattle.std.specs.Prelude.{◌<◌};
-    ghost use Rattle.tag_core.specs.declared.bell.TheConstants.{LISTS};
-    ghost use Rattle.tag_core.specs.Settling.{AreSettled, LeavesList};
+    ghost use Rattle.tag_core.specs.Settling.{AreSettled, LeavesWaiters};
 
     /// Returns the totals of all callers of the map, which have lent their records: tags won, given back, held and
     /// posted. Its one load, of the spare word, is not recorded as a step.
@@ -77,19 +75,18 @@ impl<R> Gathering<R> {
         (Loans { seat }, totals)
     }
 
-    /// Returns a list while all callers of the map are together: a bit is 1 if the caller of that number is listed. Its one
+    /// Returns who waits, while all callers of the map are together: a bit is 1 if the caller of that number does. Its one
     /// load is not recorded as a step.
-    pub fn listed(&mut self, map: &Map<R>, list: u32) -> u64
+    pub fn waiting(&mut self, map: &Map<R>) -> u64
         requires map { IsGatheringOf map.now self.old }
         requires first { BeginsWith map.now.shape (gathered self.old) }
         requires all { HasAll (numbers (gathered self.old)) map.now.shape.callers }
-        requires within { list < LISTS }
         ensures map { IsGatheringOf map.now self.new }
         ensures same { gathered self.new ≡ gathered self.old }
-        ensures listed { LeavesList map.now.shape (gathered self.old) list result }
+        ensures waiting { LeavesWaiters map.now.shape (gathered self.old) result }
     {
         let table = &map.table.shared;
-        table.load::<SettlingList>(&mut self.seat, list_spot(list))
+        table.load::<SettlingWaiters>(&mut self.seat, waiters_spot())
     }
 }
 

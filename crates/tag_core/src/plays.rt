@@ -1,7 +1,7 @@
 //! What each kind of step tells. These types are for the proofs alone.
 ghost use Rattle.std.specs.Prelude.{[]};
 ghost use Rattle.step_ledger.specs.Views.{viewing, first_view, other_views, both_views};
-ghost use Rattle.tag_core.specs.Plays.{looked, looked_aside, claimed, gave, put_aside, swapped, kept_least, spilled, posted, took, enlisted, sighted, told, got_up, turned, fronted, ordered, counted, met, settled, list_settled};
+ghost use Rattle.tag_core.specs.Plays.{looked, looked_aside, claimed, gave, put_aside, swapped, kept_least, spilled, posted, took, note_read, entered, left, looked_all, turn_taken, enlisted, looked_at, told, got_up, fronted, ordered, counted, met, settled, waiters_settled};
 
 use crate::record::View;
 use atomic_table::{Join, Play, Split};
@@ -67,16 +67,46 @@ impl<R> Play<R, View<R>> for Taking {
     ghost then = { took };
 }
 
+pub(crate) struct ReadingNote;
+
+impl<R> Play<R, View<R>> for ReadingNote {
+    ghost then = { note_read };
+}
+
+pub(crate) struct Entering;
+
+impl<R> Play<R, View<R>> for Entering {
+    ghost then = { entered };
+}
+
+pub(crate) struct Leaving;
+
+impl<R> Play<R, View<R>> for Leaving {
+    ghost then = { left };
+}
+
+pub(crate) struct LookingAll;
+
+impl<R> Play<R, View<R>> for LookingAll {
+    ghost then = { looked_all };
+}
+
+pub(crate) struct TakingTurn;
+
+impl<R> Play<R, View<R>> for TakingTurn {
+    ghost then = { turn_taken };
+}
+
 pub(crate) struct Enlisting;
 
 impl<R> Play<R, View<R>> for Enlisting {
     ghost then = { enlisted };
 }
 
-pub(crate) struct Sighting;
+pub(crate) struct LookingAt;
 
-impl<R> Play<R, View<R>> for Sighting {
-    ghost then = { sighted };
+impl<R> Play<R, View<R>> for LookingAt {
+    ghost then = { looked_at };
 }
 
 pub(crate) struct Telling;
@@ -89,12 +119,6 @@ pub(crate) struct GettingUp;
 
 impl<R> Play<R, View<R>> for GettingUp {
     ghost then = { got_up };
-}
-
-pub(crate) struct Turning;
-
-impl<R> Play<R, View<R>> for Turning {
-    ghost then = { turned };
 }
 
 pub(crate) struct Fronting;
@@ -127,10 +151,10 @@ impl<R> Play<R, View<R>> for Settling {
     ghost then = { settled };
 }
 
-pub(crate) struct SettlingList;
+pub(crate) struct SettlingWaiters;
 
-impl<R> Play<R, View<R>> for SettlingList {
-    ghost then = { list_settled };
+impl<R> Play<R, View<R>> for SettlingWaiters {
+    ghost then = { waiters_settled };
 }
 
 impl<R> Split<View<R>> for HandOut {

@@ -1,6 +1,7 @@
-//! Where the lists, the turns, the words, the cleared sets and the states are in the table. Nothing else knows the stride.
+//! Where the words by which callers wait, the words, the cleared sets and the states of the tags are in the table. Nothing
+//! else knows the stride.
 ghost use Rattle.std.specs.Prelude.{◌≡◌, ◌<◌};
-ghost use Rattle.tag_core.specs.Spacing.{list_at, clock_at, turn_at, word_at, aside_at, state_at, table_width};
+ghost use Rattle.tag_core.specs.Spacing.{waiters_at, clock_at, berth_at, word_at, aside_at, state_at, table_width};
 
 use crate::caller::Caller;
 use tag_layout::Layout;
@@ -8,29 +9,30 @@ use tag_layout::Layout;
 /// Distance between used words of the table, in words of 8 bytes: one cache line.
 const STRIDE: usize = 8;
 
-/// Number of cache lines before the first word: one for the spare word, the lists and the clock, and eight for the turns.
+/// Number of cache lines before the first word: one for the spare word, the word of all who wait and the clock, and eight
+/// for the berths.
 const HEAD: usize = 9;
 
 /// The index of the spare word, which shows nothing.
 pub(crate) const SPARE: usize = 0;
 
-/// The index of a list of the callers that wait. All lists lie in one cache line, since a look takes all of them.
-pub(crate) fn list_spot(list: u32) -> usize
-    ensures { result ≡ list_at list }
+/// The index of the word of all who wait.
+pub(crate) fn waiters_spot() -> usize
+    ensures { result ≡ waiters_at }
 {
-    list as usize + 1
+    1
 }
 
 /// The index of the clock of turns, which only callers that list themselves change.
 pub(crate) fn clock_spot() -> usize
     ensures { result ≡ clock_at }
 {
-    3
+    2
 }
 
-/// The index of a caller's turn.
-pub(crate) fn turn_spot(number: u32) -> usize
-    ensures { result ≡ turn_at number }
+/// The index of a caller's berth. Eight berths share a cache line, since whoever tells looks at all of them.
+pub(crate) fn berth_spot(number: u32) -> usize
+    ensures { result ≡ berth_at number }
 {
     number as usize + STRIDE
 }

@@ -26,7 +26,7 @@ module _ {R : Type 0} where
   module _ (pool : Pool R) (hands : List (Hand R)) (usage : Usage) (u : IsUsage pool (records_of hands) usage) where
     -- there are at most 64 hands
     pub few_hands : length hands ≤ 64
-    few_hands = let few = u.settled.ordinary.few in let long = length-records hands Ordinary in
+    few_hands = let few = u.ordinary.settled.few in let long = length-records hands Ordinary in
         let most = pool.ordinary.few.1 in omega arith
 
     most_won : (kind : Kind) → total_of (λ (r : Record R). r.won) (records_of hands kind) ≤ 64 * MOST_WON
@@ -34,24 +34,24 @@ module _ {R : Type 0} where
         let product : length hands * MOST_WON ≤ 64 * MOST_WON = mul-le-mul_right MOST_WON few_hands in omega arith
 
     -- so the sums over both sets fit
-    pub small_sums : (usage.ordinary.held + usage.reserved.held ≤ 128 * MOST_WON)
-        × (usage.ordinary.posted + usage.reserved.posted ≤ 128 * MOST_WON)
+    pub small_sums : (usage.ordinary.totals.held + usage.reserved.totals.held ≤ 128 * MOST_WON)
+        × (usage.ordinary.totals.posted + usage.reserved.totals.posted ≤ 128 * MOST_WON)
     small_sums =
         let a = most_won Ordinary in let b = most_won Reserved in
-        let x = u.settled.ordinary.got in let y = u.settled.reserved.got in
-        let p = u.settled.ordinary.balance in let q = u.settled.reserved.balance in (omega arith, omega arith)
+        let x = u.ordinary.settled.got in let y = u.reserved.settled.got in
+        let p = u.ordinary.settled.balance in let q = u.reserved.settled.balance in (omega arith, omega arith)
 
     -- they are those of the records
-    pub held_is : usage.ordinary.held + usage.reserved.held ≡ held_in_both hands
-    held_is = (λ j. u.settled.ordinary.held j + u.settled.reserved.held j)
+    pub held_is : usage.ordinary.totals.held + usage.reserved.totals.held ≡ held_in_both hands
+    held_is = (λ j. u.ordinary.settled.held j + u.reserved.settled.held j)
 
-    pub posted_are : usage.ordinary.posted + usage.reserved.posted ≡ posted_in_both hands
+    pub posted_are : usage.ordinary.totals.posted + usage.reserved.totals.posted ≡ posted_in_both hands
     posted_are = (λ j.
-        posted_is (shape_of pool Ordinary) (records_of hands Ordinary) usage.ordinary u.settled.ordinary j
-        + posted_is (shape_of pool Reserved) (records_of hands Reserved) usage.reserved u.settled.reserved j)
+        posted_is (shape_of pool Ordinary) (records_of hands Ordinary) usage.ordinary.totals u.ordinary.settled j
+        + posted_is (shape_of pool Reserved) (records_of hands Reserved) usage.reserved.totals u.reserved.settled j)
 
     pub balances : BalanceInBoth hands
     balances = (
-      balance_is (shape_of pool Ordinary) (records_of hands Ordinary) usage.ordinary u.settled.ordinary,
-      balance_is (shape_of pool Reserved) (records_of hands Reserved) usage.reserved u.settled.reserved,
+      balance_is (shape_of pool Ordinary) (records_of hands Ordinary) usage.ordinary.totals u.ordinary.settled,
+      balance_is (shape_of pool Reserved) (records_of hands Reserved) usage.reserved.totals u.reserved.settled,
     )

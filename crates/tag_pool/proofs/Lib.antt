@@ -4,11 +4,12 @@ pub mod Numbering
 pub mod Lifting
 pub mod Passing
 pub mod Clearing
-pub mod AfterWaking
 pub mod Getting
 pub mod ExactGets
 pub mod FirstTry
 pub mod WaitsKeep
+pub mod FewSteps
+pub mod ManyGets
 pub mod Fronts
 pub mod Opening
 pub mod MaskTags
@@ -25,6 +26,7 @@ pub mod OneByOne
 pub mod Placed
 pub mod Meetings
 pub mod InOneSet
+pub mod LentGets
 pub mod Sizes
 pub mod Marking
 pub mod Tallies
@@ -39,7 +41,7 @@ pub mod NextMaps
 pub mod Counted
 pub mod Refits
 pub mod SamePool
-pub mod ListedOnce
+pub mod Waiters
 pub mod Refusals
 pub mod Resized
 pub mod Waking

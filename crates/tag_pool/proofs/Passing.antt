@@ -1,9 +1,9 @@
 -- What clears, reads, writes, posts and takes in one set are for the hand.
-use Rattle.std.specs.Prelude.{◌-◌, ◌<◌, ◌≡◌, ◌≢◌, ◌≤◌}
+use Rattle.std.specs.Prelude.{◌-◌, ◌<◌, ◌≡◌, ◌≢◌, ◌≤◌, Option}
 use Rattle.tag_pool.proofs.Uses.{ap, arith, Changes, ChangesAt, dite, Hand, HoldsLess, Kind, kind_of, layout_of, number_in_set, Ordinary, other_kind, Pool, Record, record_of, refl, Reserved, Side, side_of, slot_of, some, split_of, subst, sym, tag_bit, with_side, ℕ, ℕ_discrete, ◌∙◌}
 use Rattle.tag_pool.specs.Sides as side
 use Rattle.tag_pool.specs.Clears.{Clears}
-use Rattle.tag_pool.specs.Slots.{Reads, Writes, Posts, Takes, Misses}
+use Rattle.tag_pool.specs.Slots.{Misses, Posts, Reads, ReadsNote, Takes, Writes}
 use Rattle.tag_pool.proofs.Numbering.{ordinary_above, reserved_below}
 use Rattle.tag_pool.proofs.Lifting.{less, more, same, same_but, none_new, one_like}
 use Rattle.tag_model.proofs.HoldingFacts.{less_like, more_like}
@@ -124,12 +124,12 @@ module _ {R : Type 0} where
             set = changes_at (λ j m. side.Writes m value) w;
           }
 
-      pub posts_at : side.Posts number (side_of hand kind) new → Posts tag hand after
-      posts_at p = record {
+      pub posts_at : (note : ℕ) → side.Posts number note (side_of hand kind) new → Posts tag note hand after
+      posts_at note p = record {
         value = p.value;
         slot = sym slot_before ∙ p.slot;
         less = loses p.less;
-        set = changes_at (λ j m. side.Posts m) p;
+        set = changes_at (λ j m. side.Posts m note) p;
       }
 
       pub clears_at : (pool : Pool R) → side.Puts (layout_of pool kind) number (side_of hand kind) new
@@ -149,4 +149,11 @@ module _ {R : Type 0} where
       misses_at m = record {
         same = same hand after kind beside parted (both side.HoldsSame m.same);
         set = changes_at (λ j n. side.Misses n) m;
+      }
+
+      pub reads_note_at : (answer : Option ℕ) → side.ReadsNote number answer (side_of hand kind) new
+          → ReadsNote tag answer hand after
+      reads_note_at answer r = record {
+        same = same hand after kind beside parted (both side.HoldsSame r.same);
+        set = changes_at (λ j n. side.ReadsNote n answer) r;
       }

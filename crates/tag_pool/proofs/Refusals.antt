@@ -10,7 +10,7 @@ use Rattle.tag_pool.specs.Resizing.{AreUsed, AreWaiting, HasMap, HasRange, IsOut
 use Rattle.tag_pool.specs.declared.resizes.PoolResizeFault.{PoolResizeFault}
 use Rattle.tag_pool.specs.declared.resizes.ResizeCause.{ResizeCause}
 use Rattle.tag_pool.specs.declared.resizes.ResizeCause.TheVariants.{DepthTooLarge, InUse, Memory, Missing, Waiting}
-use Rattle.tag_pool.proofs.ListedOnce.{one_listed}
+use Rattle.tag_pool.proofs.Waiters.{one_count}
 
 -- the least missing number is unique
 one_least : (ns : List ℕ) (count m n : ℕ) → IsLeastMissing ns count m → IsLeastMissing ns count n → m ≡ n
@@ -40,7 +40,7 @@ module _ {R : Type 0} (pool : Pool R) (hands : List (Hand R)) (total : ℕ) wher
     pub missing : (n : ℕ) → told (Missing n) ↔ IsMissing n
     pub too_deep : told DepthTooLarge ↔ IsTooDeep
     pub in_use : (held posted : ℕ) → told (InUse held posted) ↔ (HasMap pool hands total × AreUsed hands held posted)
-    pub waiting : (n : ℕ) → told (Waiting n) ↔ (HasMap pool hands total × AreWaiting pool hands n)
+    pub waiting : (n : ℕ) → told (Waiting n) ↔ (HasMap pool hands total × AreWaiting hands n)
     pub memory : told Memory → MayResize pool hands total
 
   abbrev Refused : ResizeCause → Type 0
@@ -75,14 +75,14 @@ module _ {R : Type 0} (pool : Pool R) (hands : List (Hand R)) (total : ℕ) wher
   is_in_use (Waiting count) is held posted fits used = absurd (used.2 is.1.0)
   is_in_use Memory is held posted fits used = absurd (used.2 is.1)
 
-  is_waiting : (cause : ResizeCause) → Refused cause → (n : ℕ) → HasMap pool hands total → AreWaiting pool hands n
+  is_waiting : (cause : ResizeCause) → Refused cause → (n : ℕ) → HasMap pool hands total → AreWaiting hands n
       → cause ≡ Waiting n
   is_waiting (Missing m) is n fits some = absurd (nobody_missing m fits.0 is)
   is_waiting DepthTooLarge is n fits some = absurd (too_deep_not fits is)
   is_waiting (InUse h p) is n fits some = absurd (is.1.2 some.0)
-  is_waiting (Waiting count) is n fits some = ap Waiting (one_listed pool hands count n is.1.1 some.1)
+  is_waiting (Waiting count) is n fits some = ap Waiting (one_count hands count n is.1.1 some.1)
   is_waiting Memory is n fits some =
-      let none = one_listed pool hands 0 n is.2 some.1 in let least = some.2 in absurd (omega arith)
+      let none = one_count hands 0 n is.2 some.1 in let least = some.2 in absurd (omega arith)
 
   pub told_err : (cause : ResizeCause) → Refused cause → AreTold (λ other. cause ≡ other)
   told_err cause is = record {
@@ -101,7 +101,7 @@ module _ {R : Type 0} (pool : Pool R) (hands : List (Hand R)) (total : ℕ) wher
     in_use = λ held posted. ((λ e. absurd e), λ used. used.1.2 may.1);
     waiting = λ n. (
       (λ e. absurd e),
-      λ some. let none = one_listed pool hands 0 n may.2 some.1.1 in let least = some.1.2 in absurd (omega arith),
+      λ some. let none = one_count hands 0 n may.2 some.1.1 in let least = some.1.2 in absurd (omega arith),
     );
     memory = λ e. absurd e;
   }

@@ -5,14 +5,12 @@ use Rattle.std.proofs.Common.{length-append}
 use Rattle.tag_pool.proofs.Uses.{[], All, ap, append_assoc, arith, Hand, IsHandOf, Kind, List, Ordinary, Pool, Record, record_of, refl, Reserved, subst, suc, sym, ℕ, ◌∙◌}
 use Rattle.step_ledger.proofs.Turned.{all_front, all_last}
 use Rattle.step_ledger.specs.Gather.{HasAll}
-use Rattle.tag_bell.specs.declared.told.TheConstants.{LISTENERS, SLEEPERS}
 use Rattle.step_ledger.proofs.Seats.{pairs_more}
 use Rattle.tag_core.specs.Gathering.{numbers}
-use Rattle.tag_core.specs.Settling.{AreSettled, LeavesList}
 use Rattle.tag_pool.specs.Gathering.{numbers_of, records_of, shape_of}
 use Rattle.tag_pool.specs.Hands.{caller_of}
 use Rattle.tag_pool.specs.Holding.{IsUnchanged}
-use Rattle.tag_pool.specs.Using.{AreUnchanged, IsUsage}
+use Rattle.tag_pool.specs.Using.{AreUnchanged, IsSetUsage, IsUsage}
 use Rattle.tag_pool.specs.declared.usage.Usage.{Usage}
 use Rattle.tag_pool.proofs.Gathered.{record_numbers}
 use Rattle.tag_pool.proofs.StillSame.{number_kept}
@@ -104,14 +102,6 @@ module _ {R : Type 0} where
       → before Reserved ≡ after Reserved → before Ordinary ≡ after Ordinary → IsUsage pool before usage
       → IsUsage pool after usage
   usage_like pool before after usage reserved ordinary u = record {
-    settled = record {
-      reserved = subst (λ (rs : List (Record R)). AreSettled (shape_of pool Reserved) rs usage.reserved) reserved
-          u.settled.reserved;
-      ordinary = subst (λ (rs : List (Record R)). AreSettled (shape_of pool Ordinary) rs usage.ordinary) ordinary
-          u.settled.ordinary;
-    };
-    sleepers = subst (λ (rs : List (Record R)). LeavesList (shape_of pool Ordinary) rs SLEEPERS usage.sleepers) ordinary
-        u.sleepers;
-    listeners = subst (λ (rs : List (Record R)). LeavesList (shape_of pool Ordinary) rs LISTENERS usage.listeners) ordinary
-        u.listeners;
+    reserved = subst (λ (rs : List (Record R)). IsSetUsage (shape_of pool Reserved) rs usage.reserved) reserved u.reserved;
+    ordinary = subst (λ (rs : List (Record R)). IsSetUsage (shape_of pool Ordinary) rs usage.ordinary) ordinary u.ordinary;
   }

@@ -29,7 +29,6 @@ pub use Rattle.tag_search.specs.declared.found.Found.{Found}
 pub use Rattle.tag_pool.specs.Sets.{first_of, kind_of, number_in_set, numbers_of, other_kind}
 pub use Rattle.tag_pool.specs.Lending.{side_of, with_side}
 pub use Rattle.tag_pool.specs.Gets.{Gets, LooksAfter, whole}
-pub use Rattle.tag_pool.specs.Clears.{WakesFor}
 pub use Rattle.tag_pool.specs.Hands.{back_of, Changes, ChangesAt, hint_of, Holds, IsHandOf, IsStillOf, layout_of, map_of, reserved_of, slot_of, split_of, step_count, total_of}
 pub use Rattle.tag_pool.specs.Holding.{HoldsLess, HoldsMore, HoldsSame}
 pub use Rattle.tag_pool.specs.declared.fault.TagFault.{TagFault}

@@ -40,12 +40,12 @@ pub record DoesClearMask {R : Type 0} (first mask : ℕ) (pool : Pool R) (result
   pub back : OnOk result (back_of new Ordinary ≡ back_of old Ordinary + count_ones mask)
   pub bound : OnOk result (step_count new ≤ mask_words pool first mask + step_count old)
 
--- the hand cleared the tags in the list, of which there are n, and then told up to n hands of each list that wait, and
+-- the hand cleared the tags in the list, of which there are n, and then told up to n of each kind that waits, and
 -- woke the sleepers among them
 pub record GivesBackAndWakes {R : Type 0} (pool : Pool R) (list : List ℕ) (n : ℕ) (woken : Woken) (old new : Hand R)
     : Type 0 where
   pub between : Hand R
   pub gives : GivesBack pool list old between
-  pub wakes : Changes Ordinary (side.SeesToAndWakes n 6 woken) between new
+  pub wakes : Changes Ordinary (side.SeesToAndWakes n side.see_to_steps woken) between new
   pub less : HoldsLess (Contains list) old new
   pub back : back_of new Ordinary ≡ back_of old Ordinary + n

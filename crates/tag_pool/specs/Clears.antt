@@ -1,13 +1,10 @@
 -- The effect of clears on the hand that makes them.
 use Rattle.std.specs.Prelude.{◌+◌, ◌≡◌, ◌≤◌}
 use Rattle.tag_pool.specs.Uses.{IfOk, OnOk, RefusesBy, Result, ℕ}
-use Rattle.tag_bell.specs.Calls.{nobody}
-use Rattle.tag_bell.specs.Sleeping.{told_by}
 use Rattle.tag_bell.specs.declared.sleeping.Woken.{Woken}
 use Rattle.tag_pool.specs.declared.fault.TagFault.{TagFault}
 use Rattle.tag_pool.specs.declared.hand.Hand.{Hand}
 use Rattle.tag_pool.specs.declared.kind.Kind.{Kind}
-use Rattle.tag_pool.specs.declared.kind.Kind.TheVariants.{Ordinary, Reserved}
 use Rattle.tag_pool.specs.declared.pool.Pool.{Pool}
 use Rattle.tag_pool.specs.Sets.{kind_of}
 use Rattle.tag_pool.specs.Sides as side
@@ -29,19 +26,14 @@ pub record DoesClear {R : Type 0} (tag : ℕ) (pool : Pool R) (result : Result K
   pub kind : IfOk result (λ kind. kind ≡ kind_of (reserved_of pool) tag)
   pub bound : step_count new ≤ 1 + step_count old
 
--- after a clear of a tag of this kind: nobody waits for a reserved tag, so nobody is told of one
-abbrev pub WakesFor : {R : Type 0} → Kind → Woken → Hand R → Hand R → Type 0
-WakesFor Ordinary woken old new = Changes Ordinary (side.SeesToAndWakes 1 6 woken) old new
-WakesFor Reserved woken old new = (told_by woken ≡ nobody) × (new ≡ old)
-
--- the hand cleared the tag, and then saw to what it had to see to, and woke those whom this told
+-- the hand cleared the tag, and then saw to what it had to see to in the tag's set, and woke those whom this told
 pub record ClearsAndWakes {R : Type 0} (pool : Pool R) (tag : ℕ) (woken : Woken) (old new : Hand R) : Type 0 where
   pub between : Hand R
   pub clears : Clears pool tag old between
-  pub wakes : WakesFor (kind_of (reserved_of pool) tag) woken between new
+  pub wakes : Changes (kind_of (reserved_of pool) tag) (side.SeesToAndWakes 1 side.see_to_steps woken) between new
   pub less : HoldsLess (λ other. other ≡ tag) old new
   pub back : let kind = kind_of (reserved_of pool) tag in back_of new kind ≡ back_of old kind + 1
 
 -- the most steps of such a clear
 abbrev pub clear_steps : ℕ
-clear_steps = 1 + 6
+clear_steps = 1 + side.see_to_steps

@@ -4,7 +4,6 @@ use Rattle.tag_pool.specs.Uses.{Found, IfOk, IfSome, Option, RefusesBy, Result, 
 use Rattle.tag_search.specs.Exact.{most_exact_steps}
 use Rattle.tag_pool.specs.declared.fault.TagFault.{TagFault}
 use Rattle.tag_pool.specs.declared.hand.Hand.{Hand}
-use Rattle.tag_pool.specs.declared.kind.Kind.TheVariants.{Ordinary}
 use Rattle.tag_pool.specs.declared.pool.Pool.{Pool}
 use Rattle.tag_pool.specs.Gets.{GetsBy, left_free}
 use Rattle.tag_pool.specs.Hands.{layout_of, reserved_of, step_count}
@@ -18,10 +17,10 @@ pub record GetsExactly {R : Type 0} (pool : Pool R) (tag : ℕ) (answer : Option
   pub gets : let kind = kind_of (reserved_of pool) tag in
       GetsBy pool kind (side.GetsExactly (layout_of pool kind) (number_in_set (reserved_of pool) tag)) answer old new
 
--- gets this tag if it is free, and tells how many ordinary tags its sweeps left free
+-- gets this tag if it is free, and tells how many of its kind its sweeps left free
 pub record DoesGetExactly {R : Type 0} (tag : ℕ) (pool : Pool R) (result : Result (Found ℕ) TagFault) (old new : Hand R)
     : Type 0 where
   pub refusals : RefusesBy (exact_checks pool tag old) (new ≡ old) result
   pub gets : IfOk result (λ found. GetsExactly pool tag found.answer old new)
-  pub left : IfOk result (λ found. found.left ≡ left_free Ordinary old new)
+  pub left : IfOk result (λ found. found.left ≡ left_free (kind_of (reserved_of pool) tag) old new)
   pub bound : step_count new ≤ most_exact_steps + step_count old

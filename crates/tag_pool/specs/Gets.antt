@@ -99,21 +99,23 @@ pub record DoesGetBatch {R : Type 0} (n : ℕ) (pool : Pool R) (result : Result 
   pub left : IfOk result (λ found. found.left ≡ left_free Ordinary old new)
   pub bound : step_count new ≤ most_steps pool Ordinary + step_count old
 
--- gets a reserved tag
-pub record DoesGetReserved {R : Type 0} (pool : Pool R) (result : Result (Option ℕ) TagFault) (old new : Hand R)
+-- gets a reserved tag, and tells how many its sweeps left free
+pub record DoesGetReserved {R : Type 0} (pool : Pool R) (result : Result (Found ℕ) TagFault) (old new : Hand R)
     : Type 0 where
   pub refusals : RefusesBy (reserved_checks pool old) (new ≡ old) result
-  pub gets : IfOk result (λ answer. Gets pool Reserved answer old new)
+  pub gets : IfOk result (λ found. Gets pool Reserved found.answer old new)
+  pub left : IfOk result (λ found. found.left ≡ left_free Reserved old new)
   pub bound : step_count new ≤ most_steps pool Reserved + step_count old
 
--- the hand sees to the ordinary tags that its get left free, if it left any, and wakes those whom this told
-pub record LooksAfter {R : Type 0} (left : ℕ) (woken : Woken) (old new : Hand R) : Type 0 where
+-- the hand sees to the tags of this kind that its get left free, if it left any, and wakes those whom this told
+pub record LooksAfter {R : Type 0} (kind : Kind) (left : ℕ) (woken : Woken) (old new : Hand R) : Type 0 where
   pub none : left ≡ 0 → (new ≡ old) × (told_by woken ≡ nobody)
-  pub some : 1 ≤ left → Changes Ordinary (side.SeesToAndWakes (max (min left 64) 1) 6 woken) old new
+  pub some : 1 ≤ left → Changes kind (side.SeesToAndWakes (max (min left 64) 1) side.see_to_steps woken) old new
   pub same : HoldsSame old new
 
--- such a get, and then the look for waiters that it calls for, whatever it answered
-pub record GetsAndLooks {R : Type 0} (Gets : Hand R → Hand R → Type 0) (woken : Woken) (old new : Hand R) : Type 0 where
+-- such a get of this kind, and then the look for waiters that it calls for, whatever it answered
+pub record GetsAndLooks {R : Type 0} (kind : Kind) (Gets : Hand R → Hand R → Type 0) (woken : Woken) (old new : Hand R)
+    : Type 0 where
   pub searched : Hand R
   pub gets : Gets old searched
-  pub looks : LooksAfter (left_free Ordinary old searched) woken searched new
+  pub looks : LooksAfter kind (left_free kind old searched) woken searched new

@@ -16,6 +16,7 @@ pub mod Waits
 pub mod Slots
 pub mod Clears
 pub mod Batches
+pub mod Many
 pub mod Opening
 pub mod Placing
 pub mod Meeting

@@ -6,6 +6,7 @@ use Rattle.tag_pool.specs.declared.fault.OpenFault.TheVariants.{CallerCount, Lif
 use Rattle.tag_pool.specs.declared.fault.TagFault.{TagFault}
 use Rattle.tag_pool.specs.declared.fault.TagFault.TheVariants.{BadCount, NoReserved, NoSuchTag, NotHeld, Spent, TooShallow}
 use Rattle.tag_pool.specs.declared.hand.Hand.{Hand}
+use Rattle.tag_pool.specs.declared.kind.Kind.{Kind}
 use Rattle.tag_pool.specs.declared.kind.Kind.TheVariants.{Ordinary, Reserved}
 use Rattle.tag_pool.specs.declared.options.Options.{Options}
 use Rattle.tag_pool.specs.declared.pool.Pool.{Pool}
@@ -42,9 +43,18 @@ abbrev pub batch_checks : {R : Type 0} → Pool R → Hand R → ℕ → Checks 
 batch_checks pool hand n = (CountsBatch pool n, BadCount)
     ∷ ((hint_of hand Ordinary).round_robin ≡ false → HasRoom hand Ordinary n, Spent) ∷ []
 
--- a get that waits
-abbrev pub blocking_checks : {R : Type 0} → Pool R → Hand R → Checks TagFault
-blocking_checks pool hand = (reserved_of pool < total_of pool, NoSuchTag) ∷ (HasRoom hand Ordinary 1, Spent) ∷ []
+-- a get of n tags, all or none
+abbrev pub many_checks : {R : Type 0} → Pool R → Hand R → ℕ → Checks TagFault
+many_checks pool hand n = (n ≤ (layout_of pool Ordinary).depth, BadCount) ∷ (HasRoom hand Ordinary n, Spent) ∷ []
+
+-- what tells that there is no tag of this kind
+abbrev pub none_of : Kind → TagFault
+none_of Ordinary = NoSuchTag
+none_of Reserved = NoReserved
+
+-- a get of this kind that waits
+abbrev pub blocking_checks : {R : Type 0} → Pool R → Hand R → Kind → Checks TagFault
+blocking_checks pool hand kind = (1 ≤ (layout_of pool kind).depth, none_of kind) ∷ (HasRoom hand kind 1, Spent) ∷ []
 
 -- a get of a reserved tag
 abbrev pub reserved_checks : {R : Type 0} → Pool R → Hand R → Checks TagFault

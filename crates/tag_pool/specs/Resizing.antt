@@ -1,14 +1,13 @@
 -- Resizes of the ordinary set: when they are refused, and what they change.
-use Rattle.std.specs.Prelude.{◌+◌, ◌-◌, ◌<◌, ◌≡◌, ◌≤◌, ◌⊎◌, bit_or, count_by, nat_eq}
+use Rattle.std.specs.Prelude.{◌+◌, ◌-◌, ◌<◌, ◌↔◌, ◌≡◌, ◌≤◌, ◌⊎◌, count_by, nat_eq}
 use Rattle.std.specs.Int.{bit_at}
 use Rattle.std.specs.Result.{IsErrAnd}
 use Rattle.tag_pool.specs.Uses.{All, Bool, Caller, Layout, List, Map, map, MAX_DEPTH, record_of, Result, ℕ}
 use Rattle.step_ledger.specs.Gather.{HasAll, IsLeastMissing}
-use Rattle.tag_bell.specs.declared.told.TheConstants.{LISTENERS, SLEEPERS}
 use Rattle.tag_core.specs.Callers as core
 use Rattle.tag_core.specs.Chain.{GoesOn}
 use Rattle.tag_core.specs.Reopening.{IsNext, AreReopened, LeadsOn, AllFree}
-use Rattle.tag_core.specs.Settling.{AreSettled, LeavesList}
+use Rattle.tag_core.specs.Settling.{AreSettled}
 use Rattle.tag_core.specs.declared.record.Record.{Record}
 use Rattle.tag_core.specs.declared.shape.Shape.{Shape}
 use Rattle.tag_model.specs.declared.totals.Totals.{Totals}
@@ -20,8 +19,8 @@ use Rattle.tag_pool.specs.declared.pool.Pool.{Pool}
 use Rattle.tag_pool.specs.declared.resizes.PoolResizeFault.{PoolResizeFault}
 use Rattle.tag_pool.specs.declared.resizes.ResizeCause.{ResizeCause}
 use Rattle.tag_pool.specs.declared.resizes.ResizeCause.TheVariants.{Missing, DepthTooLarge, InUse, Waiting, Memory}
-use Rattle.tag_pool.specs.Gathering.{callers_of, numbers_of, records_of, shape_of}
-use Rattle.tag_pool.specs.Hands.{fill_of, hands_of, hint_of, IsHandOf, layout_of, least_of, reserved_of, total_of}
+use Rattle.tag_pool.specs.Gathering.{callers_of, numbers_of, records_of}
+use Rattle.tag_pool.specs.Hands.{caller_of, fill_of, hands_of, hint_of, IsHandOf, layout_of, least_of, number_of, reserved_of, total_of}
 use Rattle.tag_pool.specs.Using.{Balance, held_in, posted_in}
 
 -- the number of tags of both sets that these hands hold
@@ -44,13 +43,15 @@ AreUnused hands = (held_in_both hands ≡ 0) × (posted_in_both hands ≡ 0)
 abbrev pub has_bit : ℕ → ℕ → Bool
 has_bit mask number = nat_eq (bit_at mask number) 1
 
--- as the steps of all hands leave the two lists, this many hands are listed in one of them
-pub record AreListed {R : Type 0} (pool : Pool R) (hands : List (Hand R)) (count : ℕ) : Type 0 where
-  pub sleepers : ℕ
-  pub listeners : ℕ
-  pub sleepers_are : LeavesList (shape_of pool Ordinary) (records_of hands Ordinary) SLEEPERS sleepers
-  pub listeners_are : LeavesList (shape_of pool Ordinary) (records_of hands Ordinary) LISTENERS listeners
-  pub count_is : count ≡ count_by (has_bit (bit_or sleepers listeners)) (numbers_of hands)
+-- by its own steps the hand is among those that wait for a tag of one of the sets
+abbrev pub Waits : {R : Type 0} → Hand R → Type 0
+Waits hand = core.IsAmongWaiters (caller_of hand Ordinary) ⊎ core.IsAmongWaiters (caller_of hand Reserved)
+
+-- this many of the hands wait, those whose bit is 1 in the mask
+pub record HaveWaiters {R : Type 0} (hands : List (Hand R)) (count : ℕ) : Type 0 where
+  pub mask : ℕ
+  pub mask_is : All (λ hand. (bit_at mask (number_of hand) ≡ 1) ↔ Waits hand) hands
+  pub count_is : count ≡ count_by (has_bit mask) (numbers_of hands)
 
 -- the total is one to which the reserved tags leave the rest
 abbrev pub HasRange : ℕ → ℕ → Type 0
@@ -66,21 +67,21 @@ HasMap pool hands total = HasAll (numbers_of hands) (hands_of pool) × HasRange 
 
 -- a resize can fail only for lack of memory
 abbrev pub MayResize : {R : Type 0} → Pool R → List (Hand R) → ℕ → Type 0
-MayResize pool hands total = HasMap pool hands total × AreUnused hands × AreListed pool hands 0
+MayResize pool hands total = HasMap pool hands total × AreUnused hands × HaveWaiters hands 0
 
 -- this many tags are held and this many are posted, and at least one tag is either
 abbrev pub AreUsed : {R : Type 0} → List (Hand R) → ℕ → ℕ → Type 0
 AreUsed hands held posted = (held ≡ held_in_both hands) × (posted ≡ posted_in_both hands) × ¬ (AreUnused hands)
 
--- no tag is in use, and this many hands are listed, at least one
-abbrev pub AreWaiting : {R : Type 0} → Pool R → List (Hand R) → ℕ → Type 0
-AreWaiting pool hands count = AreUnused hands × AreListed pool hands count × (1 ≤ count)
+-- no tag is in use, and this many hands wait, at least one
+abbrev pub AreWaiting : {R : Type 0} → List (Hand R) → ℕ → Type 0
+AreWaiting hands count = AreUnused hands × HaveWaiters hands count × (1 ≤ count)
 
--- tags are in use or hands are listed, as the cause says
-abbrev pub IsBusyFor : {R : Type 0} → Pool R → List (Hand R) → ResizeCause → Type 0
-IsBusyFor pool hands (InUse held posted) = AreUsed hands held posted
-IsBusyFor pool hands (Waiting count) = AreWaiting pool hands count
-IsBusyFor pool hands _ = ⊥
+-- tags are in use or hands wait, as the cause says
+abbrev pub IsBusyFor : {R : Type 0} → List (Hand R) → ResizeCause → Type 0
+IsBusyFor hands (InUse held posted) = AreUsed hands held posted
+IsBusyFor hands (Waiting count) = AreWaiting hands count
+IsBusyFor hands _ = ⊥
 
 -- what holds if a resize is refused for this cause
 abbrev pub IsRefusedFor : {R : Type 0} → Pool R → List (Hand R) → ℕ → ResizeCause → Type 0
@@ -88,7 +89,7 @@ IsRefusedFor pool hands total (Missing number) = IsLeastMissing (numbers_of hand
 IsRefusedFor pool hands total DepthTooLarge =
     HasAll (numbers_of hands) (hands_of pool) × IsOutOfRange total (reserved_of pool)
 IsRefusedFor pool hands total (InUse held posted) = HasMap pool hands total × AreUsed hands held posted
-IsRefusedFor pool hands total (Waiting count) = HasMap pool hands total × AreWaiting pool hands count
+IsRefusedFor pool hands total (Waiting count) = HasMap pool hands total × AreWaiting hands count
 IsRefusedFor pool hands total Memory = MayResize pool hands total
 
 -- the result is a refusal for this cause

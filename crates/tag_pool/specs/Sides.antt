@@ -1,9 +1,10 @@
 -- What a hand has in one of the two sets, and how calls change it.
-use Rattle.std.specs.Prelude.{◌*◌, ◌+◌, ◌/◌, ◌<◌, ◌^◌, ◌↔◌, ◌≡◌, ◌≢◌, ◌≤◌}
-use Rattle.tag_pool.specs.Uses.{Adds, BatchFollows, Caller, ClearFollows, Hint, HintFollows, IfNone, Layout, length, List, Makes, Map, None, Option, place_of, Post, Put, record_of, SameMap, Some, some, Take, Word, word_bits, word_of, words, ℕ}
+use Rattle.std.specs.Prelude.{◌*◌, ◌+◌, ◌/◌, ◌^◌, ◌↔◌, ◌≡◌, ◌≢◌, ◌≤◌, ◌⊎◌}
+use Rattle.tag_pool.specs.Uses.{Adds, BatchFollows, Caller, ClearFollows, Hint, HintFollows, IfNone, Layout, length, List, Makes, Map, MAX_CALLERS, None, Option, place_of, Post, Put, ReadNote, record_of, SameMap, Some, some, Take, Word, word_bits, word_of, words, ℕ}
 use mathlib.Core.Option as maybe
 use Rattle.tag_core.specs.Callers as core
 use Rattle.tag_core.specs.Holding as callers
+use Rattle.tag_core.specs.Notes.{found_of, IsTrueNote}
 use Rattle.tag_search.specs.Alone.{IsAlone, Chooses, ChoosesRun}
 use Rattle.tag_search.specs.Batch.{IsBatchGet}
 use Rattle.tag_search.specs.Exact.{IsExactGet, visits_at}
@@ -15,12 +16,12 @@ use Rattle.tag_search.specs.Shared as search
 use Rattle.tag_search.specs.Vain.{MaySleep, TriesAll}
 use Rattle.tag_search.specs.Visits.{plain_visits, shallow_visits}
 use Rattle.tag_bell.specs.Callers.{OwesNothing, WaitsAsBefore}
-use Rattle.tag_bell.specs.Calls.{Tells}
-use Rattle.tag_bell.specs.Selection.{TellsFew}
+use Rattle.tag_bell.specs.Calls.{nobody, Tells}
 use Rattle.tag_bell.specs.Sleeping.{told_by}
+use Rattle.tag_bell.specs.Telling.{TellsInTurn}
 use Rattle.tag_bell.specs.declared.told.Told.{Told}
 use Rattle.tag_bell.specs.declared.sleeping.Woken.{Woken}
-use Rattle.tag_core.specs.declared.bell.TheConstants.{LISTS}
+use Rattle.tag_core.specs.declared.berth.Waiter.{Waiter}
 use Rattle.tag_pool.specs.declared.side.Side.{Side}
 
 -- the caller of the set's map
@@ -100,11 +101,11 @@ pub record Writes {R : Type 0} (tag : ℕ) (value : R) (old new : Side R) : Type
   pub same_map : SameMap (caller_of old) (caller_of new)
   pub hint : hint_of new ≡ hint_of old
 
--- the tag is posted with the value of its slot, and no longer held
-pub record Posts {R : Type 0} (tag : ℕ) (old new : Side R) : Type 0 where
+-- the tag is posted with this note and the value of its slot, and no longer held
+pub record Posts {R : Type 0} (tag note : ℕ) (old new : Side R) : Type 0 where
   pub value : R
   pub slot : slot_of old tag ≡ some value
-  pub step : Adds (Post tag value) (caller_of old) (caller_of new)
+  pub step : Adds (Post tag note value) (caller_of old) (caller_of new)
   pub less : HoldsLess (λ other. other ≡ tag) old new
   pub hint : hint_of new ≡ hint_of old
 
@@ -119,6 +120,13 @@ pub record Takes {R : Type 0} (tag : ℕ) (old new : Side R) : Type 0 where
 -- the tag was found not posted, by a step that changes nothing in the map
 pub record Misses {R : Type 0} (tag : ℕ) (old new : Side R) : Type 0 where
   pub step : Adds (Take tag 0 None) (caller_of old) (caller_of new)
+  pub same : HoldsSame old new
+  pub hint : hint_of new ≡ hint_of old
+
+-- the tag was found so by a load: not posted, or posted with this note, as it was at that moment
+pub record ReadsNote {R : Type 0} (tag : ℕ) (answer : Option ℕ) (old new : Side R) : Type 0 where
+  pub step : Adds (ReadNote tag (found_of answer)) (caller_of old) (caller_of new)
+  pub true_then : IsTrueNote R (record_of (caller_of old)).shape (record_of (caller_of old)).number tag answer
   pub same : HoldsSame old new
   pub hint : hint_of new ≡ hint_of old
 
@@ -177,13 +185,13 @@ pub record IsUnchanged {R : Type 0} (old new : Side R) : Type 0 where
   pub holds : (tag : ℕ) → Holds new tag ↔ Holds old tag
   pub hint : hint_of new ≡ hint_of old
 
--- there is nothing more to see to: by at most so many steps these were told, at most `limit` of each list unless those that
--- were chosen were gone, or it was found that nobody waits
+-- there is nothing more to see to: by at most so many steps these were told, if anybody, in the order of their turns: of
+-- each kind of waiter `limit`, or fewer if it is done with each, or if enough sleepers come already
 pub record SeesTo {R : Type 0} (limit most : ℕ) (told : Told) (old new : Side R) : Type 0 where
-  pub done : (list : ℕ) → list < LISTS → OwesNothing list (caller_of new)
+  pub done : (waiter : Waiter) → OwesNothing waiter (caller_of new)
   pub tells : Tells most told (caller_of old) (caller_of new)
-  pub few : TellsFew limit told (caller_of old) (caller_of new)
-  pub waits : (list : ℕ) → WaitsAsBefore list (caller_of old) (caller_of new)
+  pub turns : (told ≡ nobody) ⊎ TellsInTurn limit told (caller_of old) (caller_of new)
+  pub waits : WaitsAsBefore (caller_of old) (caller_of new)
   pub holds : HoldsSame old new
   pub hint : hint_of new ≡ hint_of old
 
@@ -191,6 +199,9 @@ pub record SeesTo {R : Type 0} (limit most : ℕ) (told : Told) (old new : Side 
 abbrev pub SeesToAndWakes : {R : Type 0} → ℕ → ℕ → Woken → Side R → Side R → Type 0
 SeesToAndWakes limit most woken = SeesTo limit most (told_by woken)
 
--- the most steps by which all tags are seen to
+-- the most steps by which it is seen to tags that were made free, and to all tags
+abbrev pub see_to_steps : ℕ
+see_to_steps = 2 * MAX_CALLERS + 1
+
 abbrev pub see_to_all_steps : Layout → ℕ
-see_to_all_steps l = 2 * words l + 8
+see_to_all_steps l = 2 * words l + 2 * MAX_CALLERS + 2

@@ -1,6 +1,6 @@
 -- The effect of reads and writes of slots, posts and takes on the hand that makes them.
 use Rattle.std.specs.Prelude.{◌↔◌, ◌≡◌, ◌≢◌, ◌≤◌, ◌⊎◌}
-use Rattle.tag_pool.specs.Uses.{Err, IfErr, IfOk, OnOk, RefusesBy, Result, some, ℕ, ⊤}
+use Rattle.tag_pool.specs.Uses.{Err, IfErr, IfOk, OnOk, Option, RefusesBy, Result, some, ℕ, ⊤}
 use Rattle.tag_pool.specs.declared.fault.TagFault.{TagFault}
 use Rattle.tag_pool.specs.declared.fault.TagFault.TheVariants.{NoSuchTag, NotPosted}
 use Rattle.tag_pool.specs.declared.hand.Hand.{Hand}
@@ -8,7 +8,7 @@ use Rattle.tag_pool.specs.declared.pool.Pool.{Pool}
 use Rattle.tag_pool.specs.Sides as side
 use Rattle.tag_pool.specs.Hands.{total_of, Holds, slot_of, ChangesAt}
 use Rattle.tag_pool.specs.Holding.{HoldsLess, HoldsMore, HoldsSame}
-use Rattle.tag_pool.specs.Refusals.{tag_checks}
+use Rattle.tag_pool.specs.Refusals.{number_checks, tag_checks}
 
 -- the hand holds the same tags with the same values; in the tag's set, the value found was written back
 pub record Reads {R : Type 0} (tag : ℕ) (value : R) (old new : Hand R) : Type 0 where
@@ -23,12 +23,12 @@ pub record Writes {R : Type 0} (tag : ℕ) (value : R) (old new : Hand R) : Type
   pub none_else : (other : ℕ) → Holds new other → Holds old other
   pub set : ChangesAt tag (λ kind number. side.Writes number value) old new
 
--- the tag is posted with the value of its slot, and the hand no longer holds it
-pub record Posts {R : Type 0} (tag : ℕ) (old new : Hand R) : Type 0 where
+-- the tag is posted with this note and the value of its slot, and the hand no longer holds it
+pub record Posts {R : Type 0} (tag note : ℕ) (old new : Hand R) : Type 0 where
   pub value : R
   pub slot : slot_of old tag ≡ some value
   pub less : HoldsLess (λ other. other ≡ tag) old new
-  pub set : ChangesAt tag (λ kind number. side.Posts number) old new
+  pub set : ChangesAt tag (λ kind number. side.Posts number note) old new
 
 -- the tag was found posted, and the hand now holds it, with the value with which it was posted
 pub record Takes {R : Type 0} (tag : ℕ) (old new : Hand R) : Type 0 where
@@ -41,6 +41,11 @@ pub record Takes {R : Type 0} (tag : ℕ) (old new : Hand R) : Type 0 where
 pub record Misses {R : Type 0} (tag : ℕ) (old new : Hand R) : Type 0 where
   pub same : HoldsSame old new
   pub set : ChangesAt tag (λ kind number. side.Misses number) old new
+
+-- the tag was found so, by a load in its set that changes nothing in the map: not posted, or posted with this note
+pub record ReadsNote {R : Type 0} (tag : ℕ) (answer : Option ℕ) (old new : Hand R) : Type 0 where
+  pub same : HoldsSame old new
+  pub set : ChangesAt tag (λ kind number. side.ReadsNote number answer) old new
 
 -- the effect of a take that is refused
 abbrev pub RefusesTake : {R : Type 0} → ℕ → TagFault → Hand R → Hand R → Type 0
@@ -59,10 +64,17 @@ pub record DoesWrite {R : Type 0} (tag : ℕ) (value : R) (pool : Pool R) (resul
   pub former : IfOk result (λ former. slot_of old tag ≡ some former)
   pub writes : OnOk result (Writes tag value old new)
 
--- posts a tag
-pub record DoesPost {R : Type 0} (tag : ℕ) (pool : Pool R) (result : Result ⊤ TagFault) (old new : Hand R) : Type 0 where
+-- posts a tag with a note
+pub record DoesPost {R : Type 0} (tag note : ℕ) (pool : Pool R) (result : Result ⊤ TagFault) (old new : Hand R)
+    : Type 0 where
   pub refusals : RefusesBy (tag_checks pool old tag) (new ≡ old) result
-  pub posts : OnOk result (Posts tag old new)
+  pub posts : OnOk result (Posts tag note old new)
+
+-- reads the note of a tag
+pub record DoesReadNote {R : Type 0} (tag : ℕ) (pool : Pool R) (result : Result (Option ℕ) TagFault) (old new : Hand R)
+    : Type 0 where
+  pub refusals : RefusesBy (number_checks pool tag) (new ≡ old) result
+  pub reads : IfOk result (λ answer. ReadsNote tag answer old new)
 
 -- takes a posted tag; whether it is posted only the step can tell
 pub record DoesTake {R : Type 0} (tag : ℕ) (pool : Pool R) (result : Result ⊤ TagFault) (old new : Hand R) : Type 0 where

@@ -1,15 +1,15 @@
--- How many tags of a pool are in use, and which of its hands are listed.
+-- How many tags of a pool are in use, and which of its hands wait.
 use Rattle.std.specs.Prelude.{◌+◌, ◌-◌, ◌≡◌}
 use Rattle.tag_pool.specs.Uses.{get_elem?, length, List, some, ℕ}
-use Rattle.tag_model.specs.declared.totals.Totals.{Totals}
-use Rattle.tag_bell.specs.declared.told.TheConstants.{LISTENERS, SLEEPERS}
-use Rattle.tag_core.specs.Settling.{AreSettled, LeavesList}
+use Rattle.tag_core.specs.Settling.{AreSettled, LeavesWaiters}
 use Rattle.tag_core.specs.Sizes.{total_of, size_of}
 use Rattle.tag_core.specs.declared.record.Record.{Record}
+use Rattle.tag_core.specs.declared.shape.Shape.{Shape}
 use Rattle.tag_pool.specs.declared.hand.Hand.{Hand}
 use Rattle.tag_pool.specs.declared.kind.Kind.{Kind}
 use Rattle.tag_pool.specs.declared.kind.Kind.TheVariants.{Ordinary, Reserved}
 use Rattle.tag_pool.specs.declared.pool.Pool.{Pool}
+use Rattle.tag_pool.specs.declared.usage.SetUsage.{SetUsage}
 use Rattle.tag_pool.specs.declared.usage.Usage.{Usage}
 use Rattle.tag_pool.specs.Sets.{InBoth}
 use Rattle.tag_pool.specs.Gathering.{shape_of}
@@ -20,16 +20,19 @@ pub record AreUnchanged {R : Type 0} (old new : List (Hand R)) : Type 0 where
   pub count : length new ≡ length old
   pub each : (n : ℕ) (a b : Hand R) → get_elem? old n ≡ some a → get_elem? new n ≡ some b → IsUnchanged a b
 
--- the totals of a set
-abbrev pub totals_in : Usage → Kind → Totals
-totals_in usage Ordinary = usage.ordinary
-totals_in usage Reserved = usage.reserved
+-- one lawful history accounts for these records, with these totals; and one leaves the word of all who wait so
+pub record IsSetUsage {R : Type 0} (k : Shape) (rs : List (Record R)) (usage : SetUsage) : Type 0 where
+  pub settled : AreSettled k rs usage.totals
+  pub waiting : LeavesWaiters k rs usage.waiting
 
--- in each set one lawful history accounts for these records, with these totals; and one leaves each list so
-pub record IsUsage {R : Type 0} (pool : Pool R) (records : Kind → List (Record R)) (usage : Usage) : Type 0 where
-  pub settled : InBoth (λ kind. AreSettled (shape_of pool kind) (records kind) (totals_in usage kind))
-  pub sleepers : LeavesList (shape_of pool Ordinary) (records Ordinary) SLEEPERS usage.sleepers
-  pub listeners : LeavesList (shape_of pool Ordinary) (records Ordinary) LISTENERS usage.listeners
+-- what is in use in a set
+abbrev pub usage_in : Usage → Kind → SetUsage
+usage_in usage Ordinary = usage.ordinary
+usage_in usage Reserved = usage.reserved
+
+-- it is so in each set
+abbrev pub IsUsage : {R : Type 0} → Pool R → (Kind → List (Record R)) → Usage → Type 0
+IsUsage pool records usage = InBoth (λ kind. IsSetUsage (shape_of pool kind) (records kind) (usage_in usage kind))
 
 -- the number of tags that callers with these records hold
 abbrev pub held_in : {R : Type 0} → List (Record R) → ℕ

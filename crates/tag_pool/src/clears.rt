@@ -14,7 +14,7 @@ pub(crate) mod lists;
 mod masks;
 
 impl<R: Copy> Pool<R> {
-    /// Clears a held tag, and tells nobody: if it is an ordinary one, the caller has to see to it. As in
+    /// Clears a held tag, and tells nobody: the caller has to see to it, among tags of its kind. As in
     /// `sbitmap_queue_clear` (lib/sbitmap.c) the tag is only set aside: the next sweep of its word frees it. Returns the
     /// tag's kind. `NoSuchTag` means that the number is not below the total, `NotHeld` that the hand does not hold the tag;
     /// nothing changes then.

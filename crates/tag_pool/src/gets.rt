@@ -3,19 +3,22 @@ ghost use Rattle.std.specs.Prelude.{◌≡◌, ◌+◌, ◌≤◌, false, IfOk, 
 ghost use Rattle.refusals.specs.Refusals.{RefusesBy};
 ghost use Rattle.tag_bell.specs.Calls.{nobody};
 ghost use Rattle.tag_bell.specs.Sleeping.{told_by};
-ghost use Rattle.tag_pool.specs.Gets.{DoesGetReserved, Gets, GetsAndLooks, GetsBatch, GetsShallow, LooksAfter, most_steps};
+ghost use Rattle.tag_pool.specs.Gets.{Gets, GetsAndLooks, GetsBatch, GetsShallow, LooksAfter, most_steps};
 ghost use Rattle.tag_pool.specs.Hands.{IsHandOf, IsStillOf, hint_of, step_count};
-ghost use Rattle.tag_pool.specs.Refusals.{get_checks, shallow_checks, batch_checks, CountsBatch};
-ghost use Rattle.tag_pool.specs.declared.kind.Kind.TheVariants.{Ordinary};
+ghost use Rattle.tag_pool.specs.Refusals.{get_checks, reserved_checks, shallow_checks, batch_checks, CountsBatch};
+ghost use Rattle.tag_pool.specs.Sides.{see_to_steps};
+ghost use Rattle.tag_pool.specs.declared.kind.Kind.TheVariants.{Ordinary, Reserved};
 
 use crate::fault::TagFault;
 use crate::hand::Hand;
+use crate::kind::Kind;
 use crate::pool::Pool;
 use tag_bell::Woken;
 use tag_search::Found;
 
 mod blocking;
 mod exact;
+mod many;
 mod quietly;
 pub(crate) mod rounds;
 
@@ -38,11 +41,12 @@ impl<R: Copy> Pool<R> {
         requires hand { IsHandOf self.now hand.old }
         ensures hand { IsStillOf self.now hand.old hand.new }
         ensures refusals { RefusesBy (get_checks hand.old) (hand.new ≡ hand.old) result }
-        ensures gets { IfOk result (λ got. GetsAndLooks (Gets self.now Ordinary got.answer) got.woken hand.old hand.new) }
-        ensures bound { step_count hand.new ≤ most_steps self.now Ordinary + 6 + step_count hand.old }
+        ensures gets { IfOk result (λ got.
+            GetsAndLooks Ordinary (Gets self.now Ordinary got.answer) got.woken hand.old hand.new) }
+        ensures bound { step_count hand.new ≤ most_steps self.now Ordinary + see_to_steps + step_count hand.old }
     {
         let Found { answer, left } = self.get_quietly(hand)?;
-        let woken = self.look_after(hand, left);
+        let woken = self.look_after(hand, Kind::Ordinary, left);
         Ok(Got { answer, woken })
     }
 
@@ -53,11 +57,12 @@ impl<R: Copy> Pool<R> {
         requires hand { IsHandOf self.now hand.old }
         ensures hand { IsStillOf self.now hand.old hand.new }
         ensures refusals { RefusesBy (shallow_checks self.now hand.old depth) (hand.new ≡ hand.old) result }
-        ensures gets { IfOk result (λ got. GetsAndLooks (GetsShallow self.now depth got.answer) got.woken hand.old hand.new) }
-        ensures bound { step_count hand.new ≤ most_steps self.now Ordinary + 6 + step_count hand.old }
+        ensures gets { IfOk result (λ got.
+            GetsAndLooks Ordinary (GetsShallow self.now depth got.answer) got.woken hand.old hand.new) }
+        ensures bound { step_count hand.new ≤ most_steps self.now Ordinary + see_to_steps + step_count hand.old }
     {
         let Found { answer, left } = self.get_shallow_quietly(hand, depth)?;
-        let woken = self.look_after(hand, left);
+        let woken = self.look_after(hand, Kind::Ordinary, left);
         Ok(Got { answer, woken })
     }
 
@@ -72,57 +77,55 @@ impl<R: Copy> Pool<R> {
         ensures round_robin { CountsBatch self.now n → IsTrue (hint_of hand.old Ordinary).round_robin
             → IfOk result (λ got. (got.answer ≡ None) × (told_by got.woken ≡ nobody)) × (hand.new ≡ hand.old) }
         ensures gets { (hint_of hand.old Ordinary).round_robin ≡ false
-            → IfOk result (λ got. GetsAndLooks (GetsBatch self.now n got.answer) got.woken hand.old hand.new) }
-        ensures bound { step_count hand.new ≤ most_steps self.now Ordinary + 6 + step_count hand.old }
+            → IfOk result (λ got. GetsAndLooks Ordinary (GetsBatch self.now n got.answer) got.woken hand.old hand.new) }
+        ensures bound { step_count hand.new ≤ most_steps self.now Ordinary + see_to_steps + step_count hand.old }
     {
         let Found { answer, left } = self.get_batch_quietly(hand, n)?;
-        let woken = self.look_after(hand, left);
+        let woken = self.look_after(hand, Kind::Ordinary, left);
         Ok(Got { answer, woken })
     }
 
-    /// Takes a reserved tag. `NoReserved` means that there are none. `Spent` means that the hand's life in the reserved set
-    /// is used up.
-    pub fn get_reserved(&self, hand: &mut Hand<R>) -> Result<Option<u32>, TagFault>
+    /// Takes a free reserved tag as `get` takes an ordinary one, and then tells those that wait for a reserved tag.
+    /// `NoReserved` means that there are none. `Spent` means that the hand's life in the reserved set is used up.
+    pub fn get_reserved(&self, hand: &mut Hand<R>) -> Result<Got<Option<u32>>, TagFault>
         requires hand { IsHandOf self.now hand.old }
         ensures hand { IsStillOf self.now hand.old hand.new }
-        ensures does { DoesGetReserved self.now result hand.old hand.new }
+        ensures refusals { RefusesBy (reserved_checks self.now hand.old) (hand.new ≡ hand.old) result }
+        ensures gets { IfOk result (λ got.
+            GetsAndLooks Reserved (Gets self.now Reserved got.answer) got.woken hand.old hand.new) }
+        ensures bound { step_count hand.new ≤ most_steps self.now Reserved + see_to_steps + step_count hand.old }
     {
-        if self.reserved_count == 0 {
-            return Err(TagFault::NoReserved);
-        }
-        // Nobody waits for a reserved tag, so nobody can sleep beside those that the sweeps freed.
-        let Ok(found) = hand.reserved.get(&self.reserved) else {
-            return Err(TagFault::Spent);
-        };
-        Ok(found.answer)
+        let Found { answer, left } = self.get_reserved_quietly(hand)?;
+        let woken = self.look_after(hand, Kind::Reserved, left);
+        Ok(Got { answer, woken })
     }
 
-    /// Sees to the ordinary tags that a get left free, if it left any: somebody may have looked for a tag before these were
+    /// Sees to the tags of a kind that a get left free, if it left any: somebody may have looked for a tag before these were
     /// free, and sleep.
     #[inline(always)]
-    fn look_after(&self, hand: &mut Hand<R>, left: u64) -> Woken
+    fn look_after(&self, hand: &mut Hand<R>, kind: Kind, left: u64) -> Woken
         requires hand { IsHandOf self.now hand.old }
         ensures hand { IsStillOf self.now hand.old hand.new }
-        ensures looks { LooksAfter left result hand.old hand.new }
-        ensures bound { step_count hand.new ≤ 6 + step_count hand.old }
+        ensures looks { LooksAfter kind left result hand.old hand.new }
+        ensures bound { step_count hand.new ≤ see_to_steps + step_count hand.old }
     {
         if left == 0 {
             return Woken::none();
         }
-        self.look_after_some(hand, left)
+        self.look_after_some(hand, kind, left)
     }
 
     /// The same where some were left. It is out of line, so that a get is short where none was.
     #[cold]
     #[inline(never)]
-    fn look_after_some(&self, hand: &mut Hand<R>, left: u64) -> Woken
+    fn look_after_some(&self, hand: &mut Hand<R>, kind: Kind, left: u64) -> Woken
         requires hand { IsHandOf self.now hand.old }
         requires some { 1 ≤ left }
         ensures hand { IsStillOf self.now hand.old hand.new }
-        ensures looks { LooksAfter left result hand.old hand.new }
-        ensures bound { step_count hand.new ≤ 6 + step_count hand.old }
+        ensures looks { LooksAfter kind left result hand.old hand.new }
+        ensures bound { step_count hand.new ≤ see_to_steps + step_count hand.old }
     {
-        // No list has more than 64 hands.
-        self.wake(hand, left.min(64) as u32)
+        // No more than 64 hands wait.
+        self.wake(hand, kind, left.min(64) as u32)
     }
 }

@@ -31,9 +31,20 @@ impl<R> Hand<R> {
     ghost use Rattle.tag_pool.specs.Hands.{Holds, IsTagOf, split_of};
     ghost use Rattle.tag_pool.specs.Tallies.{won_in_both, back_in_both};
 
+    /// Returns the hand's side in a set.
+    #[inline(always)]
+    pub(crate) fn side(&self, kind: Kind) -> &Side<R>
+        ensures { result.now ≡ side_of self.now kind }
+    {
+        match kind {
+            Kind::Ordinary => &self.ordinary,
+            Kind::Reserved => &self.reserved,
+        }
+    }
+
     /// Lends the hand's side in a set.
     #[inline(always)]
-    pub(crate) fn side(&mut self, kind: Kind) -> &mut Side<R>
+    pub(crate) fn side_mut(&mut self, kind: Kind) -> &mut Side<R>
         ensures* writes_back { sem 𝓛 (LendsSide R.row self.entry kind result) }
         ensures value { result.now ≡ side_of self.old kind }
     {

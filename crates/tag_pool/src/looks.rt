@@ -35,6 +35,6 @@ impl<R: Copy> Pool<R> {
         ensures same { HoldsSame hand.old hand.new }
         ensures held { FindsHeld (layout_of self.now kind) (side_of hand.old kind) word result }
     {
-        hand.side(kind).look_both(self.map(kind), word)
+        hand.side_mut(kind).look_both(self.map(kind), word)
     }
 }

@@ -4,13 +4,13 @@ ghost use Rattle.step_ledger.specs.Gather.{HasAll, IsLeastMissing};
 ghost use Rattle.tag_pool.specs.Gathering.{numbers_of};
 ghost use Rattle.tag_pool.specs.Hands.{IsHandOf, hands_of, reserved_of};
 ghost use Rattle.tag_pool.specs.Resizing.{IsRefusedAs, IsRefusedFor, IsResized, MayResize, HasMap, IsOutOfRange, layout_at};
-ghost use Rattle.tag_pool.specs.Resizing.{AreUnused, AreUsed, AreListed, AreWaiting, IsBusyFor, BalanceInBoth, has_bit};
+ghost use Rattle.tag_pool.specs.Resizing.{AreUnused, AreUsed, AreWaiting, HaveWaiters, IsBusyFor, BalanceInBoth, has_bit};
 ghost use Rattle.tag_pool.specs.Using.{AreUnchanged};
 
 use crate::hand::Hand;
 use crate::pool::Pool;
 use std::alloc::Global;
-use step_ledger::{GatherCause, all_there};
+use step_ledger::{GatherCause, Numbered, all_there};
 use tag_layout::{Layout, MAX_DEPTH};
 use thiserror::Error;
 
@@ -31,7 +31,7 @@ pub enum ResizeCause {
     /// Tags are in use, of either set: how many are held, and how many posted.
     #[error("{0} tags are held and {1} are posted")]
     InUse(u64, u64),
-    /// Hands are listed among the sleepers or the listeners: how many.
+    /// Hands wait, for a tag of either set: how many.
     #[error("{0} callers wait")]
     Waiting(u32),
     /// Out of memory.
@@ -51,8 +51,8 @@ pub struct PoolResizeFault<R> {
 impl<R: Copy> Pool<R> {
     /// Resizes the ordinary set so that there are `depth` tags in both sets, and moves all hands to it. The ordinary tags
     /// are new and free, and their slots contain the initial value; the reserved set is unchanged. All hands must be passed
-    /// in, in any order; no tag of either set may be held or posted, and no hand may be listed among those that wait. A
-    /// refusal hands everything back.
+    /// in, in any order; no tag of either set may be held or posted, and no hand may wait, for a tag of either set. A refusal
+    /// hands everything back.
     pub fn resize(
         alloc: Global,
         pool: Pool<R>,
@@ -71,7 +71,7 @@ impl<R: Copy> Pool<R> {
         ensures in_use { (held posted : ℕ) → IsRefusedAs result (ResizeCause.InUse held posted)
             ↔ (HasMap pool hands.items depth × AreUsed hands.items held posted) }
         ensures waiting { (n : ℕ) → IsRefusedAs result (ResizeCause.Waiting n)
-            ↔ (HasMap pool hands.items depth × AreWaiting pool hands.items n) }
+            ↔ (HasMap pool hands.items depth × AreWaiting hands.items n) }
         ensures memory { IsRefusedAs result ResizeCause.Memory → MayResize pool hands.items depth }
 
         ensures balance { HasMap pool hands.items depth → BalanceInBoth hands.items }
@@ -111,25 +111,26 @@ impl<R: Copy> Pool<R> {
         }
     }
 
-    /// Returns what prevents the resize while all hands are present: tags in use, or hands that are listed.
+    /// Returns what prevents the resize while all hands are present: tags in use, or hands that wait.
     fn busy_for(&self, hands: &mut Vec<Hand<R>>) -> Option<ResizeCause>
         requires own { All (IsHandOf self.now) hands.old.items }
         requires every { HasAll (numbers_of hands.old.items) (hands_of self.now) }
         ensures own { All (IsHandOf self.now) hands.new.items }
         ensures unchanged { AreUnchanged hands.old.items hands.new.items }
-        ensures cause { MatchOption result (AreUnused hands.old.items × AreListed self.now hands.old.items 0)
-            (IsBusyFor self.now hands.old.items) }
+        ensures cause { MatchOption result (AreUnused hands.old.items × HaveWaiters hands.old.items 0)
+            (IsBusyFor hands.old.items) }
         ensures balance { BalanceInBoth hands.old.items }
     {
         let usage = self.usage(hands);
-        let held = usage.ordinary.held + usage.reserved.held;
-        let posted = usage.ordinary.posted + usage.reserved.posted;
+        let held = usage.ordinary.totals.held + usage.reserved.totals.held;
+        let posted = usage.ordinary.totals.posted + usage.reserved.totals.posted;
         if held != 0 || posted != 0 {
             return Some(ResizeCause::InUse(held, posted));
         }
-        let listed = self.count_listed(hands.as_slice(), usage.sleepers | usage.listeners);
-        if listed != 0 {
-            return Some(ResizeCause::Waiting(listed));
+        let waiting = usage.reserved.waiting | usage.ordinary.waiting;
+        let count = self.count_in(hands.as_slice(), waiting);
+        if count != 0 {
+            return Some(ResizeCause::Waiting(count));
         }
         None
     }
@@ -137,15 +138,14 @@ impl<R: Copy> Pool<R> {
 
 impl<R> Pool<R> {
     /// Returns how many of these hands have their bit in a mask.
-    fn count_listed(&self, hands: &[Hand<R>], listed: u64) -> u32
+    fn count_in(&self, hands: &[Hand<R>], mask: u64) -> u32
         requires own { All (IsHandOf self.now) hands.now }
         requires few { length hands.now ≤ 64 }
-        ensures { result ≡ count_by (has_bit listed) (numbers_of hands.now) }
+        ensures { result ≡ count_by (has_bit mask) (numbers_of hands.now) }
     {
         let mut count = 0u32;
         for hand in hands {
-            let here = self.ordinary.is_listed(&hand.ordinary.caller, listed);
-            if here {
+            if mask >> hand.number() & 1 == 1 {
                 count += 1;
             }
         }

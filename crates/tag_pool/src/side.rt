@@ -55,9 +55,10 @@ impl<R: Copy> Side<R> {
     ghost use Rattle.tag_pool.specs.Refusals.{side_checks};
     ghost use mathlib.Core.Option.{some};
     ghost use Rattle.tag_core.specs.Callers.{layout_of, record_of};
+    ghost use Rattle.tag_core.specs.declared.posts.TheConstants.{MOST_NOTE};
     ghost use Rattle.tag_search.specs.Exact.{most_exact_steps};
     ghost use Rattle.tag_search.specs.Freed.{left_free};
-    ghost use Rattle.tag_pool.specs.Sides.{caller_of, CountsBatch, GetsBatch, GetsExactly, GetsPlain, GetsShallow, HasRoom, hint_of, Holds, HoldsSame, IsPlaced, IsSideOf, Misses, most_steps, number_of, Posts, Puts, slot_of, step_count, Takes, Writes};
+    ghost use Rattle.tag_pool.specs.Sides.{caller_of, CountsBatch, GetsBatch, GetsExactly, GetsPlain, GetsShallow, HasRoom, hint_of, Holds, HoldsSame, IsPlaced, IsSideOf, Misses, most_steps, number_of, Posts, Puts, ReadsNote, slot_of, step_count, Takes, Writes};
     ghost use Rattle.std.specs.Prelude.{◌∷◌, []};
     ghost use Rattle.tag_layout.specs.Layout.{words};
     ghost use Rattle.tag_pool.specs.Looks.{MakesLooks, FindsHeld, looks_from};
@@ -143,15 +144,27 @@ impl<R: Copy> Side<R> {
         map.slot(&mut self.caller, tag, value)
     }
 
-    /// Posts a held tag with its slot. One step.
+    /// Posts a held tag with its slot and a note. One step.
     #[inline]
-    pub(crate) fn post(&mut self, map: &Map<R>, tag: u32)
+    pub(crate) fn post(&mut self, map: &Map<R>, tag: u32, note: u64)
         requires side { IsSideOf map.now self.old }
         requires held { Holds self.old tag }
+        requires note { note ≤ MOST_NOTE }
         ensures side { IsSideOf map.now self.new × (number_of self.new ≡ number_of self.old) }
-        ensures posts { Posts tag self.old self.new }
+        ensures posts { Posts tag note self.old self.new }
     {
-        map.post(&mut self.caller, tag);
+        map.post(&mut self.caller, tag, note);
+    }
+
+    /// Returns the note of a posted tag, or `None` if the tag was not posted. One step.
+    #[inline]
+    pub(crate) fn read_note(&mut self, map: &Map<R>, tag: u32) -> Option<u64>
+        requires side { IsSideOf map.now self.old }
+        requires within { tag < (layout_of map.now).depth }
+        ensures side { IsSideOf map.now self.new × (number_of self.new ≡ number_of self.old) }
+        ensures reads { ReadsNote tag result self.old self.new }
+    {
+        map.read_note(&mut self.caller, tag)
     }
 
     /// Takes a posted tag with its slot. One step. Returns false if the tag was not posted.

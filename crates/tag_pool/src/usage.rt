@@ -1,34 +1,52 @@
-//! Counts the tags that are in use, and finds who is listed, while all hands of a pool are together.
+//! Counts the tags that are in use, and finds who waits, while all hands of a pool are together.
 ghost use Rattle.std.specs.Prelude.{◌≡◌, ◌++◌, All, vec_len, vec_capacity};
 ghost use Rattle.step_ledger.specs.Gather.{HasAll};
-ghost use Rattle.tag_core.specs.Gathering.{numbers};
-ghost use Rattle.tag_core.specs.Lending.{BeginsWith};
+ghost use Rattle.tag_core.specs.Gathering.{gathered, IsGatheringOf, numbers};
+ghost use Rattle.tag_core.specs.Lending.{AreLoansOf as are_loans_of, BeginsWith, lent};
 ghost use Rattle.tag_pool.specs.Gathering.{gathered_of, IsTogetherOf, numbers_of, records_of, shape_of};
 ghost use Rattle.tag_pool.specs.Hands.{IsHandOf, hands_of};
 ghost use Rattle.tag_pool.specs.Loans.{AreLoansOf, lent_of};
-ghost use Rattle.tag_pool.specs.Using.{AreUnchanged, IsUsage};
+ghost use Rattle.tag_pool.specs.Using.{AreUnchanged, IsSetUsage, IsUsage};
 ghost use Rattle.tag_pool.specs.Sets.{InBoth};
 
 use crate::gather::together::Together;
 use crate::hand::Hand;
 use crate::loans::Lent;
 use crate::pool::Pool;
-use tag_bell::{LISTENERS, SLEEPERS};
+use tag_core::{Gathering, Loans, Map};
 use tag_model::Totals;
 
-/// What the hands of a pool have in use, and who is listed.
+/// What the hands of a pool have in use in one set, and who waits there.
+#[derive(Clone, Copy)]
+pub(crate) struct SetUsage {
+    pub(crate) totals: Totals,
+    /// A bit is 1 if the hand of that number waits.
+    pub(crate) waiting: u64,
+}
+
+/// The same of both sets.
 #[derive(Clone, Copy)]
 pub(crate) struct Usage {
-    pub(crate) reserved: Totals,
-    pub(crate) ordinary: Totals,
-    /// The list of sleepers: a bit is 1 if the hand of that number is listed there.
-    pub(crate) sleepers: u64,
-    /// The list of listeners.
-    pub(crate) listeners: u64,
+    pub(crate) reserved: SetUsage,
+    pub(crate) ordinary: SetUsage,
+}
+
+/// Returns what all callers of a set, which have lent their records, have in use, and who of them waits.
+fn usage_of_set<R>(mut all: Gathering<R>, map: &Map<R>) -> (Loans<R>, SetUsage)
+    requires map { IsGatheringOf map.now all }
+    requires first { BeginsWith map.now.shape (gathered all) }
+    requires every { HasAll (numbers (gathered all)) map.now.shape.callers }
+    ensures map { are_loans_of map.now result.0 }
+    ensures lent { lent result.0 ≡ gathered all }
+    ensures usage { IsSetUsage map.now.shape (gathered all) result.1 }
+{
+    let waiting = all.waiting(map);
+    let (loans, totals) = all.settle(map);
+    (loans, SetUsage { totals, waiting })
 }
 
 impl<R> Together<R> {
-    /// Returns what all hands of the pool, which have lent their records, have in use, and who is listed.
+    /// Returns what all hands of the pool, which have lent their records, have in use, and who waits.
     fn usage(self, pool: &Pool<R>) -> (Lent<R>, Usage)
         requires pool { IsTogetherOf pool.now self }
         requires first { InBoth (λ kind. BeginsWith (shape_of pool.now kind) (gathered_of self kind)) }
@@ -37,25 +55,14 @@ impl<R> Together<R> {
         ensures lent { InBoth (λ kind. lent_of result.0 kind ≡ gathered_of self kind) }
         ensures usage { IsUsage pool.now (gathered_of self) result.1 }
     {
-        let Together {
-            reserved,
-            mut ordinary,
-        } = self;
-        let sleepers = ordinary.listed(&pool.ordinary, SLEEPERS);
-        let listeners = ordinary.listed(&pool.ordinary, LISTENERS);
-        let (first, reserved) = reserved.settle(&pool.reserved);
-        let (rest, ordinary) = ordinary.settle(&pool.ordinary);
+        let Together { reserved, ordinary } = self;
+        let (first, reserved) = usage_of_set(reserved, &pool.reserved);
+        let (rest, ordinary) = usage_of_set(ordinary, &pool.ordinary);
         let lent = Lent {
             reserved: first,
             ordinary: rest,
         };
-        let usage = Usage {
-            reserved,
-            ordinary,
-            sleepers,
-            listeners,
-        };
-        (lent, usage)
+        (lent, Usage { reserved, ordinary })
     }
 }
 
@@ -88,7 +95,7 @@ fn usage_of_rest<R>(
 }
 
 impl<R> Pool<R> {
-    /// Brings all hands together for a moment, and returns what they have in use and who is listed. The hands are unchanged.
+    /// Brings all hands together for a moment, and returns what they have in use and who waits. The hands are unchanged.
     pub(crate) fn usage(&self, hands: &mut Vec<Hand<R>>) -> Usage
         requires own { All (IsHandOf self.now) hands.old.items }
         requires every { HasAll (numbers_of hands.old.items) (hands_of self.now) }

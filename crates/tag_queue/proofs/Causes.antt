@@ -10,7 +10,7 @@ use Rattle.tag_pool.specs.declared.resizes.ResizeCause.{ResizeCause}
 use Rattle.tag_pool.specs.declared.resizes.ResizeCause.TheVariants.{Missing, DepthTooLarge, InUse, Waiting, Memory}
 use Rattle.tag_queue.specs.Bell.{WaitsNowhere}
 use Rattle.tag_queue.specs.Resizing.{StillRefuses}
-use Rattle.tag_queue.proofs.NoneListed.{none_listed}
+use Rattle.tag_queue.proofs.NoneWaits.{none_waits}
 
 module _ {R : Type 0} (of : Pool R) (hands : List (Hand R)) (total : ℕ) where
   -- what the pool's resize says of its refusals
@@ -22,7 +22,7 @@ module _ {R : Type 0} (of : Pool R) (hands : List (Hand R)) (total : ℕ) where
     pub in_use : (held posted : ℕ) → resizing.IsRefusedAs result (InUse held posted)
         ↔ (resizing.HasMap of hands total × resizing.AreUsed hands held posted)
     pub waiting : (n : ℕ) → resizing.IsRefusedAs result (Waiting n)
-        ↔ (resizing.HasMap of hands total × resizing.AreWaiting of hands n)
+        ↔ (resizing.HasMap of hands total × resizing.AreWaiting hands n)
     pub memory : resizing.IsRefusedAs result Memory → resizing.MayResize of hands total
 
   -- where nobody stands in a group, and nobody waits by the bell, a refusal is the pool's
@@ -36,7 +36,7 @@ module _ {R : Type 0} (of : Pool R) (hands : List (Hand R)) (total : ℕ) where
       by_cause DepthTooLarge is = subst (StillRefuses of hands total 0) (sym is) (told.too_deep.0 is)
       by_cause (InUse held posted) is = subst (StillRefuses of hands total 0) (sym is) ((told.in_use held posted).0 is)
       by_cause (Waiting n) is = let w = (told.waiting n).0 is in
-          let none = none_listed of hands up n w.1.1 in let some = w.1.2 in absurd (omega arith)
+          let none = none_waits hands up n w.1.1 in let some = w.1.2 in absurd (omega arith)
       by_cause Memory is = subst (StillRefuses of hands total 0) (sym is) (told.memory is, refl)
 
   -- the check found this cause

@@ -13,7 +13,7 @@ pub mod Uniting
 pub mod Shells
 pub mod Opened
 pub mod OpenRefusals
-pub mod NoneListed
+pub mod NoneWaits
 pub mod Resized
 pub mod ThroughResizes
 pub mod Causes

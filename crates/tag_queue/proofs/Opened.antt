@@ -1,6 +1,6 @@
 -- The parts of a new queue fit together, and its hands are new.
 use Rattle.std.specs.Prelude.{◌+◌, ◌≡◌, IfOk}
-use Rattle.tag_queue.proofs.Uses.{All, ap, arith, Err, get_elem?, GroupStep, Hand, length, List, map, moved_by, Ok, Pool, Queue, QueueHand, refl, Result, some, subst, suc, sym, Teller, total, Waiter, zero, ℕ, ◌∙◌}
+use Rattle.tag_queue.proofs.Uses.{All, ap, arith, Err, get_elem?, GroupStep, Hand, length, List, map, moved_by, Ok, Ordinary, Pool, Queue, QueueHand, refl, Reserved, Result, some, subst, suc, sym, Teller, total, Waiter, zero, ℕ, ◌∙◌}
 use Rattle.std.proofs.Common.{get_or}
 use Rattle.std.proofs.lemmas.List.{get_or-map, length-map}
 use mathlib.Core.Option.{some-injective, some-ne-none}
@@ -10,7 +10,7 @@ use Rattle.step_ledger.specs.declared.record.Record.{Record}
 use Rattle.tag_core.proofs.Entries.{all_at, entry_or}
 use Rattle.tag_core.specs.declared.record.Record as tags
 use Rattle.tag_core.specs.declared.step.Step.{Step}
-use Rattle.tag_bell.specs.Waiting.{waits}
+use Rattle.tag_core.specs.Waits.{IsIn}
 use Rattle.tag_pool.specs.Hands as pool
 use Rattle.tag_pool.specs.Opening as pool_opening
 use Rattle.tag_pool.specs.declared.options.Options.{Options}
@@ -73,7 +73,7 @@ module _ {R : Type 0} where
           waiter_is = ap (λ (r : Record GroupStep). r.number) w_is ∙ sym number;
           counts = omega arith;
           wakes = omega arith;
-          up = λ list. ap (λ (steps : List (Step R)). waits list steps) none;
+          up = λ kind now. subst (λ (steps : List (Step R)). IsIn steps) (none kind) now;
         },
         ap (λ (r : Record GroupStep). r.steps) w_is,
       )
@@ -93,8 +93,12 @@ module _ {R : Type 0} where
   module _ (HasStart : Options → Pool R → Hand R → Type 0) (options : Options) (of : Pool R) (inners : List (Hand R))
       (opened : pool_opening.IsOpenWith HasStart options of inners) where
     new_steps : (n : ℕ) (x : Hand R) → get_elem? inners n ≡ some x → IsFresh x
-    new_steps n x e = ap (λ (r : tags.Record R). r.steps) (opened.ordinary.callers.each n (pool_opening.ordinary_part x)
+    new_steps n x e Ordinary = ap (λ (r : tags.Record R). r.steps)
+        (opened.ordinary.callers.each n (pool_opening.ordinary_part x)
         (at_map pool_opening.ordinary_part inners n x e)).1
+    new_steps n x e Reserved = ap (λ (r : tags.Record R). r.steps)
+        (opened.reserved.callers.each n (pool_opening.reserved_part x)
+        (at_map pool_opening.reserved_part inners n x e)).1
 
     -- the hands of a new pool are fresh
     pub fresh_hands : AreFresh options of inners

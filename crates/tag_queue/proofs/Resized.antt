@@ -1,15 +1,17 @@
 -- Hands whose hands of the pool were taken out, and were returned or moved to a resized pool.
 use Rattle.std.specs.Prelude.{◌≡◌}
-use Rattle.tag_queue.proofs.Uses.{All, ap, arith, get_elem?, Hand, length, List, map, Ordinary, Pool, Queue, QueueHand, some, subst, sym, ℕ, ◌∙◌}
+use Rattle.tag_queue.proofs.Uses.{[], All, ap, arith, get_elem?, Hand, length, List, map, Ordinary, Pool, Queue, QueueHand, Reserved, some, subst, sym, ℕ, ◌∙◌}
 use Rattle.std.proofs.lemmas.List.{length-map}
 use Rattle.std.proofs.lemmas.List.Elements.{All-map}
 use Rattle.atomic_table.proofs.Lists.{at_map}
 use Rattle.step_ledger.proofs.Seats.{within}
 use Rattle.tag_core.proofs.Entries.{entry}
 use mathlib.Core.Option.{some-injective}
-use Rattle.tag_bell.specs.Waiting.{waits}
+use Rattle.tag_core.specs.Waits.{IsIn}
+use Rattle.tag_core.specs.Callers.{record_of}
 use Rattle.tag_core.specs.declared.caller.Caller.{Caller}
 use Rattle.tag_core.specs.declared.record.Record.{Record}
+use Rattle.tag_core.specs.declared.step.Step.{Step}
 use Rattle.tag_pool.specs.Hands as tags
 use Rattle.tag_pool.specs.Hands.{back_of, caller_of, number_of}
 use Rattle.tag_pool.specs.Resizing as resizing
@@ -44,7 +46,8 @@ module _ {R : Type 0} where
     each = λ n a b p q. let u = (same.each n a b p q).sets Ordinary in record {
       number = sym b.ordinary.numbers ∙ ap (λ (r : Record R). r.number) u.caller.known ∙ a.ordinary.numbers;
       back = ap (λ (r : Record R). r.back) u.caller.known;
-      up = λ up list. ap (λ (r : Record R). waits list r.steps) u.caller.known ∙ up list;
+      up = λ up kind now.
+          up kind (subst (λ (r : Record R). IsIn r.steps) ((same.each n a b p q).sets kind).caller.known now);
     };
   }
 
@@ -55,15 +58,26 @@ module _ {R : Type 0} where
     count = sym (length-map news ordinary) ∙ is.ordinary.callers.count ∙ length-map olds ordinary;
     each = λ n a b p q.
         let known = (is.ordinary.callers.each n (ordinary a) (ordinary b) (at_map ordinary olds n a p)
-        (at_map ordinary news n b q)).1 in record {
+        (at_map ordinary news n b q)).1 in
+        let kept = (is.reserved_callers.each n (reserved a) (reserved b) (at_map reserved olds n a p)
+        (at_map reserved news n b q)).known in record {
           number = sym b.ordinary.numbers ∙ ap (λ (r : Record R). r.number) known ∙ a.ordinary.numbers;
           back = ap (λ (r : Record R). r.back) known;
-          up = λ up list. ap (λ (r : Record R). waits list r.steps) known;
+          up = still_up a b (ap (λ (r : Record R). r.steps) known) kept;
         };
   }
     where
       ordinary : Hand R → Caller R
       ordinary hand = caller_of hand Ordinary
+
+      reserved : Hand R → Caller R
+      reserved hand = caller_of hand Reserved
+
+      -- its new caller of the ordinary set has made no step, and the other is unchanged
+      still_up : (a b : Hand R) → (record_of (ordinary b)).steps ≡ [] → record_of (reserved b) ≡ record_of (reserved a)
+          → WaitsNowhere a → WaitsNowhere b
+      still_up a b none kept up Ordinary = λ now. subst (λ (s : List (Step R)). IsIn s) none now
+      still_up a b none kept up Reserved = λ now. up Reserved (subst (λ (r : Record R). IsIn r.steps) kept now)
 
   module _ (hands : List (QueueHand R)) (inners moved : List (Hand R)) (shells : List (Shell R))
       (out : inners ≡ all_in_pool hands) (rest : shells ≡ map shell_of hands) (serves : EachServes inners moved) where

@@ -9,6 +9,9 @@ use Rattle.wake_book.specs.Book as book
 use Rattle.wake_book.specs.Groups as groups
 use Rattle.tag_queue.specs.Bell.{WaitsNowhere}
 
+no_two : (a b : ⊥) → a ≡ b
+no_two a b = absurd a
+
 module _ {R : Type 0} (hand : QueueHand R) where
   -- the invariants of a hand, if this were its hand of the pool
   abbrev IsNumbered : Hand R → Type 0
@@ -42,7 +45,7 @@ module _ {R : Type 0} (hand : QueueHand R) where
       (λ n c w u. λ j. with_inner hand.inner (
         ℕ_set _ _ n.0 hand.numbers.0 j,
         ℕ_set _ _ n.1 hand.numbers.1 j,
-      ) (le_prop c hand.counts j) (le_prop w hand.wakes j) (λ list. ℕ_set _ _ (u list) (hand.up list) j))
+      ) (le_prop c hand.counts j) (le_prop w hand.wakes j) (λ kind now. no_two (u kind now) (hand.up kind now) j))
 
 -- a call of the pool that is refused leaves its hand, and with it the hand of the queue
 pub same_on_err : {R A F : Type 0} (hand : QueueHand R) (r : Result A F) (inner : Hand R) → OnErr r (inner ≡ hand.inner)

@@ -1,12 +1,11 @@
--- A hand that waits in no list of the bell still waits in none after each call but those by which a hand waits.
+-- A hand that waits in no set still waits in none after each call but those by which a hand waits.
 use Rattle.std.specs.Prelude.{◌≡◌}
-use Rattle.tag_queue.proofs.Uses.{ap, arith, Err, false, Hand, Kind, List, Ok, Option, Ordinary, Pool, refl, Reserved, Result, subst, suc, sym, true, ℕ, ⊎_elim, ◌∙◌}
-use Rattle.std.specs.Prelude.{[], ◌∷◌, Bool, ⊤}
-use Rattle.tag_bell.specs.Callers.{WaitsAsBefore}
-use Rattle.tag_bell.specs.Waiting.{waits}
+use Rattle.tag_queue.proofs.Uses.{ap, arith, Err, false, Hand, Kind, List, Ok, Ordinary, Pool, refl, Reserved, Result, subst, suc, sym, true, ℕ, ⊎_elim, ◌∙◌}
+use Rattle.std.specs.Prelude.{[], ◌∷◌, Bool, Option, ⊤}
 use Rattle.tag_layout.specs.Layout.{Layout}
-use Rattle.tag_core.specs.Callers.{record_of}
+use Rattle.tag_core.specs.Callers.{IsAmongWaiters, record_of}
 use Rattle.tag_core.specs.Records.{record_after}
+use Rattle.tag_core.specs.Waits.{IsIn}
 use Rattle.tag_core.specs.declared.caller.Caller.{Caller}
 use Rattle.tag_core.specs.declared.record.Record.{Record}
 use Rattle.tag_core.specs.declared.step.Step.TheVariants.{Word}
@@ -20,51 +19,59 @@ use Rattle.tag_pool.specs.Clears.{Clears, DoesClear}
 use Rattle.tag_pool.specs.Gets.{DoesGet, DoesGetBatch, DoesGetReserved, DoesGetShallow}
 use Rattle.tag_pool.specs.Hands.{back_of, Changes, hint_of, split_of}
 use Rattle.tag_pool.specs.Holding.{IsUnchanged}
+use Rattle.tag_pool.specs.Lending.{side_of}
 use Rattle.tag_pool.specs.Looks.{looks_from}
 use Rattle.tag_pool.specs.Placing.{IsPlaced}
 use Rattle.tag_pool.specs.Runs.{record_after_runs, Run}
 use Rattle.tag_pool.specs.Sets.{kind_of}
 use Rattle.tag_pool.specs.Shows.{LooksAround}
 use Rattle.tag_pool.specs.Sides as side
-use Rattle.tag_pool.specs.Slots.{DoesPost, DoesRead, DoesTake, DoesWrite, Reads, Writes}
+use Rattle.tag_pool.specs.Slots.{DoesPost, DoesRead, DoesReadNote, DoesTake, DoesWrite, Reads, Writes}
 use Rattle.tag_pool.specs.declared.fault.TagFault.{TagFault}
 use Rattle.tag_pool.specs.declared.side.Side.{Side}
 use Rattle.tag_queue.specs.Bell.{WaitsNowhere}
 
--- steps on words list nobody
-on_words : {R : Type 0} (list : ℕ) (steps : List WordStep) (r : Record R)
-    → waits list (record_after_all steps r).steps ≡ waits list r.steps
-on_words list [] r = refl
-on_words list (w ∷ steps) r = on_words list steps (record_after (Word w) r)
+-- by steps on words nobody begins to wait
+on_words : {R : Type 0} (steps : List WordStep) (r : Record R) → IsIn (record_after_all steps r).steps → IsIn r.steps
+on_words [] r now = now
+on_words (w ∷ steps) r now = on_words steps (record_after (Word w) r) now
 
-on_runs : {R : Type 0} (list : ℕ) (runs : List Run) (r : Record R)
-    → waits list (record_after_runs runs r).steps ≡ waits list r.steps
-on_runs list [] r = refl
-on_runs list (run ∷ runs) r = on_runs list runs r
+on_runs : {R : Type 0} (runs : List Run) (r : Record R) → IsIn (record_after_runs runs r).steps → IsIn r.steps
+on_runs [] r now = now
+on_runs (run ∷ runs) r now = on_runs runs r now
 
 module _ {R : Type 0} where
-  -- what is known of a caller tells where it waits
-  of_known : (old new : Caller R) (r : Record R) → record_of new ≡ r
-      → ((list : ℕ) → waits list r.steps ≡ waits list (record_of old).steps) → (list : ℕ) → WaitsAsBefore list old new
-  of_known old new r known same list = ap (λ (s : Record R). waits list s.steps) known ∙ same list
+  -- whoever waits now waited before
+  abbrev WaitedBefore : Caller R → Caller R → Type 0
+  WaitedBefore old new = IsAmongWaiters new → IsAmongWaiters old
 
-  of_made : (fact : List WordStep → Type 0) (old new : Caller R) → Makes old new fact → (list : ℕ)
-      → WaitsAsBefore list old new
+  -- what is known of a caller tells whether it waits
+  of_known : (old new : Caller R) (r : Record R) → record_of new ≡ r → (IsIn r.steps → IsIn (record_of old).steps)
+      → WaitedBefore old new
+  of_known old new r known same now = same (subst (λ (s : Record R). IsIn s.steps) known now)
+
+  of_made : (fact : List WordStep → Type 0) (old new : Caller R) → Makes old new fact → WaitedBefore old new
   of_made fact old new made = of_known old new (record_after_all made.steps (record_of old)) made.added.known
-      (λ list. on_words list made.steps (record_of old))
+      (on_words made.steps (record_of old))
 
-  -- a change of one side that keeps where its caller waits
-  abbrev KeepsWaits : (Side R → Side R → Type 0) → Type 0
-  KeepsWaits change = (a b : Side R) → change a b → (list : ℕ) → WaitsAsBefore list (side.caller_of a) (side.caller_of b)
+  -- a change of one side by which its caller does not begin to wait
+  abbrev KeepsUp : (Side R → Side R → Type 0) → Type 0
+  KeepsUp change = (a b : Side R) → change a b → WaitedBefore (side.caller_of a) (side.caller_of b)
 
-  by_side : (change : Side R → Side R → Type 0) → KeepsWaits change → (kind : Kind) (old new : Hand R)
+  other : (a b : Side R) → a ≡ b → ¬ IsAmongWaiters (side.caller_of b) → ¬ IsAmongWaiters (side.caller_of a)
+  other a b same = subst (λ (s : Side R). ¬ IsAmongWaiters (side.caller_of s)) (sym same)
+
+  by_side : (change : Side R → Side R → Type 0) → KeepsUp change → (kind : Kind) (old new : Hand R)
       → Changes kind change old new → WaitsNowhere old → WaitsNowhere new
-  by_side change keeps Ordinary old new c up = λ list. keeps old.ordinary new.ordinary c.changed list ∙ up list
-  by_side change keeps Reserved old new c up = subst (λ (s : Side R). (list : ℕ) → waits list (record_of s.caller).steps ≡ 0)
-      (sym c.other) up
+  by_side change keeps Ordinary old new c up Ordinary = λ now.
+      up Ordinary (keeps old.ordinary new.ordinary c.changed now)
+  by_side change keeps Ordinary old new c up Reserved = other new.reserved old.reserved c.other (up Reserved)
+  by_side change keeps Reserved old new c up Ordinary = other new.ordinary old.ordinary c.other (up Ordinary)
+  by_side change keeps Reserved old new c up Reserved = λ now.
+      up Reserved (keeps old.reserved new.reserved c.changed now)
 
-  writes : (number : ℕ) (value : R) → KeepsWaits (side.Writes number value)
-  writes number value a b w = of_known a.caller b.caller (record_of a.caller) w.known (λ list. refl)
+  writes : (number : ℕ) (value : R) → KeepsUp (side.Writes number value)
+  writes number value a b w = of_known a.caller b.caller (record_of a.caller) w.known (λ now. now)
 
   pub read_up : (tag : ℕ) (value : R) (old new : Hand R) → Reads tag value old new → WaitsNowhere old → WaitsNowhere new
   read_up tag value old new r = by_side _ (writes _ value) (kind_of (split_of old) tag) old new r.set
@@ -74,19 +81,19 @@ module _ {R : Type 0} where
 
   pub clear_up : (pool : Pool R) (tag : ℕ) (old new : Hand R) → Clears pool tag old new → WaitsNowhere old
       → WaitsNowhere new
-  clear_up pool tag old new c = by_side _ (λ a b p. of_known a.caller b.caller _ p.put.known (λ list. refl))
+  clear_up pool tag old new c = by_side _ (λ a b p. of_known a.caller b.caller _ p.put.known (λ now. now))
       (kind_of (split_of old) tag) old new c.set
 
   pub give_up : (pool : Pool R) (list : List ℕ) (old new : Hand R) → GivesBack pool list old new → WaitsNowhere old
       → WaitsNowhere new
   give_up pool list old new g = by_side _
-      (λ a b c. of_known a.caller b.caller _ c.gives.known (λ n. on_runs n c.gives.runs (record_of a.caller)))
+      (λ a b c. of_known a.caller b.caller _ c.gives.known (on_runs c.gives.runs (record_of a.caller)))
       Ordinary old new g.set
 
   pub look_up : (l : Layout) (kind : Kind) (found : List (ℕ × ℕ)) (old new : Hand R) → LooksAround l kind found old new
       → WaitsNowhere old → WaitsNowhere new
   look_up l kind found old new looks = by_side _
-      (λ a b m. of_known a.caller b.caller _ m.known (λ list. on_words list (looks_from 0 found) (record_of a.caller)))
+      (λ a b m. of_known a.caller b.caller _ m.known (on_words (looks_from 0 found) (record_of a.caller)))
       kind old new looks.looks
 
   pub busy_up : (pool : Pool R) (bits : List ℕ) (count : ℕ) (old new : Hand R) → ListsBusy pool bits count old new
@@ -114,12 +121,12 @@ module _ {R : Type 0} where
       ∙ look_back _ Reserved _ old lists.between lists.first
 
   pub unchanged_up : (old new : Hand R) → IsUnchanged old new → WaitsNowhere old → WaitsNowhere new
-  unchanged_up old new same up = λ list.
-      of_known old.ordinary.caller new.ordinary.caller _ (same.sets Ordinary).caller.known (λ n. refl) list ∙ up list
+  unchanged_up old new same up kind = λ now. up kind (of_known (side.caller_of (side_of old kind))
+      (side.caller_of (side_of new kind)) _ (same.sets kind).caller.known (λ was. was) now)
 
   pub placed_up : (pool : Pool R) (old new : Hand R) → IsPlaced pool old new → WaitsNowhere old → WaitsNowhere new
-  placed_up pool old new placed up = subst (λ (c : Caller R). (list : ℕ) → waits list (record_of c).steps ≡ 0)
-      (sym (placed.sides Ordinary).caller) up
+  placed_up pool old new placed up kind = subst (λ (c : Caller R). ¬ IsIn (record_of c).steps)
+      (sym (placed.sides kind).caller) (up kind)
 
   -- a refused call leaves the hand
   pub still : (old new : Hand R) → new ≡ old → WaitsNowhere old → WaitsNowhere new
@@ -135,16 +142,23 @@ module _ {R : Type 0} where
     writes_up tag value (Ok former) d = write_up tag value old new d.writes
     writes_up tag value (Err f) d = still old new d.refusals.same
 
-    pub posts_up : (tag : ℕ) (r : Result ⊤ TagFault) → DoesPost tag pool r old new → WaitsNowhere old → WaitsNowhere new
-    posts_up tag (Ok done) d = by_side _ (λ a b p. of_known a.caller b.caller _ p.step.known (λ list. refl))
+    pub posts_up : (tag note : ℕ) (r : Result ⊤ TagFault) → DoesPost tag note pool r old new → WaitsNowhere old
+        → WaitsNowhere new
+    posts_up tag note (Ok done) d = by_side _ (λ a b p. of_known a.caller b.caller _ p.step.known (λ now. now))
         (kind_of (split_of old) tag) old new d.posts.set
-    posts_up tag (Err f) d = still old new d.refusals.same
+    posts_up tag note (Err f) d = still old new d.refusals.same
+
+    pub notes_up : (tag : ℕ) (r : Result (Option ℕ) TagFault) → DoesReadNote tag pool r old new → WaitsNowhere old
+        → WaitsNowhere new
+    notes_up tag (Ok answer) d = by_side _ (λ a b p. of_known a.caller b.caller _ p.step.known (λ now. now))
+        (kind_of (split_of old) tag) old new d.reads.set
+    notes_up tag (Err f) d = still old new d.refusals.same
 
     pub takes_up : (tag : ℕ) (r : Result ⊤ TagFault) → DoesTake tag pool r old new → WaitsNowhere old → WaitsNowhere new
-    takes_up tag (Ok done) d = by_side _ (λ a b p. of_known a.caller b.caller _ p.step.known (λ list. refl))
+    takes_up tag (Ok done) d = by_side _ (λ a b p. of_known a.caller b.caller _ p.step.known (λ now. now))
         (kind_of (split_of old) tag) old new d.takes.set
     takes_up tag (Err f) d = ⊎_elim (λ none. still old new none.1)
-        (λ misses. by_side _ (λ a b p. of_known a.caller b.caller _ p.step.known (λ list. refl))
+        (λ misses. by_side _ (λ a b p. of_known a.caller b.caller _ p.step.known (λ now. now))
         (kind_of (split_of old) tag) old new misses.1.set) d.refuses
 
     pub clears_up : (tag : ℕ) (r : Result Kind TagFault) → DoesClear tag pool r old new → WaitsNowhere old
@@ -181,7 +195,7 @@ module _ {R : Type 0} where
         by_hint false is = by_side _ (λ a b s. of_made _ a.caller b.caller s.steps) Ordinary old new (d.gets is).set
     get_batch_up n (Err f) d = still old new d.refusals.same
 
-    pub reserved_up : (r : Result (Option ℕ) TagFault) → DoesGetReserved pool r old new → WaitsNowhere old
+    pub reserved_up : (r : Result (Found ℕ) TagFault) → DoesGetReserved pool r old new → WaitsNowhere old
         → WaitsNowhere new
-    reserved_up (Ok answer) d = by_side _ (λ a b s. of_made _ a.caller b.caller s.searches.steps) Reserved old new d.gets.set
+    reserved_up (Ok found) d = by_side _ (λ a b s. of_made _ a.caller b.caller s.searches.steps) Reserved old new d.gets.set
     reserved_up (Err f) d = still old new d.refusals.same

@@ -5,6 +5,7 @@ use Rattle.tag_layout.specs.Layout.{wake_batch}
 use Rattle.tag_core.specs.Callers.{record_of}
 use Rattle.tag_pool.specs.Hands as pool
 use Rattle.tag_pool.specs.Opening as pool_opening
+use Rattle.tag_pool.specs.declared.kind.Kind.{Kind}
 use Rattle.tag_pool.specs.declared.options.Options.{Options}
 use Rattle.wake_book.specs.Book.{IsOpenBook}
 use Rattle.wake_book.specs.Groups.{AreOpenGroups}
@@ -39,9 +40,9 @@ IsOpen options cap queue hands = IsOpenWith pool_opening.HasFirstHints options c
 abbrev pub IsOpenPlaced : {R : Type 0} → Options → ℕ → Queue R → List (QueueHand R) → Type 0
 IsOpenPlaced options cap queue hands = IsOpenWith pool_opening.HasPlacedHints options cap queue hands
 
--- the hand has made no step in the ordinary set
+-- the hand has made no step
 abbrev pub IsFresh : {R : Type 0} → Hand R → Type 0
-IsFresh hand = (record_of (pool.caller_of hand Ordinary)).steps ≡ []
+IsFresh hand = (kind : Kind) → (record_of (pool.caller_of hand kind)).steps ≡ []
 
 -- what the hands of a new pool have in common, wherever they start
 pub record AreFresh {R : Type 0} (options : Options) (new : Pool R) (hands : List (Hand R)) : Type 0 where

@@ -1,10 +1,10 @@
 //! Gets: they take a tag of the pool, and look for waiters if their sweeps freed others.
 ghost use Rattle.std.specs.Prelude.{◌≡◌, ◌+◌, ◌<◌, ◌≤◌, false, IfOk, IsTrue, None, OnErr};
 ghost use Rattle.refusals.specs.Refusals.{RefusesBy};
-ghost use Rattle.tag_pool.specs.Gets.{DoesGet, DoesGetBatch, DoesGetReserved, DoesGetShallow, Gets, GetsBatch, GetsShallow, most_steps};
+ghost use Rattle.tag_pool.specs.Gets.{DoesGet, DoesGetBatch, DoesGetShallow, Gets, GetsBatch, GetsShallow, most_steps};
 ghost use Rattle.tag_pool.specs.Hands.{hint_of};
-ghost use Rattle.tag_pool.specs.Refusals.{CountsBatch, batch_checks, get_checks, shallow_checks};
-ghost use Rattle.tag_pool.specs.declared.kind.Kind.TheVariants.{Ordinary};
+ghost use Rattle.tag_pool.specs.Refusals.{CountsBatch, batch_checks, get_checks, reserved_checks, shallow_checks};
+ghost use Rattle.tag_pool.specs.declared.kind.Kind.TheVariants.{Ordinary, Reserved};
 ghost use Rattle.tag_queue.specs.Hands.{IsHandOf, IsStillOf, SameCounts, in_pool, pool_of, step_count};
 ghost use Rattle.tag_queue.specs.Looks.{GetsAndLooks, LooksAfter};
 
@@ -118,11 +118,15 @@ impl<R: Copy> Queue<R> {
     pub fn get_reserved(&self, hand: &mut QueueHand<R>) -> Result<Option<u32>, TagFault>
         requires hand { IsHandOf self.now hand.old }
         ensures hand { IsStillOf self.now hand.old hand.new }
-        ensures does { DoesGetReserved (pool_of self.now) result (in_pool hand.old) (in_pool hand.new) }
+        ensures refusals { RefusesBy (reserved_checks (pool_of self.now) (in_pool hand.old)) (hand.new ≡ hand.old) result }
+        ensures gets { IfOk result (λ answer.
+            Gets (pool_of self.now) Reserved answer (in_pool hand.old) (in_pool hand.new)) }
         ensures counts { SameCounts hand.old hand.new }
-        ensures err { OnErr result (hand.new ≡ hand.old) }
+        ensures bound { step_count hand.new ≤ most_steps (pool_of self.now) Reserved + step_count hand.old }
     {
-        self.pool.get_reserved(&mut hand.inner)
+        // No hand of a queue waits by the bell, so nobody can sleep beside those that the sweeps freed.
+        let Found { answer, .. } = self.pool.get_reserved_quietly(&mut hand.inner)?;
+        Ok(answer)
     }
 
     /// Looks for waiters after a get that left `left` tags free: if the active count tells of any, it rings up to

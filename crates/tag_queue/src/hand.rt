@@ -27,7 +27,7 @@ pub struct QueueHand<R> {
     ghost counts: { counted_by teller ≤ back_of inner Ordinary },
     ghost wakes: { moved_of waiter ≤ charged_by teller },
 
-    // It waits in groups alone, in no list of the bell.
+    // It waits in groups alone, and in no set by the bell.
     ghost up: { WaitsNowhere inner },
 }
 

@@ -1,6 +1,7 @@
 //! The slots of held tags, and how tags pass from hand to hand: calls of the pool, by which nothing is counted.
-ghost use Rattle.std.specs.Prelude.{◌≡◌, IfErr, OnErr};
-ghost use Rattle.tag_pool.specs.Slots.{DoesPost, DoesRead, DoesTake, DoesWrite, Reads, Writes};
+ghost use Rattle.std.specs.Prelude.{◌≡◌, ◌≤◌, IfErr, OnErr};
+ghost use Rattle.tag_core.specs.declared.posts.TheConstants.{MOST_NOTE};
+ghost use Rattle.tag_pool.specs.Slots.{DoesPost, DoesRead, DoesReadNote, DoesTake, DoesWrite, Reads, Writes};
 ghost use Rattle.tag_pool.specs.Hands.{Holds, slot_of};
 ghost use Rattle.tag_pool.specs.declared.fault.TagFault.TheVariants.{NoSuchTag};
 ghost use mathlib.Core.Option.{some};
@@ -66,11 +67,36 @@ impl<R: Copy> Queue<R> {
     pub fn post(&self, hand: &mut QueueHand<R>, tag: u32) -> Result<(), TagFault>
         requires hand { IsHandOf self.now hand.old }
         ensures hand { IsStillOf self.now hand.old hand.new }
-        ensures does { DoesPost tag (pool_of self.now) result (in_pool hand.old) (in_pool hand.new) }
+        ensures does { DoesPost tag 0 (pool_of self.now) result (in_pool hand.old) (in_pool hand.new) }
         ensures counts { SameCounts hand.old hand.new }
         ensures err { OnErr result (hand.new ≡ hand.old) }
     {
         self.pool.post(&mut hand.inner, tag)
+    }
+
+    /// Gives up a held tag with its slot and a note that any hand may read, and is refused, as `Pool::post_noted`.
+    #[inline]
+    pub fn post_noted(&self, hand: &mut QueueHand<R>, tag: u32, note: u64) -> Result<(), TagFault>
+        requires hand { IsHandOf self.now hand.old }
+        requires note { note ≤ MOST_NOTE }
+        ensures hand { IsStillOf self.now hand.old hand.new }
+        ensures does { DoesPost tag note (pool_of self.now) result (in_pool hand.old) (in_pool hand.new) }
+        ensures counts { SameCounts hand.old hand.new }
+        ensures err { OnErr result (hand.new ≡ hand.old) }
+    {
+        self.pool.post_noted(&mut hand.inner, tag, note)
+    }
+
+    /// Returns the note of a posted tag, or `None` if it is not posted, and is refused, as `Pool::read_note`.
+    #[inline]
+    pub fn read_note(&self, hand: &mut QueueHand<R>, tag: u32) -> Result<Option<u64>, TagFault>
+        requires hand { IsHandOf self.now hand.old }
+        ensures hand { IsStillOf self.now hand.old hand.new }
+        ensures does { DoesReadNote tag (pool_of self.now) result (in_pool hand.old) (in_pool hand.new) }
+        ensures counts { SameCounts hand.old hand.new }
+        ensures err { OnErr result (hand.new ≡ hand.old) }
+    {
+        self.pool.read_note(&mut hand.inner, tag)
     }
 
     /// Takes a posted tag with its slot, and is refused, as `Pool::take`.

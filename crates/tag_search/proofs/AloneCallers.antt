@@ -1,12 +1,18 @@
 -- The only caller of a map: its own steps determine the words, so gets are choices.
-use Rattle.std.specs.Prelude.{◌<◌, ◌^◌, ◌∷◌, ◌≡◌, ◌≤◌}
-use Rattle.tag_search.proofs.Uses.{[], Adds, AddsAll, ap, arith, Bell, Caller, Cells, cells_left, Claimed, EachFinds, Finds, FindsIn, free_at, Give, is_posted, IsAlone, Keep, Layout, LeavesPool, List, Look, LookAside, nat_eq, own_after, place_of, place_of-below, Pool, pool_left, pool_of, Post, Put}
-use Rattle.tag_search.proofs.Uses.{Quiet, Record, record_of, refl, set_aside, Shape, shape_after, Spill, Step, steps_by, subst, Swap, sym, Take, Word, word_bits-le, Words, words_after_all, words_left, WordStep, ℕ, ◌∙◌}
+use Rattle.std.specs.Prelude.{◌%◌, ◌<◌, ◌^◌, ◌∷◌, ◌≡◌, ◌≤◌}
+use Rattle.tag_search.proofs.Uses.{[], Adds, AddsAll, ap, arith, Bell, Caller, Cells, cells_left, Claimed, dite, EachFinds, Finds, FindsIn, free_at, Give, is_posted, IsAlone, Keep, Layout, LeavesPool, List, Look, LookAside, nat_eq, own_after, place_of, place_of-below, Pool, pool_left, pool_of, Post, Put, ReadNote}
+use Rattle.tag_search.proofs.Uses.{Quiet, Record, record_of, refl, set_aside, Shape, shape_after, Spill, Step, steps_by, subst, Swap, sym, Take, Word, word_bits-le, Words, words_after_all, words_left, WordStep, ℕ, ℕ_discrete, ◌∙◌}
 use Rattle.std.proofs.Math.Logic.{∥∥₁_elim}
+use mathlib.Core.HLevel.{hedberg}
 use native.Mathlib.Nat.{ℕ_set}
 use Rattle.tag_core.specs.declared.bell_step.BellStep.{BellStep}
-use Rattle.tag_core.specs.declared.bell_step.BellStep.TheVariants.{Enlist, Sight, Tell, GetUp}
-use Rattle.tag_core.specs.Lists.{FindsListed}
+use Rattle.tag_core.specs.declared.bell_step.BellStep.TheVariants.{Enlist, Enter, GetUp, Leave, LookAll, LookAt, TakeTurn, Tell}
+use Rattle.tag_core.specs.declared.berth.Berth.{Berth}
+use Rattle.tag_core.specs.declared.berth.TheConstants.{TURNS}
+use Rattle.tag_core.specs.Berths.{berth_word}
+use Rattle.tag_core.specs.Bits.{state_word}
+use Rattle.tag_core.specs.Waits.{FindsWaits, Waits}
+use Rattle.tag_core.proofs.Berths.{berth-one}
 use Rattle.tag_core.specs.Meeting.{HasHistory}
 use Rattle.tag_search.proofs.AloneFacts.{EachFound, own_of_record, each_found, found_changes}
 use Rattle.tag_search.proofs.PlainPools.{put_pool, give_pool}
@@ -22,17 +28,27 @@ finds_prop (Swap i found) w = ℕ_set found (w.aside i)
 finds_prop (Keep i mask) w = hlevel
 finds_prop (Spill i mask found) w = ℕ_set found (w.word i)
 
-listed_prop : (step : BellStep) (lists : ℕ → ℕ) → IsProp (FindsListed step lists)
-listed_prop (Enlist list caller found) lists = ℕ_set found (lists list)
-listed_prop (Sight list found) lists = ℕ_set found (lists list)
-listed_prop (Tell list mask found) lists = ℕ_set found (lists list)
-listed_prop (GetUp list caller found) lists = ℕ_set found (lists list)
+-- two berths are one, or not, as their words are
+berth_set : IsSet Berth
+berth_set = hedberg (λ a b. dite (ℕ_discrete (berth_word a) (berth_word b)) (λ same. yes (berth-one a b same))
+    (λ differ. no (λ same. differ (ap berth_word same))))
+
+waits_prop : (step : BellStep) (w : Waits) → IsProp (FindsWaits step w)
+waits_prop (Enter caller found) w = ℕ_set found w.waiters
+waits_prop (Leave caller found) w = ℕ_set found w.waiters
+waits_prop (LookAll found) w = ℕ_set found w.waiters
+waits_prop (TakeTurn found) w = ℕ_set found (w.clock % TURNS)
+waits_prop (Enlist caller waiter turn found) w = berth_set found (w.berths caller)
+waits_prop (LookAt whom found) w = berth_set found (w.berths whom)
+waits_prop (Tell whom waiter turn found) w = berth_set found (w.berths whom)
+waits_prop (GetUp caller found) w = berth_set found (w.berths caller)
 
 step_prop : {R : Type 0} (step : Step R) (c : Cells) → IsProp (FindsIn step c)
 step_prop (Word step) c = finds_prop step c.words
-step_prop (Post tag value) c = hlevel
+step_prop (Post tag note value) c = hlevel
 step_prop (Take tag found value) c = ℕ_set found (c.state tag)
-step_prop (Bell step) c = listed_prop step c.lists
+step_prop (ReadNote tag found) c = ℕ_set found (state_word (c.state tag) (c.note tag))
+step_prop (Bell step) c = waits_prop step c.waits
 
 found_prop : {R : Type 0} (steps : List (Step R)) → IsProp (EachFound steps)
 found_prop [] = hlevel

@@ -1,18 +1,19 @@
 -- A search in vain: its steps show of each spot that no tag is free there, after any step of it that made one free.
 use Rattle.std.specs.Prelude.{◌++◌, ◌<◌, ◌^◌, ◌∷◌, ◌≡◌, ◌≢◌, ◌≤◌, ◌⊎◌}
-use Rattle.tag_search.proofs.Uses.{[], All-contains, AllByRecursion, arith, at_once, bit_at, bit_at-zero, Claimed, Contains, Contains-append_cases, dite, empty, inl, inr, IsKeepingSweep, IsPass, IsRetry, IsSearch, IsSweep, IsTries, IsVisit, kept_alone, kept_one, Layout, List, Look, LookAside, loses}
+use Rattle.tag_search.proofs.Uses.{[], All-contains, AllByRecursion, arith, at_once, bit_at, bit_at-zero, Bool, Claimed, Contains, Contains-append_cases, dite, empty, inl, inr, IsKeepingSweep, IsPass, IsRetry, IsSearch, IsSweep, IsTries, IsVisit, kept_alone, kept_one, Layout, List, Look, LookAside, loses}
 use Rattle.tag_search.proofs.Uses.{no_turn, None, none_left, Opens, Option, over, Owes, own_after, pass, passed, refl, retried, Shuts, Spill, spilled, Step, subst, suc, Swap, sym, Tried, turn_kept, turn_passed, turn_won, unseen, Visit, wins, won, Word, word_depth, WordStep, zero, ℕ, ℕ_discrete}
 use Rattle.tag_search.proofs.Uses.{⊎_elim, ◌∙◌}
+use Rattle.tag_core.specs.declared.berth.Waiter.{Waiter}
 use Rattle.tag_bell.specs.declared.spot.Spot.{Spot}
 use Rattle.tag_bell.specs.declared.spot.Spot.TheVariants.{InWord, InAside}
 
 -- it found no tag free at the spot, and has nothing to see to there
-abbrev pub IsClosed : {R : Type 0} → ℕ → List (Step R) → Spot → Type 0
-IsClosed list steps spot = Tried list steps spot × ¬ Owes list steps spot
+abbrev pub IsClosed : {R : Type 0} → List (Step R) → Spot → Type 0
+IsClosed steps spot = Tried steps spot × ((kinds : Waiter → Bool) (e : ℕ) → ¬ Owes kinds steps spot e)
 
 -- whatever came before, these steps, oldest first, close the spot
 abbrev pub Closes : Type 0 → List WordStep → Spot → Type 0
-Closes R steps spot = (list : ℕ) (older : List (Step R)) → IsClosed list (own_after steps older) spot
+Closes R steps spot = (older : List (Step R)) → IsClosed (own_after steps older) spot
 
 -- the spot is in another word
 abbrev pub IsElsewhere : ℕ → Spot → Type 0
@@ -50,23 +51,23 @@ module _ (R : Type 0) where
 
   -- a step that shuts the spot closes it
   shut : (step : WordStep) (spot : Spot) → Shuts step spot → Closes R (step ∷ []) spot
-  shut step spot s list older = (inl s, λ owes. owes.1 s)
+  shut step spot s older = (inl s, λ kinds e owes. owes.1 s)
 
   -- what is closed stays so while no step opens it
-  stays : (ys : List WordStep) (spot : Spot) (list : ℕ) (steps : List (Step R)) → IsClosed list steps spot → Leaves ys spot
-      → IsClosed list (own_after ys steps) spot
-  stays [] spot list steps is leaves = is
-  stays (y ∷ ys) spot list steps is leaves = stays ys spot list (Word y ∷ steps)
-      (inr is.0, λ owes. ⊎_elim leaves.0 is.1 owes.0) leaves.1
+  stays : (ys : List WordStep) (spot : Spot) (steps : List (Step R)) → IsClosed steps spot → Leaves ys spot
+      → IsClosed (own_after ys steps) spot
+  stays [] spot steps is leaves = is
+  stays (y ∷ ys) spot steps is leaves = stays ys spot (Word y ∷ steps)
+      (inr is.0, λ kinds e owes. ⊎_elim leaves.0 (is.1 kinds e) owes.0) leaves.1
 
   -- the end of a list of steps decides
   ends : (xs ys : List WordStep) (spot : Spot) → Closes R ys spot → Closes R (xs ++ ys) spot
-  ends xs ys spot closes list older = subst (λ (s : List (Step R)). IsClosed list s spot)
-      (sym (own_after-append xs ys older)) (closes list (own_after xs older))
+  ends xs ys spot closes older = subst (λ (s : List (Step R)). IsClosed s spot)
+      (sym (own_after-append xs ys older)) (closes (own_after xs older))
 
   begins : (xs ys : List WordStep) (spot : Spot) → Closes R xs spot → Leaves ys spot → Closes R (xs ++ ys) spot
-  begins xs ys spot closes leaves list older = subst (λ (s : List (Step R)). IsClosed list s spot)
-      (sym (own_after-append xs ys older)) (stays ys spot list (own_after xs older) (closes list older) leaves)
+  begins xs ys spot closes leaves older = subst (λ (s : List (Step R)). IsClosed s spot)
+      (sym (own_after-append xs ys older)) (stays ys spot (own_after xs older) (closes older) leaves)
 
   -- if they open the spot at all, they close it at last
   abbrev Settles : List WordStep → Spot → Type 0

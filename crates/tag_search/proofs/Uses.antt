@@ -62,7 +62,7 @@ pub use Rattle.tag_core.specs.declared.map.Map.{Map}
 pub use Rattle.tag_core.specs.declared.record.Record.{Record}
 pub use Rattle.tag_core.specs.declared.shape.Shape.{Shape}
 pub use Rattle.tag_core.specs.declared.step.Step.{Step}
-pub use Rattle.tag_core.specs.declared.step.Step.TheVariants.{Bell, Post, Take, Word}
+pub use Rattle.tag_core.specs.declared.step.Step.TheVariants.{Bell, Post, ReadNote, Take, Word}
 pub use Rattle.tag_core.specs.declared.word_step.WordStep.{WordStep}
 pub use Rattle.tag_core.specs.declared.word_step.WordStep.TheVariants.{Claimed, Give, Keep, Look, LookAside, Put, Spill, Swap}
 pub use Rattle.tag_bell.specs.Waiting.{in_aside, in_word, Opens, Owes, OwesNothing, Shuts, Tried, TriedAll}

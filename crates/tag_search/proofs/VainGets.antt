@@ -2,6 +2,8 @@
 use Rattle.tag_search.proofs.Uses.{[], ap, arith, Bool, Caller, cond, Contains, Contains-append_left, Contains-append_right, dec_le, dite, false, Hint, IfNone, in_aside, in_word, inl, inr, IsCallerOf, IsGet, Layout, layout_of, List, Makes, Map, map, min, nat_eq, None, numbers, OwesNothing}
 use Rattle.tag_search.proofs.Uses.{own_after, place_of, place_of-below, plain_reach, plain_visits, Reach, Record, record_of, reduced, refl, scan_order, Shape, shape_after, Step, subst, suc, sym, TriedAll, true, visit_of, word_depth, word_of, word_of-below, words, zero, ℕ, ⊎_elim, ◌∙◌}
 use Rattle.std.specs.Prelude.{Option, Some, ◌+◌, ◌<◌, ◌∷◌, ◌≡◌, ◌≤◌, ◌⊎◌}
+use Rattle.tag_core.specs.Berths.{same_waiter}
+use Rattle.tag_core.specs.declared.berth.Waiter.{Waiter}
 use Rattle.tag_search.specs.Vain.{TriesAll, MaySleep}
 use Rattle.tag_search.proofs.AloneFacts.{own_of_record}
 use Rattle.tag_search.proofs.Closing.{AreFull, IsVisited, IsClosed, search_closes}
@@ -60,32 +62,33 @@ plain_full l hint how = of hint.round_robin how
 -- after the steps of a get in vain both spots of each tag are closed
 vain_closes : (R : Type 0) (l : Layout) (hint : Hint) (steps : List _) → TriesAll l hint
     → IsGet l (plain_visits l hint.round_robin (reduced l.depth hint.at)) None steps
-    → (list : ℕ) (older : List (Step R)) (tag : ℕ) → tag < l.depth
-    → IsClosed list (own_after steps older) (in_word l tag) × IsClosed list (own_after steps older) (in_aside l tag)
-vain_closes R l hint steps how get list older tag low =
+    → (older : List (Step R)) (tag : ℕ) → tag < l.depth
+    → IsClosed (own_after steps older) (in_word l tag) × IsClosed (own_after steps older) (in_aside l tag)
+vain_closes R l hint steps how get older tag low =
     let at = reduced l.depth hint.at in let i = word_of l tag in
     let all = plain_full l hint how in
     let there = visited (word_of l at) (plain_reach l hint.round_robin at) i (scan_order (word_of l at) (words l) true)
     (scan_has (word_of l at) (words l) i true (inl refl) (word_of-below l tag low)) in (
-      search_closes R get.search refl all i (in_word l tag) (refl, place_of-below l tag low) there list older,
-      search_closes R get.search refl all i (in_aside l tag) refl there list older,
+      search_closes R get.search refl all i (in_word l tag) (refl, place_of-below l tag low) there older,
+      search_closes R get.search refl all i (in_aside l tag) refl there older,
     )
 
 -- so the caller may sleep
 pub vain_get : {R : Type 0} (l : Layout) (hint : Hint) (old new : Caller R) → (record_of old).shape.layout ≡ l
     → TriesAll l hint → Makes old new (IsGet l (plain_visits l hint.round_robin (reduced l.depth hint.at)) None)
     → MaySleep new
-vain_get {R} l hint old new same how made list =
+vain_get {R} l hint old new same how made =
     let steps = made.steps in
     let own : (record_of new).steps ≡ own_after steps (record_of old).steps =
     ap (λ (r : Record R). r.steps) made.added.known ∙ own_of_record steps (record_of old) in
     let shape : l ≡ (record_of new).shape.layout = sym same ∙ ap (λ (k : Shape). k.layout)
     (sym (ap (λ (r : Record R). r.shape) made.added.known ∙ shape_after steps (record_of old))) in
-    let closes = vain_closes R l hint steps how made.holds list (record_of old).steps in
-    subst (λ (x : Layout × List (Step R)). TriedAll x.0 list x.1 × OwesNothing x.0 list x.1)
+    let closes = vain_closes R l hint steps how made.holds (record_of old).steps in
+    subst (λ (x : Layout × List (Step R)). TriedAll x.0 x.1 × ((kind : Waiter) → OwesNothing x.0 (same_waiter kind) x.1))
     (λ j. (shape j, sym own j)) (
       (λ tag low. let c = closes tag low in (c.0.0, c.1.0)),
-      (λ tag low owes. let c = closes tag low in ⊎_elim c.0.1 c.1.1 owes),
+      (λ kind tag low e owes. let c = closes tag low in
+          ⊎_elim (c.0.1 (same_waiter kind) e) (c.1.1 (same_waiter kind) e) owes),
     )
 
 -- the same of any answer of a get on a map

@@ -1,6 +1,7 @@
 -- Gets that find no tag: they tried each one.
 use Rattle.std.specs.Prelude.{◌≡◌, ◌⊎◌}
-use Rattle.tag_search.specs.Uses.{Caller, false, Layout, place_of, ℕ}
+use Rattle.tag_search.specs.Uses.{Caller, false, Layout, place_of}
+use Rattle.tag_core.specs.declared.berth.Waiter.{Waiter}
 use Rattle.tag_bell.specs.Callers.{HasTriedAll, OwesNothing}
 use Rattle.tag_search.specs.declared.hint.Hint.{Hint}
 use Rattle.tag_search.specs.Hints.{reduced}
@@ -11,4 +12,4 @@ TriesAll l hint = (hint.round_robin ≡ false) ⊎ (place_of l (reduced l.depth 
 
 -- the caller may sleep: it tried each tag in vain, and has to see to none
 abbrev pub MaySleep : {R : Type 0} → Caller R → Type 0
-MaySleep caller = (list : ℕ) → HasTriedAll list caller × OwesNothing list caller
+MaySleep caller = HasTriedAll caller × ((kind : Waiter) → OwesNothing kind caller)

@@ -19,6 +19,7 @@ mod tags {
     pub mod hand;
     pub mod held;
     pub mod lists;
+    pub mod notes;
     pub mod options;
     pub mod owned;
     pub mod pool;
@@ -30,7 +31,10 @@ mod tags {
     )]
     pub mod proved;
     pub mod queue;
+    pub mod queues;
+    pub mod sets;
     pub mod shared;
+    pub mod side;
     pub mod sleep;
     pub mod tag;
     pub mod thread;
@@ -51,8 +55,8 @@ mod steps;
 mod threads;
 
 // As the modules of `tags` name each other.
-use tags::{allocator, batch, bell, cells, error, future, gate, hand, lists, options, owned};
-use tags::{pool, proved, queue, shared, sleep, tag, thread, waits};
+use tags::{allocator, batch, bell, cells, error, future, gate, hand, lists, notes, options, owned};
+use tags::{pool, proved, queue, queues, sets, shared, side, sleep, tag, thread, waits};
 
 use scenarios::PLAYS;
 use search::{explore, Explored};

@@ -1,6 +1,6 @@
 //! The scenarios: what the threads do, how many they are, on how many tags, and how often.
 
-use crate::interface::{batches, caches, futures, gates, lists, locks, passing, shared, waits};
+use crate::interface::{batches, caches, futures, gates, lists, locks, notes, passing, queues, sets, shared, waits};
 use crate::memory::MOST;
 use crate::options::Options;
 use crate::threads;
@@ -45,7 +45,7 @@ pub fn read(words: &str) -> Option<(Play, Scenario, Option<u32>)> {
 
 /// Each play, with what is explored of it without arguments: threads, tags and rounds, and where all would take too long, the
 /// most switches.
-pub const PLAYS: [(&str, Play, &[&str]); 37] = [
+pub const PLAYS: [(&str, Play, &[&str]); 59] = [
     ("get", threads::get, &["2 1 1", "2 2 1", "2 1 2", "3 1 1", "3 2 1"]),
     ("sleep", threads::sleep, &["2 1 1", "2 2 1", "2 1 2", "3 1 1"]),
     ("cache", threads::cache, &["2 1 1", "2 2 1", "2 1 2", "3 1 1 3"]),
@@ -65,6 +65,7 @@ pub const PLAYS: [(&str, Play, &[&str]); 37] = [
     ("hoard", caches::hoard, &["2 3 1", "3 4 1 2"]),
     ("await", futures::await_each, &["2 1 1", "2 2 1", "2 1 2", "3 1 1"]),
     ("meet", futures::meet, &["2 1 1", "3 1 1"]),
+    ("linger", futures::linger, &["2 1 1", "3 1 1 3"]),
     ("cancel", futures::cancel, &["2 1 1", "2 2 1", "3 1 1 3"]),
     ("give-up", futures::give_up, &["2 1 1", "3 1 1"]),
     ("leak", futures::leak, &["2 1 1", "3 1 1"]),
@@ -83,4 +84,29 @@ pub const PLAYS: [(&str, Play, &[&str]); 37] = [
     ("pick-future", lists::pick_by_future, &["3 2 1"]),
     ("join", gates::join_each, &["2 1 1", "2 1 2", "3 1 1", "3 2 2 2"]),
     ("turn-away", gates::turn_away, &["2 1 1", "3 1 1"]),
+    ("note", notes::note, &["2 1 1", "2 1 2", "3 1 1", "3 2 1"]),
+    ("note-kept", notes::note_kept, &["2 1 1", "2 1 2", "3 1 1"]),
+    ("apart", sets::apart, &["2 1 1", "3 1 1"]),
+    ("in-turn", sets::in_turn, &["2 1 1", "2 1 2", "3 1 1 3"]),
+    ("await-both", sets::await_both, &["2 1 1", "3 1 1 3"]),
+    ("sift-reserved", sets::sift, &["3 2 1"]),
+    ("swap", sets::swap, &["2 1 1", "3 1 1 3"]),
+    ("submit", queues::submit_each, &["2 1 1", "2 2 1", "3 2 1 2"]),
+    (
+        "submit-futures",
+        queues::submit_to_futures,
+        &["2 1 1", "2 2 1", "3 2 1 2"],
+    ),
+    ("relay", queues::relay, &["2 1 1", "2 1 2", "2 2 1", "3 1 1 3"]),
+    ("submit-limit", queues::limit, &["2 1 1"]),
+    ("submit-stop", queues::stop, &["2 1 1", "3 1 1 2"]),
+    ("submit-stop-futures", queues::stop_futures, &["2 1 1"]),
+    ("past", queues::past, &["2 1 1", "2 2 1", "2 1 2", "3 1 1"]),
+    ("past-batch", queues::past_batch, &["2 1 1", "2 2 1", "3 1 1"]),
+    ("lap", queues::lap, &["3 3 1 2"]),
+    ("submit-join", queues::join_each, &["2 1 1", "3 2 1 2"]),
+    ("submit-keep", queues::keep, &["2 1 1"]),
+    ("submit-keep-futures", queues::keep_futures, &["2 1 1"]),
+    ("submit-pass", queues::pass, &["2 2 1"]),
+    ("submit-give-up", queues::give_up, &["3 1 1 2"]),
 ];

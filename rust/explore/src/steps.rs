@@ -36,10 +36,13 @@ pub fn step(place: usize, access: Access) {
 }
 
 /// Sleeps if the word is as expected when the step is made: until a wake, or if the sleep is timed, until the time is up,
-/// or for no reason.
+/// or for no reason. The play itself has nobody to wake it.
 pub fn park(place: usize, is_timed: bool, is_as_expected: impl FnOnce() -> bool) {
     step(place, Access::Word);
     if is_as_expected() && !(is_timed && is_late()) {
+        if running() == 0 {
+            fault("nobody is left to end a sleep");
+        }
         stop(State::Asleep { place, is_timed }, place, Access::Word);
     }
 }

@@ -2,7 +2,7 @@
 
 use crate::base::vec::Global;
 use crate::proved::tag_cache::Cache;
-use crate::proved::tag_pool::{Hand, Options, Pool};
+use crate::proved::tag_pool::{Hand, Kind, Options, Pool};
 use crate::scenarios::Scenario;
 use crate::stage::Access;
 use crate::steps::{fault, run, sleepers, step};
@@ -100,7 +100,7 @@ impl Common {
             }
         }
         cache.flush(&self.tags);
-        cache.wake_next(&self.tags);
+        cache.wake_next(&self.tags, Kind::Ordinary);
     }
 
     fn post(&self, me: usize, hand: &mut Hand<u64>) {

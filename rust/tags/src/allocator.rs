@@ -21,11 +21,14 @@ pub(crate) use gets::Gotten;
 pub(crate) use held::{Held, HeldMask};
 pub(crate) use member::Member;
 pub(crate) use roster::Roster;
-pub(crate) use rounds::{List, Next, Turn};
-pub(crate) use told::Due;
+pub(crate) use rounds::{Next, Turn, Waiter};
+pub(crate) use told::{Due, Freed, Hands};
 
 use crate::cells::Values;
+use crate::notes::Notes;
+use crate::options::Kind;
 use crate::proved::tag_pool::Pool;
+use crate::queues::Queues;
 
 /// The most tags of a pool.
 pub(crate) const MAX_TOTAL: u32 = crate::proved::tag_pool::MAX_DEPTH;
@@ -43,12 +46,24 @@ struct Core {
 pub(crate) struct Set<T> {
     core: Core,
     values: Values<T>,
+    /// `None` in a pool without notes.
+    notes: Option<Notes>,
+    queues: Queues,
 }
 
 impl<T> Set<T> {
-    /// Number of tags that gets take: the ordinary ones.
-    pub fn depth(&self) -> u32 {
-        self.core.tags.depth() - self.core.tags.reserved()
+    /// Number of tags of a set.
+    pub fn depth(&self, kind: Kind) -> u32 {
+        let reserved = self.core.tags.reserved();
+        match kind {
+            Kind::Ordinary => self.core.tags.depth() - reserved,
+            Kind::Reserved => reserved,
+        }
+    }
+
+    /// The queues of submitted tags.
+    pub fn queues(&self) -> &Queues {
+        &self.queues
     }
 
     /// The value beside a tag, for its guard.

@@ -1,6 +1,7 @@
 //! Several tags that a hand holds, and the numbers of those that were posted together.
 
 use crate::allocator::HeldMask;
+use crate::error::{Error, Result};
 use crate::hand::Hand;
 use crate::tag::Tag;
 use alloc::vec::Vec;
@@ -125,6 +126,27 @@ impl<'a, T> Batch<'a, T> {
     /// Writes the slot of one of the tags, and returns the former value, or `None` if that is no tag of the batch.
     pub fn write(&self, number: u32, value: u64) -> Option<u64> {
         self.hand.member.write_in(&self.held, number, value)
+    }
+
+    /// Publishes the note of one of the tags, as [`Tag::note`] does. [`NoSuchTag`](Error::NoSuchTag) means that it is no tag
+    /// of the batch.
+    ///
+    /// ```
+    /// # use tags::{Error, Options, Pool};
+    /// # fn main() -> tags::Result<()> {
+    /// let pool = Pool::open(&Options { notes: true, ..Options::new(16, 1) })?;
+    /// let hand = pool.join()?;
+    /// let batch = hand.get_batch(3)?.unwrap();
+    /// assert_eq!((batch.note(1, 70), batch.note(3, 70)), (Ok(()), Err(Error::NoSuchTag)));
+    /// assert_eq!(pool.noted_tags()?.filter_map(|(_, note)| note).count(), 1);
+    /// # Ok(())
+    /// # }
+    /// ```
+    pub fn note(&self, number: u32, value: u64) -> Result<()> {
+        if !self.has(number) {
+            return Err(Error::NoSuchTag);
+        }
+        self.hand.member.note(number, self.hand.note_of(value))
     }
 
     /// Splits the first tag off, which is given back on its own; what is left goes back in one step. `None` means that

@@ -1,6 +1,7 @@
 //! Errors: why calls are refused.
 
 use crate::pool::Pool;
+use crate::tag::Tag;
 use core::fmt;
 
 /// The result of a call that can be refused.
@@ -16,9 +17,9 @@ pub enum Error {
     NoReserved,
     /// This hand does not hold the tag, or the tag has a guard already.
     NotHeld,
-    /// The tag is not posted, or another hand took it first.
+    /// The tag is not posted, or another hand took it first, or it is in a queue.
     NotPosted,
-    /// A batch of 0 tags.
+    /// A batch of 0 tags, or more tags at once than the pool has ordinary ones.
     BadCount,
     /// A depth of 0, or one below the pool's [`min_shallow`](crate::Options::min_shallow).
     TooShallow,
@@ -48,12 +49,18 @@ pub enum Error {
     CacheTooLarge,
     /// [`Pool::stop`] ended all waits.
     Stopped,
+    /// The pool was opened without [`notes`](crate::Options::notes).
+    NoNotes,
+    /// More than 64 queues.
+    BadQueueCount,
+    /// The pool was opened with fewer [`queues`](crate::Options::queues).
+    NoSuchQueue,
     /// A status that no call of this crate should return.
     Unexpected(i32),
 }
 
 /// The status of each error, which the C library has too, and what it says.
-const STATUSES: [(Error, i32, &str); 19] = [
+const STATUSES: [(Error, i32, &str); 22] = [
     (
         Error::NoSuchTag,
         -1,
@@ -68,9 +75,13 @@ const STATUSES: [(Error, i32, &str); 19] = [
     (
         Error::NotPosted,
         -4,
-        "the tag is not posted, or another hand took it first",
+        "the tag is not posted, or it is in a queue, or another hand took it first",
     ),
-    (Error::BadCount, -5, "a batch of 0 tags, or a list of more than 64"),
+    (
+        Error::BadCount,
+        -5,
+        "a batch of 0 tags, a list of more than 64, or more tags at once than are ordinary",
+    ),
     (Error::TooShallow, -6, "the depth is 0, or below the pool's min_shallow"),
     (
         Error::Spent,
@@ -97,6 +108,9 @@ const STATUSES: [(Error, i32, &str); 19] = [
     (Error::InUse, -29, "tags are held or posted"),
     (Error::CacheTooLarge, -35, "a hand keeps at most 64 tags in its cache"),
     (Error::Stopped, -36, "the pool was stopped, which ends all waits"),
+    (Error::NoNotes, -37, "the pool was opened without notes"),
+    (Error::BadQueueCount, -38, "a pool has at most 64 queues"),
+    (Error::NoSuchQueue, -39, "the pool has no such queue"),
 ];
 
 impl Error {
@@ -144,3 +158,35 @@ impl<T> fmt::Display for CloseError<T> {
 }
 
 impl<T> core::error::Error for CloseError<T> {}
+
+/// A tag that could not be submitted. Nothing has changed, and its hand holds it. Dropping this gives the tag back, also where
+/// it is turned into its [`Error`], as by `?`.
+pub struct SubmitError<'a, T = ()> {
+    /// The reason.
+    pub error: Error,
+    /// The tag.
+    pub tag: Tag<'a, T>,
+}
+
+impl<T> fmt::Debug for SubmitError<'_, T> {
+    fn fmt(&self, f: &mut fmt::Formatter<'_>) -> fmt::Result {
+        f.debug_struct("SubmitError")
+            .field("error", &self.error)
+            .field("tag", &self.tag)
+            .finish()
+    }
+}
+
+impl<T> fmt::Display for SubmitError<'_, T> {
+    fn fmt(&self, f: &mut fmt::Formatter<'_>) -> fmt::Result {
+        self.error.fmt(f)
+    }
+}
+
+impl<T> core::error::Error for SubmitError<'_, T> {}
+
+impl<T> From<SubmitError<'_, T>> for Error {
+    fn from(refused: SubmitError<'_, T>) -> Error {
+        refused.error
+    }
+}

@@ -4,8 +4,9 @@ use crate::allocator::{Due, Held, Next};
 use crate::bell::Bell;
 use crate::error::{Error, Result};
 use crate::hand::Hand;
+use crate::options::Kind;
 use crate::owned::OwnedTag;
-use crate::queue::{wake_all, Queue, State, Waiter};
+use crate::queue::{wake_all, Queue, Queued, State};
 use crate::shared::SharedHand;
 use crate::tag::Tag;
 use alloc::vec::Vec;
@@ -22,7 +23,8 @@ pub(crate) trait Lends {
 
     fn bell(&self) -> &Bell;
 
-    fn queue(&self) -> &Queue;
+    /// The futures that wait behind the hand for a tag of this kind.
+    fn queue(&self, kind: Kind) -> &Queue;
 }
 
 impl<T> Lends for &Hand<T> {
@@ -38,27 +40,36 @@ impl<T> Lends for &Hand<T> {
         &self.home.bell
     }
 
-    fn queue(&self) -> &Queue {
-        Hand::queue(self)
+    fn queue(&self, kind: Kind) -> &Queue {
+        self.home.bell.queue(kind, self.member.number())
     }
 }
 
-/// A future's wait for a tag, in the queue of its hand.
+/// A future's wait for a tag of this kind, in a queue of its hand.
 struct Waiting<L: Lends> {
     lender: L,
+    kind: Kind,
     /// The future's number in the queue while it is there.
     number: Option<u64>,
 }
 
 impl<L: Lends> Waiting<L> {
-    fn new(lender: L) -> Waiting<L> {
-        Waiting { lender, number: None }
+    fn new(lender: L, kind: Kind) -> Waiting<L> {
+        Waiting {
+            lender,
+            kind,
+            number: None,
+        }
+    }
+
+    fn queue(&self) -> &Queue {
+        self.lender.queue(self.kind)
     }
 
     fn poll(&mut self, waker: &Waker) -> Poll<Result<Held>> {
         let answer = match self.number {
             Some(number) => {
-                drop(self.lender.queue().renew(number, waker.clone()));
+                drop(self.queue().renew(number, waker.clone()));
                 self.look(number)
             }
             None => match self.find()? {
@@ -74,12 +85,12 @@ impl<L: Lends> Waiting<L> {
         if self.lender.bell().is_stopped() {
             return Err(Error::Stopped);
         }
-        self.lender.lend(|hand| hand.after_get(hand.member.get()))
+        self.lender.lend(|hand| hand.after_get(hand.member.get_in(self.kind)))
     }
 
     /// Begins to wait. The first one lists the hand, also for those that join meanwhile.
     fn join(&mut self, waker: Waker) -> Option<Result<Held>> {
-        let (number, is_first) = self.lender.queue().join(self.lender.bell(), waker);
+        let (number, is_first) = self.queue().join(self.lender.bell(), waker);
         self.number = Some(number);
         if is_first {
             self.try_for_all(Some(number))
@@ -90,7 +101,7 @@ impl<L: Lends> Waiting<L> {
 
     /// Returns what this future gets, if it gets anything, after a try if the hand was told of a tag.
     fn look(&self, number: u64) -> Option<Result<Held>> {
-        match self.lender.queue().look(number) {
+        match self.queue().look(number) {
             State::Answered(answer) => Some(answer),
             State::Told => self.try_for_all(Some(number)),
             State::Waiting => None,
@@ -100,7 +111,7 @@ impl<L: Lends> Waiting<L> {
     fn finish(&mut self, answer: Result<Held>) -> Poll<Result<Held>> {
         self.number = None;
         // A stop answers futures without their hand.
-        if matches!(answer, Err(Error::Stopped)) && self.lender.queue().is_empty() {
+        if matches!(answer, Err(Error::Stopped)) && self.queue().is_empty() {
             self.try_for_all(None);
         }
         Poll::Ready(answer)
@@ -110,8 +121,10 @@ impl<L: Lends> Waiting<L> {
     /// once more. If none waits any longer, it is not listed. Returns what it got for the future that makes this call,
     /// and wakes the others that got something.
     fn try_for_all(&self, own: Option<u64>) -> Option<Result<Held>> {
-        let (mut woken, bell) = (Vec::new(), self.lender.bell());
-        let own = self.lender.lend(|hand| hand.try_for_futures(bell, own, &mut woken));
+        let mut woken = Vec::new();
+        let own = self
+            .lender
+            .lend(|hand| hand.try_for_futures(self.kind, own, &mut woken));
         wake_all(woken);
         // The future's waker is dropped here, without the hand's lock.
         own.map(|(answer, _)| answer)
@@ -122,7 +135,7 @@ impl<L: Lends> Waiting<L> {
         let Some(number) = self.number.take() else {
             return;
         };
-        let left = self.lender.queue().leave(self.lender.bell(), number);
+        let left = self.queue().leave(self.lender.bell(), number);
         if let Some(held) = left.tag {
             self.lender.lend(|hand| ((), hand.give(held)));
         }
@@ -133,15 +146,17 @@ impl<L: Lends> Waiting<L> {
 }
 
 /// What a future got, with its place in the queue.
-type Own = Option<(Result<Held>, Waiter)>;
+type Own = Option<(Result<Held>, Queued)>;
 
 impl<T> Hand<T> {
     /// Returns what it got for the future `own`.
-    fn try_for_futures(&self, bell: &Bell, own: Option<u64>, woken: &mut Vec<Waker>) -> (Own, Due) {
+    fn try_for_futures(&self, kind: Kind, own: Option<u64>, woken: &mut Vec<Waker>) -> (Own, Due) {
+        let bell = &self.home.bell;
+        let queue = bell.queue(kind, self.member.number());
         let (mut of_own, mut due) = (None, Due::NOBODY);
-        self.queue().hear();
-        while !self.queue().is_empty() {
-            let (next, told) = self.listen();
+        queue.hear();
+        while !queue.is_empty() {
+            let (next, told) = self.listen(kind);
             due = due.and(told);
             let answer = match next {
                 Ok(Next::Won(held)) => Ok(held),
@@ -151,7 +166,7 @@ impl<T> Hand<T> {
                 Ok(Next::Over) => continue,
                 Err(error) => Err(error),
             };
-            match self.queue().answer_first(bell, answer, own) {
+            match queue.answer_first(bell, answer, own) {
                 (Some(first), Some(answer)) => of_own = Some((answer, first)),
                 (Some(first), None) => woken.extend(first.waker),
                 // The last one has been dropped meanwhile.
@@ -159,7 +174,7 @@ impl<T> Hand<T> {
                 (None, _) => (),
             }
         }
-        (of_own, due.and(self.end_listening()))
+        (of_own, due.and(self.end_listening(kind)))
     }
 }
 
@@ -169,17 +184,17 @@ impl<L: Lends> Drop for Waiting<L> {
     }
 }
 
-/// The future of [`Hand::get_async`]. Dropping it ends the wait. One that is leaked stays in its place, where it is
-/// woken and gets a tag in its turn; that tag goes back when the hand is dropped.
+/// The future of [`Hand::get_async`] and [`Hand::get_reserved_async`]. Dropping it ends the wait. One that is leaked
+/// stays in its place, where it is woken and gets a tag in its turn; that tag goes back when the hand is dropped.
 #[must_use = "a future does nothing unless it is polled"]
 pub struct GetAsync<'a, T = ()> {
     waiting: Waiting<&'a Hand<T>>,
 }
 
 impl<'a, T> GetAsync<'a, T> {
-    pub(crate) fn new(hand: &'a Hand<T>) -> GetAsync<'a, T> {
+    pub(crate) fn new(hand: &'a Hand<T>, kind: Kind) -> GetAsync<'a, T> {
         GetAsync {
-            waiting: Waiting::new(hand),
+            waiting: Waiting::new(hand, kind),
         }
     }
 }
@@ -200,16 +215,17 @@ impl<T> fmt::Debug for GetAsync<'_, T> {
     }
 }
 
-/// The future of [`SharedHand::get_async`]. It keeps its hand alive, and so does its tag.
+/// The future of [`SharedHand::get_async`] and [`SharedHand::get_reserved_async`]. It keeps its hand alive, and so does
+/// its tag.
 #[must_use = "a future does nothing unless it is polled"]
 pub struct GetAsyncOwned<T = ()> {
     waiting: Waiting<SharedHand<T>>,
 }
 
 impl<T> GetAsyncOwned<T> {
-    pub(crate) fn new(hand: SharedHand<T>) -> GetAsyncOwned<T> {
+    pub(crate) fn new(hand: SharedHand<T>, kind: Kind) -> GetAsyncOwned<T> {
         GetAsyncOwned {
-            waiting: Waiting::new(hand),
+            waiting: Waiting::new(hand, kind),
         }
     }
 }

@@ -5,8 +5,9 @@
 //! sequentially consistent, so either the look finds what came back, or the load finds the one that waits; then the
 //! gate's number changes, which ends its sleep or lets none begin.
 
-use crate::base::word::AtomicU32;
+use crate::base::word::{AtomicU32, LOOKS};
 use crate::sleep::Sleeper;
+use core::hint::spin_loop;
 use core::sync::atomic::Ordering::SeqCst;
 use core::time::Duration;
 
@@ -55,6 +56,21 @@ impl Gate {
             is_late = is_past(sleeper, end);
             if !is_late {
                 sleeper.sleep(&self.number, number, end);
+            }
+        }
+    }
+
+    /// The same without an end, for what mostly takes a moment: it sleeps only after some looks.
+    pub fn wait_a_moment<R>(&self, sleeper: &dyn Sleeper, look: impl Fn() -> Option<R>) -> R {
+        for _ in 0..LOOKS {
+            if let Some(found) = look() {
+                return found;
+            }
+            spin_loop();
+        }
+        loop {
+            if let Some(found) = self.wait(sleeper, None, &look) {
+                return found;
             }
         }
     }

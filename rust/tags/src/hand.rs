@@ -1,15 +1,18 @@
 //! The hand through which a thread takes tags.
 
-use crate::allocator::{Due, Held, Member};
+use crate::allocator::{Due, Freed, Held, Member};
 use crate::batch::Batch;
 use crate::error::Result;
+use crate::notes::Note;
 use crate::options::{Kind, Sizes};
 use crate::pool::Home;
-use crate::queue::Queue;
+use crate::queues::TokenHands;
+use crate::sets::BySet;
 use crate::shared::SharedHand;
 use crate::tag::Tag;
 use crate::waits::Listening;
 use alloc::sync::Arc;
+use alloc::vec::Vec;
 use core::cell::Cell;
 use core::fmt;
 use core::panic::{RefUnwindSafe, UnwindSafe};
@@ -35,9 +38,11 @@ use core::panic::{RefUnwindSafe, UnwindSafe};
 pub struct Hand<T = ()> {
     pub(crate) member: Member<T>,
     pub(crate) home: Arc<Home<T>>,
-    pub(crate) listening: Cell<Listening>,
+    /// Whether it is listed for futures, in each set.
+    pub(crate) listening: BySet<Cell<Listening>>,
     /// How often those who wait for the tags of lists had looked when this hand looked last.
     looks: Cell<u32>,
+    pub(crate) token_hands: TokenHands,
 }
 
 // As with a lock of `std` that is poisoned: what a panic leaves behind beside a tag, its next holder finds.
@@ -49,13 +54,14 @@ impl<T> Hand<T> {
         Hand {
             member,
             home,
-            listening: Cell::default(),
+            listening: BySet::default(),
             looks: Cell::default(),
+            token_hands: TokenHands::default(),
         }
     }
 
-    // A call returns how many tags it made free, and whoever waits is to be told of them, and then woken. That may call a
-    // waker: a hand behind a lock wakes after the lock is left.
+    // A call returns how many tags of each set it made free, and whoever waits for one is to be told of them, and then woken.
+    // That may call a waker: a hand behind a lock wakes after the lock is left.
 
     /// Wakes those whom a call told.
     #[inline]
@@ -64,41 +70,40 @@ impl<T> Hand<T> {
         answer
     }
 
-    /// Ends a get, which made so many tags free that it did not take.
+    /// Ends a get, which made tags free that it did not take.
     #[inline]
-    pub(crate) fn after_get<R>(&self, (found, left): (R, u32)) -> (R, Due) {
-        let due = if left > 0 { self.see_to(left) } else { Due::NOBODY };
+    pub(crate) fn after_get<R>(&self, (found, left): (R, Freed)) -> (R, Due) {
+        let due = if left.is_none() { Due::NOBODY } else { self.see_to(left) };
         (found, due)
     }
 
-    /// Ends a call that gave tags back, or let go of some: so many became free.
-    pub(crate) fn after_giving<R>(&self, (answer, freed): (R, u32)) -> (R, Due) {
+    /// Ends a call that gave tags back, or let go of some: these became free.
+    pub(crate) fn after_giving<R>(&self, (answer, freed): (R, Freed)) -> (R, Due) {
         (answer, self.see_to(freed))
     }
 
     /// Tells those who wait. If nobody is counted who waits, nobody is told.
     #[inline]
-    fn see_to(&self, freed: u32) -> Due {
+    fn see_to(&self, freed: Freed) -> Due {
         if self.home.bell.is_awaited() {
             return self.tell(freed);
         }
         Due::NOBODY
     }
 
-    /// Tells those who wait of tags that became free. What the hand keeps goes back while anybody waits. Threads that wait
-    /// until tags are back look again.
+    /// Tells those who wait of tags of their set that became free. What the hand keeps goes back while anybody waits. Threads
+    /// that wait until tags are back look again.
     #[cold]
-    pub(crate) fn tell(&self, freed: u32) -> Due {
+    pub(crate) fn tell(&self, freed: Freed) -> Due {
         let bell = &self.home.bell;
-        let freed = freed + self.member.flush();
-        if freed == 0 {
+        let freed = freed.and(self.member.flush());
+        if freed.is_none() {
             return Due::NOBODY;
         }
-        let due = if bell.are_enough_waking(self.member.set().depth()) {
-            Due::NOBODY
-        } else {
-            self.member.see_to(freed)
-        };
+        let due = self
+            .member
+            .see_to(Kind::Ordinary, freed)
+            .and(self.member.see_to(Kind::Reserved, freed));
         bell.tags().open(bell.sleeper);
         self.see_to_lists();
         due
@@ -115,29 +120,32 @@ impl<T> Hand<T> {
         });
     }
 
-    /// The futures that wait behind this hand.
-    pub(crate) fn queue(&self) -> &Queue {
-        self.home.bell.queue(self.member.number())
+    /// A note of this moment.
+    pub(crate) fn note_of(&self, value: u64) -> Note {
+        let since = self.home.bell.sleeper.now();
+        Note { value, since }
     }
 
     /// Gives a held tag back.
     pub(crate) fn give(&self, held: Held) -> Due {
+        let number = held.number();
         self.member.clear(held);
-        self.see_to(self.member.freed())
+        self.see_to(self.member.freed(number))
     }
 
     /// Gives a held tag back, and wakes those who wait.
     #[inline]
     pub(crate) fn give_and_wake(&self, held: Held) {
+        let number = held.number();
         self.member.clear(held);
         if self.home.bell.is_awaited() {
-            self.tell_and_wake();
+            self.tell_and_wake(number);
         }
     }
 
     #[cold]
-    fn tell_and_wake(&self) {
-        self.home.bell.wake(self.tell(self.member.freed()));
+    fn tell_and_wake(&self, number: u32) {
+        self.home.bell.wake(self.tell(self.member.freed(number)));
     }
 
     /// Takes a free ordinary tag. `None` means that each tag was found taken at some moment of the call, not that all
@@ -172,17 +180,17 @@ impl<T> Hand<T> {
     /// Takes a free reserved tag. `None` is as from [`get`](Hand::get).
     #[inline]
     pub fn get_reserved(&self) -> Result<Option<Tag<'_, T>>> {
-        Ok(self.take_reserved()?.map(|held| Tag::new(self, held)))
+        let found = self.settle(self.after_get(self.member.get_in(Kind::Reserved)));
+        Ok(found?.map(|held| Tag::new(self, held)))
     }
 
-    /// Takes a free reserved tag, for which nobody waits but by a list.
-    #[inline]
-    pub(crate) fn take_reserved(&self) -> Result<Option<Held>> {
-        let found = self.member.get_reserved()?;
-        if found.is_some() && self.home.bell.is_awaited() {
-            self.see_to_lists();
+    /// Takes a free tag of this kind.
+    #[inline(always)]
+    pub(crate) fn get_in(&self, kind: Kind) -> Result<Option<Tag<'_, T>>> {
+        match kind {
+            Kind::Ordinary => self.get(),
+            Kind::Reserved => self.get_reserved(),
         }
-        Ok(found)
     }
 
     /// Takes a free ordinary tag out of a part of them: `depth` is how many ordinary tags calls with this depth may
@@ -232,6 +240,30 @@ impl<T> Hand<T> {
         Ok(found?.map(|held| Batch::new(self, held)))
     }
 
+    /// Takes this many ordinary tags, from any words, or none of them, for what can do nothing with fewer. It takes no
+    /// kept tag. `None` means that a get found none before there were enough: those taken before it went back, and
+    /// whoever waits was told. Of several such calls at once each may find too few, though one alone would have found
+    /// enough. [`BadCount`](crate::Error::BadCount) means that the pool has fewer ordinary tags.
+    ///
+    /// ```
+    /// # use tags::{Error, Options, Pool};
+    /// # fn main() -> tags::Result<()> {
+    /// let pool = Pool::open(&Options::new(8, 1))?;
+    /// let hand = pool.join()?;
+    /// let mut five = hand.get_many(5)?.unwrap();
+    /// assert!(hand.get_many(4)?.is_none());
+    /// five.pop();
+    /// assert!(hand.get_many(4)?.is_some());
+    /// assert_eq!(hand.get_many(9).unwrap_err(), Error::BadCount);
+    /// # Ok(())
+    /// # }
+    /// ```
+    pub fn get_many(&self, n: u32) -> Result<Option<Vec<Tag<'_, T>>>> {
+        let found = self.settle(self.after_get(self.member.get_many(n)));
+        let guard_all = |all: Vec<Held>| all.into_iter().map(|held| Tag::new(self, held)).collect();
+        Ok(found?.map(guard_all))
+    }
+
     /// Gives all kept tags back, and wakes whoever waits for one. A hand keeps tags if the pool was opened with a
     /// [`cache`](crate::Options::cache). Call it before the thread goes idle or sleeps; dropping the hand does the
     /// same.
@@ -260,21 +292,25 @@ impl<T> Hand<T> {
         self.member.show(kind)
     }
 
-    /// Returns how many wait in the pool: threads that sleep for a tag and futures, also those that were told and have
-    /// not tried again yet, and threads that sleep until all tags are back.
+    /// Returns how many wait in the pool: threads that sleep for a tag and futures, for either set and in all queues, also
+    /// those that were told and have not tried again yet, and threads that sleep until all tags are back.
     #[must_use]
     pub fn waiting(&self) -> u32 {
-        self.home.count_waiting()
+        self.home.count_waiting(self.member.set().queues())
     }
 }
 
 impl<T> Drop for Hand<T> {
     fn drop(&mut self) {
         let bell = &self.home.bell;
-        let leaked = self.queue().close(bell).into_iter();
+        let leaked = bell.queues(self.member.number()).flat_map(|queue| queue.close(bell));
         let due = leaked.fold(Due::NOBODY, |due, held| due.and(self.give(held)));
-        let due = due.and(self.end_listening());
+        let due = due
+            .and(self.end_listening(Kind::Ordinary))
+            .and(self.end_listening(Kind::Reserved));
         bell.wake(due.and(self.flush_kept()));
+        // Before others can join in place of this one.
+        self.token_hands.leave();
         self.member.leave(&mut self.home.roster.lock());
         bell.hands().open(bell.sleeper);
     }

@@ -45,7 +45,9 @@ impl<T> Hand<T> {
         self.member.holds(number)
     }
 
-    /// Takes a tag that a hand of this pool has [posted](Tag::post), with its slot and its value.
+    /// Takes a tag that a hand of this pool has [posted](Tag::post), with its slot and its value. One that is in a queue
+    /// only [`next`](Hand::next) takes: it is refused with [`NotPosted`](crate::Error::NotPosted), as any is that is not
+    /// posted.
     ///
     /// ```
     /// # use tags::{Error, Options, Pool};
@@ -68,7 +70,7 @@ impl<T> Hand<T> {
     /// and their values: all of them or none. If one is not posted, those taken before it are posted again; another
     /// hand may have found one of them not posted meanwhile. Refusals: [`BadCount`](crate::Error::BadCount) if there is
     /// no number, [`NoSuchTag`](crate::Error::NoSuchTag) if one is out of range or reserved, and
-    /// [`NotPosted`](crate::Error::NotPosted).
+    /// [`NotPosted`](crate::Error::NotPosted) also if one is in a queue.
     pub fn take_batch(&self, posted: Numbers) -> Result<Batch<'_, T>> {
         let taken = self.settle(self.after_giving(self.member.take_mask(posted)));
         Ok(Batch::new(self, taken?))

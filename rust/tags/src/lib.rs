@@ -24,7 +24,8 @@
 //!
 //! A [`Tag`] borrows its hand. To keep a tag in a struct, or to hold it across an await, take it from a [`SharedHand`],
 //! whose [`OwnedTag`]s borrow nothing; and where there are more threads than hands, or they come and go, from
-//! [`SharedHands`]. [`Pool::open_with`] puts a value of any type beside each tag, for whoever holds
+//! [`SharedHands`]. [`Tag::submit`] puts a tag into a queue of the pool, of which another thread takes the next one by
+//! [`Hand::next`], or sleeps until there is one. [`Pool::open_with`] puts a value of any type beside each tag, for whoever holds
 //! the tag. The examples are an I/O queue of threads, tasks on a small executor, and threads that copy a file.
 //!
 //! # Without `std`
@@ -50,6 +51,7 @@ mod gate;
 mod hand;
 mod held;
 mod lists;
+mod notes;
 mod options;
 mod owned;
 mod pool;
@@ -62,20 +64,25 @@ mod pool;
 )]
 mod proved;
 mod queue;
+mod queues;
+mod sets;
 mod shared;
 mod shared_hands;
+mod side;
 mod sleep;
 mod tag;
 mod thread;
 mod waits;
 
 pub use batch::{Batch, Numbers};
-pub use error::{CloseError, Error, Result};
+pub use error::{CloseError, Error, Result, SubmitError};
 pub use future::{GetAsync, GetAsyncOwned};
 pub use hand::Hand;
+pub use notes::Note;
 pub use options::{Kind, Options, Shift, Sizes, Totals};
 pub use owned::OwnedTag;
 pub use pool::Pool;
+pub use queues::NextAsync;
 pub use shared::SharedHand;
 pub use shared_hands::SharedHands;
 pub use sleep::{default_sleeper, Sleeper};

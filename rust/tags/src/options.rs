@@ -76,6 +76,19 @@ pub struct Options {
     /// Whether a hand keeps tags only while it holds another one that it got. A hand that keeps tags then always has
     /// one to give back, so nobody waits for ever for a kept tag.
     pub keep_while_holding: bool,
+    /// Whether tags have notes, which anybody may read: see [`Tag::note`](crate::Tag::note). The pool takes 40 bytes more
+    /// for each tag, and a tag that goes back is first looked at for one.
+    pub notes: bool,
+    /// How many queues of submitted tags the pool has, at most 64, which are numbered from 0: see
+    /// [`Tag::submit`](crate::Tag::submit) and [`Hand::next`](crate::Hand::next). Each of them takes as much memory as the pool
+    /// does without it, and up to 20 bytes more for each tag.
+    ///
+    /// ```
+    /// # use tags::{Error, Options, Pool};
+    /// let many = Options { queues: 65, ..Options::new(4, 2) };
+    /// assert_eq!(Pool::open(&many).unwrap_err(), Error::BadQueueCount);
+    /// ```
+    pub queues: u32,
 }
 
 impl Options {
@@ -91,6 +104,8 @@ impl Options {
             round_robin: false,
             cache: 0,
             keep_while_holding: false,
+            notes: false,
+            queues: 0,
         }
     }
 }

@@ -1,6 +1,7 @@
 //! Tags that keep their hand alive.
 
 use crate::allocator::Held;
+use crate::error::Result;
 use crate::future::Lends;
 use crate::shared::SharedHand;
 use core::fmt;
@@ -59,6 +60,12 @@ impl<T> OwnedTag<T> {
     /// Writes the tag's slot, and returns the former value.
     pub fn write(&self, value: u64) -> u64 {
         self.hand.look(|hand| hand.write(&self.held, value))
+    }
+
+    /// Publishes the tag's note, as [`Tag::note`](crate::Tag::note) does.
+    pub fn note(&self, value: u64) -> Result<()> {
+        let hand = self.hand.lock();
+        hand.member.note(self.number(), hand.note_of(value))
     }
 
     /// Returns the value beside the tag.

@@ -7,6 +7,7 @@ use crate::cells::Values;
 use crate::error::{CloseError, Error, Result};
 use crate::hand::Hand;
 use crate::options::{Kind, Options, Totals};
+use crate::queues::Queues;
 use crate::sleep::{default_sleeper, Sleeper};
 use alloc::sync::Arc;
 use core::fmt;
@@ -39,9 +40,9 @@ pub(crate) struct Home<T> {
 }
 
 impl<T> Home<T> {
-    /// How many wait.
-    pub fn count_waiting(&self) -> u32 {
-        self.bell.waiting().load(SeqCst)
+    /// How many wait, also in these queues, which are the pool's.
+    pub fn count_waiting(&self, queues: &Queues) -> u32 {
+        self.bell.waiting().load(SeqCst) + queues.waiting()
     }
 }
 
@@ -62,7 +63,8 @@ impl Pool {
     }
 
     /// Changes the number of tags to `total`, as many of them reserved as before, once all hands are dropped. The
-    /// ordinary tags are new, with slots of 0; the reserved tags and the totals stay. On failure the pool is unchanged.
+    /// ordinary tags are new, with slots of 0, and so are the queues; the reserved tags and the totals stay. On failure the
+    /// pool is unchanged.
     ///
     /// ```
     /// # use tags::{Error, Kind, Options, Pool};
@@ -107,9 +109,9 @@ impl<T> Pool<T> {
         sleeper: &'static dyn Sleeper,
         make: impl FnMut(u32) -> T,
     ) -> Result<Pool<T>> {
-        let roster = Roster::open(options, make)?;
+        let roster = Roster::open(options, sleeper, make)?;
         let home = Home {
-            bell: Bell::new(options.hands, sleeper).ok_or(Error::NoMemory)?,
+            bell: Bell::new(options, sleeper).ok_or(Error::NoMemory)?,
             batch_limit: roster.show(Kind::Ordinary).bits_per_word.max(1),
             roster: Lock::new(roster, sleeper),
             reserved: options.reserved,
@@ -142,6 +144,12 @@ impl<T> Pool<T> {
         self.join_now(false)
     }
 
+    /// The same pool once more.
+    pub(crate) fn same(&self) -> Pool<T> {
+        let home = Arc::clone(&self.home);
+        Pool { home }
+    }
+
     fn join_now(&self, is_placed: bool) -> Result<Hand<T>> {
         let member = self.home.roster.lock().join(is_placed)?;
         Ok(Hand::new(member, Arc::clone(&self.home)))
@@ -166,8 +174,14 @@ impl<T> Pool<T> {
         // Of a total that is refused no value is made.
         let end = if total > MAX_TOTAL { reserved } else { total };
         let values = Values::new(reserved..end.max(reserved), make)?;
-        let (left, answer) = self.home.roster.lock().resize(total, values);
-        // What they do when they are dropped, they do without the lock.
+        let mut roster = self.home.roster.lock();
+        let (left, answer) = roster.resize(total, values);
+        if answer.is_ok() && self.home.bell.is_stopped() {
+            // They are new, so nobody waits in them.
+            roster.queues().stop();
+        }
+        drop(roster);
+        // What the values do when they are dropped, they do without the lock.
         drop(left);
         answer
     }

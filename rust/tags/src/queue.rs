@@ -1,4 +1,4 @@
-//! The futures that wait behind one hand.
+//! The futures that wait behind one hand for tags of one set.
 
 use crate::allocator::Held;
 use crate::base::lock::Lock;
@@ -9,8 +9,9 @@ use alloc::collections::{BTreeMap, VecDeque};
 use alloc::vec::Vec;
 use core::task::Waker;
 
-/// The futures that wait behind a hand. While one of them waits, the hand is listed, or was told of a tag, or is in a
-/// call that will list it. Once it was told, the first of them was woken, which has it try for all of them.
+/// The futures that wait behind a hand for tags of one set. While one of them waits, the hand is listed, or was told of
+/// a tag, or is in a call that will list it. Once it was told, the first of them was woken, which has it try for all of
+/// them.
 ///
 /// No code of the program's, such as a waker's, runs with the lock.
 pub(crate) struct Queue {
@@ -22,7 +23,7 @@ struct Futures {
     /// The number of the future whose wait began last.
     last: u64,
     /// Those that wait, in the order in which their waits began.
-    waiting: VecDeque<Waiter>,
+    waiting: VecDeque<Queued>,
     /// A tag or an error for each that waits no longer and was not polled since.
     answers: BTreeMap<u64, Result<Held>>,
     /// Whether the hand was told of a tag since its last try for them.
@@ -30,7 +31,7 @@ struct Futures {
 }
 
 /// A future that waits.
-pub(crate) struct Waiter {
+pub(crate) struct Queued {
     pub number: u64,
     /// Until it is woken.
     pub waker: Option<Waker>,
@@ -69,13 +70,13 @@ impl Queue {
         }
     }
 
-    /// Lists a future as the last one. Returns its number, and whether it is alone, so that it has to list the hand.
+    /// Puts a future behind the others. Returns its number, and whether it is alone, so that it has to list the hand.
     pub fn join(&self, bell: &Bell, waker: Waker) -> (u64, bool) {
         let mut futures = self.futures.lock();
         let is_first = futures.waiting.is_empty();
         futures.last += 1;
         let number = futures.last;
-        futures.waiting.push_back(Waiter {
+        futures.waiting.push_back(Queued {
             number,
             waker: Some(waker),
         });
@@ -105,13 +106,13 @@ impl Queue {
     /// Removes a future that is dropped.
     pub fn leave(&self, bell: &Bell, number: u64) -> Left {
         let mut futures = self.futures.lock();
-        let waiter = futures.find(number).and_then(|at| futures.waiting.remove(at));
-        bell.count_less(usize::from(waiter.is_some()));
+        let left = futures.find(number).and_then(|at| futures.waiting.remove(at));
+        bell.count_less(usize::from(left.is_some()));
         let answer = futures.answers.remove(&number);
         Left {
             tag: answer.and_then(Result::ok),
             is_hand_due: futures.is_told || futures.waiting.is_empty(),
-            _waker: waiter.and_then(|it| it.waker),
+            _waker: left.and_then(|it| it.waker),
         }
     }
 
@@ -131,7 +132,7 @@ impl Queue {
         bell: &Bell,
         answer: Result<Held>,
         own: Option<u64>,
-    ) -> (Option<Waiter>, Option<Result<Held>>) {
+    ) -> (Option<Queued>, Option<Result<Held>>) {
         let mut futures = self.futures.lock();
         let Some(first) = futures.waiting.pop_front() else {
             return (None, Some(answer));

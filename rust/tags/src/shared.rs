@@ -82,16 +82,16 @@ impl<T> SharedHand<T> {
     /// Gives a held tag back, and wakes those who wait.
     #[inline]
     pub(crate) fn give_and_wake(&self, held: Held) {
-        let hand = self.inner.hand.lock();
+        let (hand, number) = (self.inner.hand.lock(), held.number());
         hand.member.clear(held);
         if self.bell().is_awaited() {
-            self.tell_and_wake(hand);
+            self.tell_and_wake(hand, number);
         }
     }
 
     #[cold]
-    fn tell_and_wake(&self, hand: Guard<'_, Hand<T>>) {
-        let due = hand.tell(hand.member.freed());
+    fn tell_and_wake(&self, hand: Guard<'_, Hand<T>>, number: u32) {
+        let due = hand.tell(hand.member.freed(number));
         drop(hand);
         self.bell().wake(due);
     }
@@ -124,7 +124,16 @@ impl<T> SharedHand<T> {
 
     #[inline(never)]
     fn outcome(&self, hand: Guard<'_, Hand<T>>) -> Result<Option<OwnedTag<T>>> {
-        let (found, due) = hand.after_get(hand.member.outcome());
+        let found = hand.after_get(hand.member.outcome());
+        self.guard(hand, found)
+    }
+
+    /// Ends a get: leaves the lock, and then wakes those who were told.
+    fn guard(
+        &self,
+        hand: Guard<'_, Hand<T>>,
+        (found, due): (Result<Option<Held>>, Due),
+    ) -> Result<Option<OwnedTag<T>>> {
         drop(hand);
         self.bell().wake(due);
         Ok(found?.map(|held| OwnedTag::new(self.clone(), held)))
@@ -132,8 +141,12 @@ impl<T> SharedHand<T> {
 
     /// Takes a free reserved tag, as [`Hand::get_reserved`] does.
     pub fn get_reserved(&self) -> Result<Option<OwnedTag<T>>> {
-        let found = self.lock().take_reserved()?;
-        Ok(found.map(|held| OwnedTag::new(self.clone(), held)))
+        self.get_reserved_with(self.lock())
+    }
+
+    pub(crate) fn get_reserved_with(&self, hand: Guard<'_, Hand<T>>) -> Result<Option<OwnedTag<T>>> {
+        let found = hand.after_get(hand.member.get_in(Kind::Reserved));
+        self.guard(hand, found)
     }
 
     /// Takes a free ordinary tag out of a part of them, as [`Hand::get_shallow`] does.
@@ -172,7 +185,7 @@ impl<T> SharedHand<T> {
         self.look(|hand| hand.holds(number))
     }
 
-    /// Takes a tag that a hand of this pool has posted, with its slot and its value.
+    /// Takes a tag that a hand of this pool has posted, as [`Hand::take`] does.
     pub fn take(&self, number: u32) -> Result<OwnedTag<T>> {
         let held = self.look(|hand| hand.take(number))?;
         Ok(OwnedTag::new(self.clone(), held))
@@ -197,7 +210,7 @@ impl<T> SharedHand<T> {
     /// Returns how many wait in the pool, as [`Hand::waiting`] does.
     #[must_use]
     pub fn waiting(&self) -> u32 {
-        self.inner.home.count_waiting()
+        self.inner.home.count_waiting(self.inner.set.queues())
     }
 }
 
@@ -218,8 +231,8 @@ impl<T> Lends for SharedHand<T> {
         &self.inner.home.bell
     }
 
-    fn queue(&self) -> &Queue {
-        self.bell().queue(self.inner.number)
+    fn queue(&self, kind: Kind) -> &Queue {
+        self.bell().queue(kind, self.inner.number)
     }
 }
 

@@ -3,8 +3,7 @@
 use crate::allocator::Member;
 use crate::base::lock::Guard;
 use crate::error::{Error, Result};
-use crate::future::{GetAsyncOwned, Lends};
-use crate::gate::Counted;
+use crate::future::Lends;
 use crate::hand::Hand;
 use crate::owned::OwnedTag;
 use crate::pool::Pool;
@@ -12,7 +11,8 @@ use crate::shared::SharedHand;
 use alloc::sync::Arc;
 use alloc::vec::Vec;
 use core::fmt;
-use core::time::Duration;
+
+mod waits;
 
 /// Hands that any number of threads share, made by [`Pool::share`]: for more threads than hands, or threads that come
 /// and go. A clone is the same hands. Each call takes the hand of the processor that it runs on, or the next one that no
@@ -142,64 +142,7 @@ impl<T> SharedHands<T> {
     /// Takes a free reserved tag, as [`Hand::get_reserved`] does.
     pub fn get_reserved(&self) -> Result<Option<OwnedTag<T>>> {
         let (shared, hand) = self.enter();
-        let found = hand.take_reserved()?;
-        drop(hand);
-        Ok(found.map(|held| OwnedTag::new(shared.clone(), held)))
-    }
-
-    /// Takes a free ordinary tag, and sleeps while there is none. Other threads use all hands meanwhile, and hands that
-    /// keep tags keep none while a thread sleeps here.
-    pub fn get_blocking(&self) -> Result<OwnedTag<T>> {
-        match self.get_unless_stopped()? {
-            Some(tag) => Ok(tag),
-            None => self.while_none_is_kept(SharedHand::get_blocking),
-        }
-    }
-
-    /// The same, for at most this long. `None` means that the time is up. With a time of 0 it tries once.
-    ///
-    /// ```
-    /// # use std::time::Duration;
-    /// # use tags::{Options, Pool};
-    /// # fn main() -> tags::Result<()> {
-    /// let pool = Pool::open(&Options::new(1, 2))?;
-    /// let hands = pool.share(2)?;
-    /// let tag = hands.get_timeout(Duration::ZERO)?;
-    /// assert!(tag.is_some() && hands.get_timeout(Duration::from_millis(5))?.is_none());
-    /// # Ok(())
-    /// # }
-    /// ```
-    pub fn get_timeout(&self, time: Duration) -> Result<Option<OwnedTag<T>>> {
-        let found = self.get_unless_stopped()?;
-        if found.is_some() || time.is_zero() {
-            return Ok(found);
-        }
-        self.while_none_is_kept(|hand| hand.get_timeout(time))
-    }
-
-    fn get_unless_stopped(&self) -> Result<Option<OwnedTag<T>>> {
-        if self.inner.hands[0].bell().is_stopped() {
-            return Err(Error::Stopped);
-        }
-        self.get()
-    }
-
-    /// Has this processor's hand wait. What the hands keep goes back once a waiter is counted, and from then on a clear
-    /// keeps nothing.
-    #[cold]
-    fn while_none_is_kept<R>(&self, wait: impl FnOnce(&SharedHand<T>) -> R) -> R {
-        let _counted = self.inner.is_cached.then(|| {
-            let counted = Counted::new(self.inner.hands[0].bell().waiting());
-            self.flush();
-            counted
-        });
-        wait(self.hand())
-    }
-
-    /// Takes a free ordinary tag, and while there is none, waits without blocking a thread, as [`SharedHand::get_async`]
-    /// does, behind the hand of this processor. If hands keep tags, [`flush`](SharedHands::flush) before they are idle.
-    pub fn get_async(&self) -> GetAsyncOwned<T> {
-        self.hand().get_async()
+        shared.get_reserved_with(hand)
     }
 
     /// Returns a guard for a tag that one of these hands holds without one, as [`Hand::claim`] does. It asks one hand
@@ -224,7 +167,7 @@ impl<T> SharedHands<T> {
         found.unwrap_or(Err(Error::NotHeld))
     }
 
-    /// Takes a tag that a hand of this pool has posted, with its slot and its value.
+    /// Takes a tag that a hand of this pool has posted, as [`Hand::take`] does.
     pub fn take(&self, number: u32) -> Result<OwnedTag<T>> {
         let (shared, hand) = self.enter();
         let held = hand.member.take(number)?;

@@ -1,7 +1,9 @@
 //! Tags that a hand holds.
 
 use crate::allocator::Held;
+use crate::error::{Result, SubmitError};
 use crate::hand::Hand;
+use crate::notes::Note;
 use core::fmt;
 use core::mem::ManuallyDrop;
 
@@ -58,6 +60,33 @@ impl<'a, T> Tag<'a, T> {
         self.hand.member.write(&self.held, value)
     }
 
+    /// Publishes the tag's note, which anybody may read by [`Pool::noted_tags`](crate::Pool::noted_tags) while others
+    /// run, with the time. It takes the place of the one before, stays with the tag while that is posted and taken, and
+    /// ends just before the tag goes back. [`NoNotes`](crate::Error::NoNotes) means that the pool was opened without
+    /// [`notes`](crate::Options::notes).
+    ///
+    /// ```
+    /// # use tags::{Error, Options, Pool};
+    /// # fn main() -> tags::Result<()> {
+    /// let pool = Pool::open(&Options { notes: true, ..Options::new(4, 1) })?;
+    /// let hand = pool.join()?;
+    /// let tag = hand.get_blocking()?;
+    /// tag.note(70)?;
+    /// let noted: Vec<_> = pool.noted_tags()?.map(|(tag, note)| (tag, note.unwrap().value)).collect();
+    /// assert_eq!(noted, [(tag.number(), 70)]);
+    /// drop(tag);
+    /// assert!(pool.noted_tags()?.next().is_none());
+    /// # Ok(())
+    /// # }
+    /// ```
+    pub fn note(&self, value: u64) -> Result<()> {
+        self.publish(self.hand.note_of(value))
+    }
+
+    pub(crate) fn publish(&self, note: Note) -> Result<()> {
+        self.hand.member.note(self.number(), note)
+    }
+
     /// Returns the value beside the tag, as the tag's former holder left it.
     #[inline]
     #[must_use]
@@ -92,6 +121,41 @@ impl<'a, T> Tag<'a, T> {
     pub fn post(self) -> u32 {
         let (hand, held) = self.end();
         hand.settle(hand.after_giving(hand.member.post(held)))
+    }
+
+    /// Posts the tag at the end of a queue of the pool, and returns its number: a hand that asks for the
+    /// [next](Hand::next) tag of the queue gets it in its turn. This wakes one that sleeps for it.
+    ///
+    /// It is posted for that queue alone: a [`take`](Hand::take) of its number is refused with
+    /// [`NotPosted`](crate::Error::NotPosted). Refusals: [`NoSuchQueue`](crate::Error::NoSuchQueue), and
+    /// [`NoMemory`](crate::Error::NoMemory), which is possible only where the hand uses the queue for the first time.
+    /// The error hands the tag back.
+    ///
+    /// ```
+    /// # use tags::{Error, Options, Pool};
+    /// # fn main() -> tags::Result<()> {
+    /// let pool = Pool::open(&Options { queues: 1, ..Options::new(4, 2) })?;
+    /// let (first, second) = (pool.join()?, pool.join()?);
+    /// let tag = first.get_blocking()?;
+    /// let refused = tag.submit(1).unwrap_err();
+    /// assert_eq!((refused.error, refused.tag.number()), (Error::NoSuchQueue, 0));
+    /// let number = refused.tag.submit(0)?;
+    /// assert_eq!(second.take(number).unwrap_err(), Error::NotPosted);
+    /// assert_eq!(second.next(0)?.map(|tag| tag.number()), Some(number));
+    /// # Ok(())
+    /// # }
+    /// ```
+    pub fn submit(self, queue: u32) -> core::result::Result<u32, SubmitError<'a, T>> {
+        let queue = match self.hand.queue(queue) {
+            Ok(queue) => queue,
+            Err(error) => return Err(SubmitError { error, tag: self }),
+        };
+        let token = queue.take_token_of(self.number());
+        let (hand, held) = self.end();
+        let (number, due) = hand.after_giving(hand.member.post_marked(held));
+        queue.push(number, token);
+        hand.home.bell.wake(due);
+        Ok(number)
     }
 }
 

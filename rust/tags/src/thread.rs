@@ -17,9 +17,7 @@ struct Sleeping {
 
 impl Wake for Sleeping {
     fn wake(self: Arc<Self>) {
-        if self.token.give() {
-            self.token.wake(self.sleeper);
-        }
+        self.token.give(self.sleeper);
     }
 }
 

@@ -44,6 +44,8 @@ fn refusing<R>(allocation: i64, call: impl FnOnce() -> R) -> R {
 fn options() -> Options {
     Options {
         reserved: 3,
+        notes: true,
+        queues: 1,
         ..Options::new(200, 4)
     }
 }
@@ -94,6 +96,27 @@ fn carry_out(what: &str, allocation: i64) -> bool {
             assert_eq!(pool.share(4).map(|hands| hands.count()).ok(), Some(4));
             is_refused
         }
+        "submit" => {
+            let pool = open();
+            let hand = pool.join().unwrap();
+            let tag = hand.get().unwrap().unwrap();
+            let submitted = refusing(allocation, || tag.submit(0));
+            let is_refused = submitted.is_err();
+            if let Err(refused) = submitted {
+                assert_eq!((refused.error, refused.tag.submit(0).ok()), (Error::NoMemory, Some(3)));
+            }
+            assert_eq!(hand.next(0).unwrap().map(|tag| tag.number()), Some(3));
+            is_refused
+        }
+        "next" => {
+            let pool = open();
+            let hand = pool.join().unwrap();
+            let next = refusing(allocation, || hand.next(0));
+            let is_refused = next.as_ref().err() == Some(&Error::NoMemory);
+            assert!(is_refused || next.is_ok_and(|tag| tag.is_none()));
+            assert!(hand.next(0).unwrap().is_none());
+            is_refused
+        }
         "list" => {
             let pool = open();
             let drained = refusing(allocation, || pool.drain_list_timeout(&[199, 1], Duration::ZERO));
@@ -123,8 +146,18 @@ fn each_allocation_is_refused() {
         println!("\n{}", if is_refused { "refused" } else { "done" });
         return;
     }
-    // How many allocations can't be refused: the `Arc`s of a pool and of its tags, of each shared hand and of all.
-    for (what, arcs) in [("open", 2), ("join", 0), ("resize", 1), ("share", 3), ("list", 0)] {
+    // How many allocations can't be refused: the `Arc`s of a pool and of its tags, of each queue's pool and of its tokens, of
+    // each shared hand and of all.
+    let calls = [
+        ("open", 4),
+        ("join", 0),
+        ("resize", 3),
+        ("share", 3),
+        ("submit", 0),
+        ("next", 0),
+        ("list", 0),
+    ];
+    for (what, arcs) in calls {
         let (mut ended, mut refused) = (0, 0);
         for allocation in 0.. {
             let output = run(what, allocation);

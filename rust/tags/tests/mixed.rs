@@ -1,4 +1,4 @@
-//! Threads that wait in each way at once, and give up at random. The tag's value names its user, so two would be seen,
+//! Threads that wait in each way at once, for tags of both sets, and give up at random. The tag's value names its user, so two would be seen,
 //! and a lost wakeup would be a thread that sleeps for ever.
 use std::future::Future;
 use std::mem::replace;
@@ -47,13 +47,17 @@ macro_rules! take_turns {
     ($hand:expr, $number:expr) => {{
         let (hand, mut random) = ($hand, Random($number));
         for _ in 0..TURNS {
-            let tag = match random.below(6) {
+            let tag = match random.below(10) {
                 0 => hand.get(),
                 1 => hand.get_blocking().map(Some),
                 2 => hand.get_timeout(Duration::from_micros(random.below(200))),
                 3 => poll(hand.get_async(), 1),
                 4 => poll(hand.get_async(), u64::MAX),
-                _ => poll(hand.get_async(), 1 + random.below(2)),
+                5 => poll(hand.get_async(), 1 + random.below(2)),
+                6 => hand.get_reserved(),
+                7 => hand.get_reserved_blocking().map(Some),
+                8 => hand.get_reserved_timeout(Duration::from_micros(random.below(200))),
+                _ => poll(hand.get_reserved_async(), 1 + random.below(3)),
             };
             let Some(mut tag) = tag.unwrap() else {
                 continue;
@@ -76,7 +80,11 @@ macro_rules! take_turns {
 }
 
 fn run(tags: u32) {
-    let pool = Pool::open_with(&Options::new(tags, 5), |_| 0).unwrap();
+    let options = Options {
+        reserved: 1,
+        ..Options::new(1 + tags, 5)
+    };
+    let pool = Pool::open_with(&options, |_| 0).unwrap();
     let shared = pool.join().unwrap().into_shared();
     thread::scope(|scope| {
         for number in 1..5 {

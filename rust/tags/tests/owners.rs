@@ -128,7 +128,7 @@ fn use_batch(batch: Batch<'_, u32>, owners: &Owners, me: u32, random: &mut Rando
 /// A thread with a hand of its own.
 fn call(hand: &Hand<u32>, owners: &Owners, me: u32, random: &mut Random) {
     let short = Duration::from_micros(random.below(100));
-    let found = match random.below(12) {
+    let found = match random.below(13) {
         0 | 1 => hand.get().unwrap(),
         2 => hand.get_timeout(short).unwrap(),
         3 => hand.get_shallow(1 + random.below(MOST as u64) as u32).unwrap(),
@@ -152,6 +152,7 @@ fn call(hand: &Hand<u32>, owners: &Owners, me: u32, random: &mut Random) {
             assert_eq!(hand.take_batch(Numbers::default()).unwrap_err(), Error::BadCount);
             return assert!(hand.show(Kind::Ordinary).depth > 0);
         }
+        10 => hand.get_reserved_timeout(short).unwrap(),
         _ => {
             // Not while all tags may be posted.
             hand.get_timeout(Duration::from_millis(1)).unwrap()
@@ -164,11 +165,15 @@ fn call(hand: &Hand<u32>, owners: &Owners, me: u32, random: &mut Random) {
 
 /// One of several threads with the same hand.
 fn call_together(hand: &SharedHand<u32>, owners: &Owners, me: u32, random: &mut Random) {
-    let found = match random.below(6) {
+    let found = match random.below(8) {
         0 | 1 => hand.get().unwrap(),
         2 => hand.get_timeout(Duration::from_micros(random.below(100))).unwrap(),
         3 => hand.get_reserved().unwrap(),
         4 => poll(hand.get_async(), 1 + random.below(3)),
+        5 => hand
+            .get_reserved_timeout(Duration::from_micros(random.below(100)))
+            .unwrap(),
+        6 => poll(hand.get_reserved_async(), 1 + random.below(3)),
         _ => return hand.flush(),
     };
     if let Some(tag) = found {

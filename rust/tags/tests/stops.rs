@@ -28,25 +28,34 @@ fn block_on<T>(future: impl Future<Output = T>) -> T {
 
 #[test]
 fn each_kind_of_wait_ends() {
-    let pool = Pool::open(&Options::new(1, 5)).unwrap();
+    let pool = Pool::open(&Options {
+        reserved: 1,
+        ..Options::new(2, 8)
+    });
+    let pool = pool.unwrap();
     let holder = pool.join().unwrap();
-    let tag = holder.get().unwrap().unwrap();
+    let tags = [holder.get().unwrap().unwrap(), holder.get_reserved().unwrap().unwrap()];
     let long = Duration::from_secs(3600);
     thread::scope(|scope| {
         let shared = pool.join().unwrap().into_shared();
-        let hands = [(); 3].map(|()| pool.join().unwrap());
-        let [first, second, third] = hands;
+        let hands = [(); 6].map(|()| pool.join().unwrap());
+        let [first, second, third, fourth, fifth, sixth] = hands;
         let waits = [
             scope.spawn(move || first.get_blocking().map(drop)),
             scope.spawn(move || second.get_timeout(long).map(drop)),
             scope.spawn(move || block_on(third.get_async()).map(drop)),
+            scope.spawn(move || fourth.get_reserved_blocking().map(drop)),
+            scope.spawn(move || fifth.get_reserved_timeout(long).map(drop)),
+            scope.spawn(move || block_on(sixth.get_reserved_async()).map(drop)),
         ];
-        let others = [(); 2].map(|()| shared.clone());
-        let [fourth, fifth] = others;
+        let others = [(); 4].map(|()| shared.clone());
+        let [first, second, third, fourth] = others;
         let shared_waits = [
-            scope.spawn(move || fourth.get_blocking().map(drop)),
-            scope.spawn(move || fifth.get_timeout(long).map(drop)),
+            scope.spawn(move || first.get_blocking().map(drop)),
+            scope.spawn(move || second.get_timeout(long).map(drop)),
             scope.spawn(move || block_on(shared.get_async()).map(drop)),
+            scope.spawn(move || third.get_reserved_blocking().map(drop)),
+            scope.spawn(move || block_on(fourth.get_reserved_async()).map(drop)),
         ];
         thread::sleep(Duration::from_millis(30));
         pool.stop();
@@ -54,13 +63,14 @@ fn each_kind_of_wait_ends() {
             assert_eq!(wait.join().unwrap(), Err(Error::Stopped));
         }
     });
-    drop(tag);
+    drop(tags);
     assert_eq!(holder.get_blocking().unwrap_err(), Error::Stopped);
+    assert_eq!(holder.get_reserved_blocking().unwrap_err(), Error::Stopped);
     assert_eq!(holder.get_timeout(long).unwrap_err(), Error::Stopped);
     assert_eq!(block_on(holder.get_async()).map(drop).unwrap_err(), Error::Stopped);
     assert!(holder.get().unwrap().is_some());
     drop(holder);
-    assert_eq!(pool.close().unwrap().back, 2);
+    assert_eq!(pool.close().unwrap().back, 3);
 }
 
 #[test]
@@ -118,6 +128,30 @@ fn a_stop_ends_no_wait_that_began_after_the_resume() {
     assert_eq!(pool.waiting(), 1);
     drop(tag);
     assert!(matches!(poll_once(&mut after), Poll::Ready(Ok(_))));
+    assert_eq!(pool.waiting(), 0);
+}
+
+#[test]
+fn a_thread_sleeps_with_a_hand_whose_future_was_stopped_and_not_polled_since() {
+    let pool = Pool::open(&Options::new(1, 2)).unwrap();
+    let (hand, holder) = (pool.join().unwrap(), pool.join().unwrap());
+    let number = holder.get_blocking().unwrap().into_number();
+    let mut future = hand.get_async();
+    assert!(poll_once(&mut future).is_pending());
+    pool.stop();
+    pool.resume();
+    thread::scope(|scope| {
+        let pool = &pool;
+        scope.spawn(move || {
+            while pool.waiting() == 0 {
+                thread::yield_now();
+            }
+            thread::sleep(Duration::from_millis(5));
+            drop(holder.claim(number).unwrap());
+        });
+        assert_eq!(hand.get_blocking().unwrap().number(), number);
+    });
+    assert!(matches!(poll_once(&mut future), Poll::Ready(Err(Error::Stopped))));
     assert_eq!(pool.waiting(), 0);
 }
 

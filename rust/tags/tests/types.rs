@@ -3,8 +3,8 @@
 use std::cell::Cell;
 use std::fmt::Debug;
 use std::panic::{RefUnwindSafe, UnwindSafe};
-use tags::{Batch, CloseError, Error, GetAsync, GetAsyncOwned, Hand, Kind, Numbers, Options, OwnedTag};
-use tags::{Pool, SharedHand, SharedHands, Sizes, Sleeper, Tag, Totals};
+use tags::{Batch, CloseError, Error, GetAsync, GetAsyncOwned, Hand, Kind, NextAsync, Numbers, Options, OwnedTag};
+use tags::{Pool, SharedHand, SharedHands, Sizes, Sleeper, SubmitError, Tag, Totals};
 
 fn goes<T: Send>() {}
 fn is_shared<T: Send + Sync>() {}
@@ -44,7 +44,9 @@ fn what_outlives_a_panic() {
     outlives_panics::<OwnedTag>();
     outlives_panics::<GetAsync<'static>>();
     outlives_panics::<GetAsyncOwned>();
+    outlives_panics::<NextAsync<'static>>();
     outlives_panics::<CloseError>();
+    outlives_panics::<SubmitError<'static>>();
 }
 
 #[test]
@@ -67,8 +69,11 @@ fn what_can_be_shown_and_moved() {
     is_debug::<Batch<'static, Cell<u8>>>();
     is_debug::<GetAsync<'static, Cell<u8>>>();
     is_debug::<GetAsyncOwned<Cell<u8>>>();
+    is_debug::<NextAsync<'static, Cell<u8>>>();
+    is_debug::<SubmitError<'static, Cell<u8>>>();
     is_unpin::<GetAsync<'static>>();
     is_unpin::<GetAsyncOwned>();
+    is_unpin::<NextAsync<'static>>();
 }
 
 #[test]

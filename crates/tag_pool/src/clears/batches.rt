@@ -9,11 +9,13 @@ ghost use Rattle.tag_pool.specs.Refusals.{list_checks};
 ghost use Rattle.tag_pool.specs.Runs.{CountsTags, Gives, GivesAll, HoldsOnce};
 ghost use Rattle.tag_pool.specs.Sets.{numbers_of};
 ghost use Rattle.tag_pool.specs.Sides as side;
+ghost use Rattle.tag_pool.specs.Sides.{see_to_steps};
 ghost use Rattle.tag_pool.specs.declared.kind.Kind.TheVariants.{Ordinary};
 
 use crate::clears::lists::{are_below, are_distinct, are_from};
 use crate::fault::TagFault;
 use crate::hand::Hand;
+use crate::kind::Kind;
 use crate::pool::Pool;
 use crate::side::Side;
 use tag_bell::Woken;
@@ -34,10 +36,10 @@ impl<R: Copy> Pool<R> {
         ensures hand { IsStillOf self.now hand.old hand.new }
         ensures refusals { RefusesBy (list_checks self.now hand.old tags.now) (hand.new ≡ hand.old) result }
         ensures wakes { IfOk result (λ woken. GivesBackAndWakes self.now tags.now (length tags.now) woken hand.old hand.new) }
-        ensures bound { OnOk result (step_count hand.new ≤ length tags.now + 6 + step_count hand.old) }
+        ensures bound { OnOk result (step_count hand.new ≤ length tags.now + see_to_steps + step_count hand.old) }
     {
         self.clear_batch_quietly(hand, tags)?;
-        Ok(self.wake(hand, tags.len() as u32))
+        Ok(self.wake(hand, Kind::Ordinary, tags.len() as u32))
     }
 
     /// Clears the tags as `clear_batch` does, but tells nobody: the caller has to see to them. It is refused as
@@ -111,7 +113,7 @@ impl<R> Hand<R> {
 impl<R> Side<R> {
     /// Frees held tags of the set whose first tag is `first`, and moves the hint to the last of them, unless it is round
     /// robin. Successive tags of the list that lie in one word take one step.
-    fn give_list(&mut self, map: &Map<R>, first: u32, tags: &[u32])
+    pub(crate) fn give_list(&mut self, map: &Map<R>, first: u32, tags: &[u32])
         requires side { side.IsSideOf map.now self.old }
         requires some { 1 ≤ length tags.now }
         requires from { All (λ tag. first ≤ tag) tags.now }

@@ -10,10 +10,12 @@ ghost use Rattle.tag_pool.specs.Refusals.{mask_checks};
 ghost use Rattle.tag_pool.specs.Runs.{Gives};
 ghost use Rattle.tag_pool.specs.Sets.{numbers_of};
 ghost use Rattle.tag_pool.specs.Sides as side;
+ghost use Rattle.tag_pool.specs.Sides.{see_to_steps};
 ghost use Rattle.tag_pool.specs.declared.kind.Kind.TheVariants.{Ordinary};
 
 use crate::fault::TagFault;
 use crate::hand::Hand;
+use crate::kind::Kind;
 use crate::pool::Pool;
 use crate::side::Side;
 use tag_bell::Woken;
@@ -35,10 +37,11 @@ impl<R: Copy> Pool<R> {
         ensures refusals { RefusesBy (mask_checks self.now hand.old first mask) (hand.new ≡ hand.old) result }
         ensures wakes { IfOk result (λ woken.
             GivesBackAndWakes self.now (tags_in first mask) (count_ones mask) woken hand.old hand.new) }
-        ensures bound { OnOk result (step_count hand.new ≤ mask_words self.now first mask + 6 + step_count hand.old) }
+        ensures bound { OnOk result
+            (step_count hand.new ≤ mask_words self.now first mask + see_to_steps + step_count hand.old) }
     {
         self.clear_mask_quietly(hand, first, mask)?;
-        Ok(self.wake(hand, mask.count_ones()))
+        Ok(self.wake(hand, Kind::Ordinary, mask.count_ones()))
     }
 
     /// Clears the tags as `clear_mask` does, but tells nobody: the caller has to see to them. It is refused as `clear_mask`

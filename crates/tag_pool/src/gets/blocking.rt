@@ -4,16 +4,31 @@ ghost use Rattle.std.specs.Prelude.{◌≡◌, IfOk, Some, ⊤};
 ghost use Rattle.refusals.specs.Refusals.{RefusesBy};
 ghost use Rattle.tag_pool.specs.Gets.{Gets};
 ghost use Rattle.tag_pool.specs.Hands.{HasRoom, IsHandOf, IsStillOf};
-ghost use Rattle.tag_pool.specs.Refusals.{blocking_checks};
+ghost use Rattle.tag_pool.specs.Refusals.{blocking_checks, none_of};
 ghost use Rattle.tag_pool.specs.Waits.{CanWait, GetsBlocking, GetsUntil, Sleeps, UntilTold};
-ghost use Rattle.tag_pool.specs.declared.kind.Kind.TheVariants.{Ordinary};
+ghost use Rattle.tag_pool.specs.declared.kind.Kind.TheVariants.{Ordinary, Reserved};
 
 use crate::fault::TagFault;
 use crate::gets::Got;
 use crate::hand::Hand;
+use crate::kind::Kind;
 use crate::pool::Pool;
 use std::sync::Wait;
-use tag_bell::{SLEEPERS, Told, Turn};
+use tag_bell::{Told, Turn};
+use tag_core::Waiter;
+
+impl Kind {
+    /// Returns the fault of a wait for a tag of this kind if there are no such tags: `NoSuchTag`, or `NoReserved` for a
+    /// reserved one.
+    pub fn no_tag(self) -> TagFault
+        ensures { result ≡ none_of self }
+    {
+        match self {
+            Kind::Ordinary => TagFault::NoSuchTag,
+            Kind::Reserved => TagFault::NoReserved,
+        }
+    }
+}
 
 impl<R: Copy> Pool<R> {
     /// Takes a free ordinary tag like `get`, and waits by the bell as long as it finds none. Once it has a tag it sees to
@@ -22,69 +37,100 @@ impl<R: Copy> Pool<R> {
     pub fn get_blocking<W: Wait>(&self, rt: &W, hand: &mut Hand<R>) -> Result<Got<u32>, TagFault>
         requires hand { IsHandOf self.now hand.old }
         ensures hand { IsStillOf self.now hand.old hand.new }
-        ensures refusals { RefusesBy (blocking_checks self.now hand.old) (hand.new ≡ hand.old) result }
-        ensures gets { IfOk result (λ got. GetsBlocking self.now got.answer got.woken hand.old hand.new) }
+        ensures refusals { RefusesBy (blocking_checks self.now hand.old Ordinary) (hand.new ≡ hand.old) result }
+        ensures gets { IfOk result (λ got. GetsBlocking self.now Ordinary got.answer got.woken hand.old hand.new) }
     {
-        self.check_blocking(hand)?;
-        let (answer, told) = self.win(rt, hand);
-        let woken = self.wake_told(hand, told);
+        self.block_for(rt, hand, Kind::Ordinary)
+    }
+
+    /// Takes a free reserved tag like `get_reserved`, and waits for one as `get_blocking` does for an ordinary tag.
+    /// `NoReserved` means that there are no reserved tags, `Spent` that the hand's life in the reserved set is used up.
+    pub fn get_reserved_blocking<W: Wait>(
+        &self,
+        rt: &W,
+        hand: &mut Hand<R>,
+    ) -> Result<Got<u32>, TagFault>
+        requires hand { IsHandOf self.now hand.old }
+        ensures hand { IsStillOf self.now hand.old hand.new }
+        ensures refusals { RefusesBy (blocking_checks self.now hand.old Reserved) (hand.new ≡ hand.old) result }
+        ensures gets { IfOk result (λ got. GetsBlocking self.now Reserved got.answer got.woken hand.old hand.new) }
+    {
+        self.block_for(rt, hand, Kind::Reserved)
+    }
+
+    /// Takes a free tag of this kind, and waits as long as it finds none.
+    fn block_for<W: Wait>(
+        &self,
+        rt: &W,
+        hand: &mut Hand<R>,
+        kind: Kind,
+    ) -> Result<Got<u32>, TagFault>
+        requires hand { IsHandOf self.now hand.old }
+        ensures hand { IsStillOf self.now hand.old hand.new }
+        ensures refusals { RefusesBy (blocking_checks self.now hand.old kind) (hand.new ≡ hand.old) result }
+        ensures gets { IfOk result (λ got. GetsBlocking self.now kind got.answer got.woken hand.old hand.new) }
+    {
+        self.check_blocking(hand, kind)?;
+        let (answer, told) = self.win(rt, hand, kind);
+        let woken = self.wake_told(kind, told);
         Ok(Got { answer, woken })
     }
 
     /// Wins a tag, at once or after it slept for one, and sees to all others.
-    fn win<W: Wait>(&self, rt: &W, hand: &mut Hand<R>) -> (u32, Told)
+    fn win<W: Wait>(&self, rt: &W, hand: &mut Hand<R>, kind: Kind) -> (u32, Told)
         requires hand { IsHandOf self.now hand.old }
-        requires room { HasRoom hand.old Ordinary 1 }
+        requires room { HasRoom hand.old kind 1 }
         ensures hand { IsStillOf self.now hand.old hand.new }
-        ensures gets { GetsUntil self.now UntilTold ⊥ (Some result.0) result.1 hand.old hand.new }
+        ensures gets { GetsUntil self.now kind (UntilTold kind) ⊥ (Some result.0) result.1 hand.old hand.new }
     {
-        if let Some(tag) = self.try_get(hand) {
-            return (tag, self.see_to_all(hand));
+        if let Some(tag) = self.try_get(hand, kind) {
+            return (tag, self.see_to_all(hand, kind));
         }
-        self.sleep_for_tag(rt, hand)
+        self.sleep_for_tag(rt, hand, kind)
     }
 
-    /// Sleeps among the sleepers until the hand wins a tag, after a get that found none.
-    fn sleep_for_tag<W: Wait>(&self, rt: &W, hand: &mut Hand<R>) -> (u32, Told)
+    /// Sleeps until the hand wins a tag, after a get that found none.
+    fn sleep_for_tag<W: Wait>(&self, rt: &W, hand: &mut Hand<R>, kind: Kind) -> (u32, Told)
         requires hand { IsHandOf self.now hand.old }
-        requires can { CanWait hand.old }
+        requires can { CanWait kind hand.old }
         ensures hand { IsStillOf self.now hand.old hand.new }
-        ensures sleeps { Sleeps self.now UntilTold ⊥ (Some result.0) result.1 hand.old hand.new }
+        ensures sleeps { Sleeps self.now kind (UntilTold kind) ⊥ (Some result.0) result.1 hand.old hand.new }
     {
         let mut turn = Turn::Next;
         for _ in rt.forever() {
-            match self.try_listed(hand, SLEEPERS, turn) {
+            match self.try_listed(hand, kind, Waiter::Sleeper, turn) {
                 (Some(tag), told) => return (tag, told),
-                (None, _) => self.sleep(rt, hand),
+                (None, _) => self.sleep(rt, hand, kind),
             }
             turn = Turn::Same;
         }
         unreachable!()
     }
 
-    /// Returns whether a get may wait. `NoSuchTag` means that there are no ordinary tags, for which it would wait for ever,
-    /// `Spent` that the hand's life in the ordinary set is used up.
-    pub(super) fn check_blocking(&self, hand: &Hand<R>) -> Result<(), TagFault>
+    /// Returns whether a get of this kind may wait. `NoSuchTag` means that there are no ordinary tags and `NoReserved` that
+    /// there are no reserved ones, for which it would wait for ever, `Spent` that the hand's life in the set is used up.
+    pub(super) fn check_blocking(&self, hand: &Hand<R>, kind: Kind) -> Result<(), TagFault>
         requires hand { IsHandOf self.now hand.now }
-        ensures refusals { RefusesBy (blocking_checks self.now hand.now) ⊤ result }
+        ensures refusals { RefusesBy (blocking_checks self.now hand.now kind) ⊤ result }
     {
-        if self.reserved_count == self.total {
-            return Err(TagFault::NoSuchTag);
+        if self.map(kind).layout().depth() == 0 {
+            return Err(kind.no_tag());
         }
-        if !hand.ordinary.caller.room(1) {
+        if !hand.side(kind).caller.room(1) {
             return Err(TagFault::Spent);
         }
         Ok(())
     }
 
-    /// Makes a get for a hand that may win one more tag. Whoever calls it sees to the tags that its sweeps left free.
-    pub(super) fn try_get(&self, hand: &mut Hand<R>) -> Option<u32>
+    /// Makes a get for a hand that may win one more tag of this kind. Whoever calls it sees to the tags that its sweeps left
+    /// free.
+    pub(super) fn try_get(&self, hand: &mut Hand<R>, kind: Kind) -> Option<u32>
         requires hand { IsHandOf self.now hand.old }
-        requires room { HasRoom hand.old Ordinary 1 }
+        requires room { HasRoom hand.old kind 1 }
         ensures hand { IsStillOf self.now hand.old hand.new }
-        ensures gets { Gets self.now Ordinary result hand.old hand.new }
+        ensures gets { Gets self.now kind result hand.old hand.new }
     {
-        let Ok(found) = self.get_quietly(hand) else {
+        let Ok(found) = self.get_in_quietly(hand, kind) else {
             unreachable!()
         };
         found.answer

@@ -4,8 +4,10 @@ ghost use Rattle.refusals.specs.Refusals.{RefusesBy};
 ghost use Rattle.tag_search.specs.Exact.{most_exact_steps};
 ghost use Rattle.tag_pool.specs.Exact.{DoesGetExactly, GetsExactly};
 ghost use Rattle.tag_pool.specs.Gets.{GetsAndLooks};
-ghost use Rattle.tag_pool.specs.Hands.{IsHandOf, IsStillOf, step_count};
+ghost use Rattle.tag_pool.specs.Hands.{IsHandOf, IsStillOf, reserved_of, step_count};
 ghost use Rattle.tag_pool.specs.Refusals.{exact_checks};
+ghost use Rattle.tag_pool.specs.Sets.{kind_of};
+ghost use Rattle.tag_pool.specs.Sides.{see_to_steps};
 
 use crate::fault::TagFault;
 use crate::gets::Got;
@@ -16,18 +18,19 @@ use tag_search::Found;
 impl<R: Copy> Pool<R> {
     /// Takes this tag if it is free, and no other, by at most 22 steps. `None` means that it was found taken at some moment of
     /// the call: a hand held it, it was posted, or a sweep of another hand was about to free it. A tag that is set aside
-    /// counts as free, and a reserved one is taken like an ordinary one. Then it tells those that wait as `get` does, whatever
-    /// it answers. The hint stays where it is. `NoSuchTag` means that the number is not below the total, `Spent` that the
-    /// hand's life in the tag's set is used up.
+    /// counts as free, and a reserved one is taken like an ordinary one. Then it tells those that wait for
+    /// a tag of its kind as `get` does, whatever it answers. The hint stays where it is. `NoSuchTag` means that the number
+    /// is not below the total, `Spent` that the hand's life in the tag's set is used up.
     pub fn get_exactly(&self, hand: &mut Hand<R>, tag: u32) -> Result<Got<Option<u32>>, TagFault>
         requires hand { IsHandOf self.now hand.old }
         ensures hand { IsStillOf self.now hand.old hand.new }
         ensures refusals { RefusesBy (exact_checks self.now tag hand.old) (hand.new ≡ hand.old) result }
-        ensures gets { IfOk result (λ got. GetsAndLooks (GetsExactly self.now tag got.answer) got.woken hand.old hand.new) }
-        ensures bound { step_count hand.new ≤ most_exact_steps + 6 + step_count hand.old }
+        ensures gets { IfOk result (λ got.
+            GetsAndLooks (kind_of (reserved_of self.now) tag) (GetsExactly self.now tag got.answer) got.woken hand.old hand.new) }
+        ensures bound { step_count hand.new ≤ most_exact_steps + see_to_steps + step_count hand.old }
     {
         let Found { answer, left } = self.get_exactly_quietly(hand, tag)?;
-        let woken = self.look_after(hand, left);
+        let woken = self.look_after(hand, self.kind(tag), left);
         Ok(Got { answer, woken })
     }
 
@@ -42,11 +45,7 @@ impl<R: Copy> Pool<R> {
             let Ok(found) = hand.reserved.get_exactly(&self.reserved, tag) else {
                 return Err(TagFault::Spent);
             };
-            // Nobody waits for a reserved tag, so nobody can sleep beside those that the sweeps freed.
-            return Ok(Found {
-                answer: found.answer,
-                left: 0,
-            });
+            return Ok(found);
         }
         let number = tag - self.reserved_count;
         let Ok(Found { answer, left }) = hand.ordinary.get_exactly(&self.ordinary, number) else {

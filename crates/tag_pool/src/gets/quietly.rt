@@ -1,16 +1,19 @@
-//! Gets that tell nobody: each tells how many ordinary tags its sweeps freed and it did not take, and whoever calls it
+//! Gets that tell nobody: each tells how many tags of its set its sweeps freed and it did not take, and whoever calls it
 //! sees to those tags, whatever it answered.
-ghost use Rattle.std.specs.Prelude.{◌≢◌, ◌<◌, ◌≡◌, IfErr, IfOk, IfSome, Ok, Some};
+ghost use Rattle.std.specs.Prelude.{◌+◌, ◌≢◌, ◌<◌, ◌≡◌, ◌≤◌, ◌↔◌, IfErr, IfOk, IfSome, IsOk, Ok, OnErr, Some};
 ghost use Rattle.tag_search.specs.declared.search.Unfinished.TheVariants.{NotBegun};
 ghost use Rattle.tag_search.specs.Begun.{CanTry};
 ghost use Rattle.tag_pool.specs.FirstTry.{BeginsGet, TriesFirst};
-ghost use Rattle.tag_pool.specs.Gets.{DoesGet, DoesGetBatch, DoesGetShallow, whole, whole_run};
-ghost use Rattle.tag_pool.specs.Hands.{HasRoom, IsHandOf, IsStillOf, hint_of, layout_of, reserved_of};
+ghost use Rattle.tag_pool.specs.Gets.{DoesGet, DoesGetBatch, DoesGetReserved, DoesGetShallow, Gets, left_free, most_steps, whole, whole_run};
+ghost use Rattle.tag_pool.specs.Hands.{HasRoom, IsHandOf, IsStillOf, hint_of, layout_of, reserved_of, step_count};
+ghost use Rattle.tag_pool.specs.Sets.{first_of};
 ghost use Rattle.tag_pool.specs.declared.kind.Kind.TheVariants.{Ordinary};
 
 use crate::fault::TagFault;
 use crate::hand::Hand;
+use crate::kind::Kind;
 use crate::pool::Pool;
+use tag_core::Spent;
 use tag_search::{Found, Unfinished, on_map};
 
 impl<R: Copy> Pool<R> {
@@ -22,11 +25,55 @@ impl<R: Copy> Pool<R> {
         ensures hand { IsStillOf self.now hand.old hand.new }
         ensures does { DoesGet self.now result hand.old hand.new }
     {
-        let Ok(Found { answer, left }) = hand.ordinary.get(&self.ordinary) else {
+        let Ok(found) = self.get_in_quietly(hand, Kind::Ordinary) else {
             return Err(TagFault::Spent);
         };
-        let answer = self.ordinary_tag(answer);
+        Ok(found)
+    }
+
+    /// Like `get_reserved`, but tells nobody (see `get_quietly`): `left` counts reserved tags. It is refused as `get_reserved`
+    /// is: `NoReserved`, `Spent`.
+    pub fn get_reserved_quietly(&self, hand: &mut Hand<R>) -> Result<Found<u32>, TagFault>
+        requires hand { IsHandOf self.now hand.old }
+        ensures hand { IsStillOf self.now hand.old hand.new }
+        ensures does { DoesGetReserved self.now result hand.old hand.new }
+    {
+        if self.reserved_count == 0 {
+            return Err(TagFault::NoReserved);
+        }
+        let Ok(found) = self.get_in_quietly(hand, Kind::Reserved) else {
+            return Err(TagFault::Spent);
+        };
+        Ok(found)
+    }
+
+    /// Takes a free tag of this kind, and tells nobody (see `get_quietly`): `left` counts tags of this kind. `Spent` means
+    /// that the hand's life in the set is used up; nothing changes then.
+    #[inline(always)]
+    pub fn get_in_quietly(&self, hand: &mut Hand<R>, kind: Kind) -> Result<Found<u32>, Spent>
+        requires hand { IsHandOf self.now hand.old }
+        ensures hand { IsStillOf self.now hand.old hand.new }
+        ensures room { IsOk result ↔ HasRoom hand.old kind 1 }
+        ensures gets { IfOk result (λ found. Gets self.now kind found.answer hand.old hand.new) }
+        ensures left { IfOk result (λ found. found.left ≡ left_free kind hand.old hand.new) }
+        ensures bound { step_count hand.new ≤ most_steps self.now kind + step_count hand.old }
+        ensures err { OnErr result (hand.new ≡ hand.old) }
+    {
+        let Found { answer, left } = hand.side_mut(kind).get(self.map(kind))?;
+        let answer = self.tag_in(kind, answer);
         Ok(Found { answer, left })
+    }
+
+    /// Returns the tag of this kind with this number in its set, if there is one. The number is one of the set.
+    #[inline(always)]
+    fn tag_in(&self, kind: Kind, number: Option<u32>) -> Option<u32>
+        requires { IfSome number (λ n. n < (layout_of self.now kind).depth) }
+        ensures { result ≡ whole (first_of (reserved_of self.now) kind) number }
+    {
+        match kind {
+            Kind::Ordinary => self.ordinary_tag(number),
+            Kind::Reserved => number,
+        }
     }
 
     /// Begins a get as `get_quietly` makes it: its first try is the whole of most gets, and left no tag free if it won one.

@@ -2,7 +2,7 @@
 
 use tag_pool::{Found, Got, Next, Shown as Sums, TagFault, Woken};
 
-/// The answer to a call. Whom it told is a mask: a bit for the number of each hand, of either list.
+/// The answer to a call. Whom it told is a mask: a bit for the number of each hand, sleepers and listeners.
 #[derive(Clone, Copy, Debug, PartialEq, Eq)]
 pub(crate) enum Answer {
     /// A tag, which told nobody.
@@ -30,6 +30,8 @@ pub(crate) enum Answer {
     /// Tags kept, handed to the user and taken back from it, and kept ones handed out again.
     Keeps(u32, u64, u64, u64),
     Value(u64),
+    /// The note of a tag, if it is posted.
+    Noted(Option<u64>),
     Held(bool),
     /// Whether the hand was told, or did not wait.
     WasTold(bool),
@@ -92,7 +94,7 @@ pub(crate) fn answered(called: Result<Answer, TagFault>) -> Answer {
     }
 }
 
-/// Who was told, of both lists.
+/// Who was told, sleepers and listeners.
 fn mask_of(woken: &Woken) -> u64 {
     woken.sleepers() | woken.listeners()
 }

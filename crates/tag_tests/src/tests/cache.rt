@@ -4,6 +4,8 @@ mod batches;
 mod clears;
 mod exact;
 mod keeping;
+mod many;
+mod reserved;
 mod resizing;
 mod slots;
 mod tells;

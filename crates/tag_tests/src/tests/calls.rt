@@ -3,7 +3,7 @@ use crate::tests::allocator::TagAllocator;
 use crate::tests::answers::Answer;
 use crate::tests::stage::Stage;
 use std::sync::Wait;
-use tag_pool::Kind;
+use tag_pool::{Kind, Waiter};
 
 /// A call of a caller, with its arguments.
 #[derive(Clone, Copy, Debug)]
@@ -15,10 +15,12 @@ pub(crate) enum Call {
     GetBatch(u32),
     GetExactly(u32),
     GetBlocking,
+    GetReservedBlocking,
     /// A get that tells nobody.
     GetQuietly,
     /// A get that waits until it would sleep once more than this.
     GetUntil(u32),
+    GetReservedUntil(u32),
     Clear(u32),
     ClearQuietly(u32),
     /// A batch clear of two tags.
@@ -28,26 +30,37 @@ pub(crate) enum Call {
     Read(u32),
     Write(u32, u64),
     Post(u32),
+    /// Posts a tag with a note.
+    PostNoted(u32, u64),
     Take(u32),
+    ReadNote(u32),
     Flush,
     /// Asks what is kept.
     Kept,
     Holds(u32),
     /// Asks whether all that the tags show agrees with the caller's holding this tag, whatever others do meanwhile.
     Agrees(u32),
-    /// Begins to wait in this list.
-    ListSelf(u32),
-    /// Waits on in this list, with the turn that the hand had.
-    ListAgain(u32),
-    /// Ends a wait in this list.
-    GetUp(u32),
-    IsTold(u32),
-    /// A round of a wait among the sleepers, or its end.
+    /// Begins to wait, as this waiter.
+    ListSelf(Waiter),
+    /// Begins to wait for a reserved tag, as this waiter.
+    ListReserved(Waiter),
+    /// Waits on as this waiter, with the turn that the hand had.
+    ListAgain(Waiter),
+    /// Ends a wait.
+    GetUp,
+    GetUpReserved,
+    IsTold,
+    IsToldReserved,
+    /// A round of a wait as a sleeper, or its end.
     WaitOn(bool),
+    WaitOnReserved(bool),
     FindsWaiters,
+    FindsReservedWaiters,
     /// Sees to this many tags that became free.
     SeeTo(u32),
+    SeeToReserved(u32),
     SeeToAll,
+    SeeToAllReserved,
     /// Begins a wait and ends it at once.
     WaitInVain,
     Show(Kind),

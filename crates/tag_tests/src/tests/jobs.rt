@@ -33,9 +33,9 @@ pub(crate) enum Job {
     Meet(Call),
     /// One thread gets tag 0, and clears it once the other one waits for it.
     PassOn,
-    /// In each round one thread gets tag 0 and clears it, and the other makes a blocking get of it at about the same
-    /// time. Nobody else would wake a thread that sleeps although the tag is free.
-    OneClear,
+    /// In each round one thread gets tag 0 by the first call and clears it, and the other gets it by the second, which
+    /// waits, at about the same time. Nobody else would wake a thread that sleeps although the tag is free.
+    OneClear(Call, Call),
 }
 
 /// A job, for how many workers, and how often each of them acts.
@@ -76,8 +76,8 @@ pub(crate) fn play<R: Wait, T: TagAllocator>(
         Job::Meet(call) => meet(rt, tags, caller, tally, call, plan),
         Job::PassOn if works => clear_for_a_waiter(rt, tags, caller, tally),
         Job::PassOn => wait_for_a_tag(rt, tags, caller, tally),
-        Job::OneClear if works => clear_once(rt, tags, caller, tally, plan.rounds),
-        Job::OneClear => wait_for_one_clear(rt, tags, caller, tally, plan.rounds),
+        Job::OneClear(get, _) if works => clear_once(rt, tags, caller, tally, get, plan.rounds),
+        Job::OneClear(_, wait) => wait_for_one_clear(rt, tags, caller, tally, wait, plan.rounds),
     }
 }
 

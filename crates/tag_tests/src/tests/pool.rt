@@ -3,14 +3,16 @@
 mod clears;
 mod exact;
 mod example;
-mod excerpts;
+pub(crate) mod excerpts;
 mod faults;
 mod gathering;
 mod gets;
+mod many;
 mod masks;
 mod memory;
 mod opening;
 mod outputs;
+mod reserved;
 mod resizing;
 mod slots;
 mod tells;

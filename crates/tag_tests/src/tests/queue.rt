@@ -17,6 +17,7 @@ use crate::tests::answers::{Answer, answered, batch, tag};
 use crate::tests::calls::Call;
 use std::alloc::Global;
 use std::sync::Wait;
+use tag_core::MOST_NOTE;
 use tag_queue::{
     GatherCause, Left, Numbered, Queue, QueueHand, ResizeCause, Ring, TagFault, Totals, WaitFault,
 };
@@ -130,6 +131,17 @@ impl TestedQueue {
     }
 }
 
+/// Posts a tag with a note, if there is such a note.
+fn post_noted(queue: &Queue<u64>, hand: &mut QueueHand<u64>, tag: u32, note: u64) -> Answer
+    requires { IsHandOf queue.now hand.old }
+    ensures { IsHandOf queue.now hand.new }
+{
+    if note > MOST_NOTE {
+        return Answer::NoSuchCall;
+    }
+    answered(queue.post_noted(hand, tag, note).map(|()| Answer::Done))
+}
+
 impl TagAllocator for TestedQueue {
     type Caller = QueueHand<u64>;
 
@@ -160,7 +172,9 @@ impl TagAllocator for TestedQueue {
             Call::Read(tag) => answered(self.queue.read(hand, tag).map(Answer::Value)),
             Call::Write(tag, new) => answered(self.queue.write(hand, tag, new).map(Answer::Value)),
             Call::Post(tag) => answered(self.queue.post(hand, tag).map(|()| Answer::Done)),
+            Call::PostNoted(tag, note) => post_noted(&self.queue, hand, tag, note),
             Call::Take(tag) => answered(self.queue.take(hand, tag).map(|()| Answer::Done)),
+            Call::ReadNote(tag) => answered(self.queue.read_note(hand, tag).map(Answer::Noted)),
             Call::Flush => Answer::Woken(0),
             _ => wait_or_look(rt, &self.queue, hand, call),
         }

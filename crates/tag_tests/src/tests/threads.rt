@@ -88,10 +88,10 @@ pub(crate) fn meeting(workers: usize) -> Plan {
     }
 }
 
-/// One thread clears a tag in each round, and the other one waits for it.
-pub(crate) fn one_clear() -> Plan {
+/// One thread gets a tag by the first call in each round and clears it, and the other one waits for it by the second.
+pub(crate) fn one_clear(get: Call, wait: Call) -> Plan {
     Plan {
-        job: Job::OneClear,
+        job: Job::OneClear(get, wait),
         workers: 1,
         rounds: 10_000,
     }

@@ -68,7 +68,6 @@ macro_rules! word {
 
 word!(Word AtomicU64 u64);
 word!(AtomicU32 AtomicU32 u32);
-word!(AtomicI32 AtomicI32 i32);
 
 /// A thread looks once whether a lock is free before it sleeps: more looks find nothing else.
 pub const LOOKS: u32 = 1;

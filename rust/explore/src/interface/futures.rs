@@ -16,7 +16,7 @@ use std::task::{Context, Poll, Wake};
 
 /// The waker of one poll, and where a thread sleeps after it.
 #[derive(Default)]
-struct Called {
+pub struct Called {
     word: AtomicU32,
     /// A hand that it uses before it wakes, as a waker may: for a tag, and for a future if there is a tag.
     hand: Option<SharedHand>,
@@ -42,7 +42,7 @@ impl Called {
     }
 }
 
-fn poll<F: Future + Unpin>(future: &mut F, called: &Arc<Called>) -> Poll<F::Output> {
+pub fn poll<F: Future + Unpin>(future: &mut F, called: &Arc<Called>) -> Poll<F::Output> {
     let waker = Arc::clone(called).into();
     Pin::new(future).poll(&mut Context::from_waker(&waker))
 }
@@ -63,7 +63,7 @@ pub fn wait_for<F: Future + Unpin>(mut future: F, hand: Option<&SharedHand>) -> 
 }
 
 /// Polls a future once, and uses its tag if it has one. Returns whether it has.
-fn is_over(me: usize, future: &mut GetAsync<'_, usize>, called: &Arc<Called>) -> bool {
+pub fn is_over(me: usize, future: &mut GetAsync<'_, usize>, called: &Arc<Called>) -> bool {
     match poll(future, called) {
         Poll::Ready(answer) => use_it(me, answer),
         Poll::Pending => return false,
@@ -143,6 +143,29 @@ pub fn meet(scenario: Scenario) {
         _ => use_it(me, hand.get_blocking()),
     });
     drop(held);
+    drop(hands);
+    close(pool);
+}
+
+/// The only future of the first hand is polled once, and then neither polled nor dropped before the others have ended.
+/// The last thread gives back all tags, which it has at the start, and then sleeps as the others do.
+pub fn linger(scenario: Scenario) {
+    let (pool, hands) = stage(&scenario.options());
+    let held = RefCell::new(take_all(&hands[scenario.threads - 1]));
+    let left = RefCell::new(None);
+    run(&hands, |me, hand| {
+        if me == 1 {
+            let mut future = hand.get_async();
+            is_over(me, &mut future, &Arc::default());
+            left.replace(Some(future));
+            return;
+        }
+        if me == scenario.threads {
+            drop(held.take());
+        }
+        use_it(me, hand.get_blocking());
+    });
+    drop((held, left));
     drop(hands);
     close(pool);
 }

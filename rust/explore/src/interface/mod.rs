@@ -6,12 +6,16 @@ pub mod futures;
 pub mod gates;
 pub mod lists;
 pub mod locks;
+pub mod notes;
 pub mod passing;
+pub mod queues;
+pub mod sets;
 pub mod shared;
 pub mod waits;
 
 use crate::base::word::AtomicU32;
 use crate::error::Result;
+use crate::interface::sets::take_reserved;
 use crate::options::{Kind, Options};
 use crate::owned::OwnedTag;
 use crate::scenarios::Scenario;
@@ -73,16 +77,25 @@ fn stage_with(options: &Options, sleeper: &'static dyn Sleeper) -> (Pool, Vec<Ha
     (pool, hands)
 }
 
-/// Takes all tags.
+/// Takes all ordinary tags.
 fn take_all(hand: &Hand) -> Vec<Tag<'_, usize>> {
     std::iter::from_fn(|| hand.get().ok().flatten()).collect()
 }
 
 /// Closes a pool whose hands have all left. No tag was lost.
 fn close(pool: Pool) {
-    if take_all(&join(&pool)).len() != pool.show(Kind::Ordinary).depth as usize {
-        fault("a tag was lost");
+    let hand = join(&pool);
+    let found = [
+        (take_all(&hand), Kind::Ordinary),
+        (take_reserved(&hand), Kind::Reserved),
+    ];
+    for (tags, kind) in &found {
+        if tags.len() != pool.show(*kind).depth as usize {
+            fault("a tag was lost");
+        }
     }
+    drop(found);
+    drop(hand);
     let Ok(totals) = pool.close() else {
         fault("the pool was not closed");
     };

@@ -19,7 +19,7 @@ pub struct Connection {
 #[derive(Default)]
 pub struct Request {
     pub header: Header,
-    /// Where the reply goes, from the post until then.
+    /// Where the reply goes, from the submit until then.
     pub connection: Option<Arc<Connection>>,
     /// The first bytes of the reply, and the data behind them.
     buffer: Vec<u8>,

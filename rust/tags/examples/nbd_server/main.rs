@@ -2,13 +2,12 @@
 //! flight is a tag of one pool, and the value beside the tag is the request.
 //!
 //! Each connection has a thread that reads requests. It gets a tag for each, and sleeps while none is free, so that the
-//! client's socket fills; then it posts the tag to the workers. A worker takes it, carries the request out, replies,
+//! client's socket fills; then it submits the tag to the workers. A worker takes it, carries the request out, replies,
 //! and drops the tag. SIGUSR1 prints who is busy; SIGTERM and SIGINT finish what is in flight, and end.
 mod connection;
 mod handshake;
 mod options;
 mod protocol;
-mod queue;
 mod server;
 mod store;
 mod system;
@@ -30,7 +29,7 @@ fn must<T, E: Display>(what: &str, result: Result<T, E>) -> T {
     result.unwrap_or_else(|error| give_up(what, &error))
 }
 
-/// Runs until a signal ends it. The workers end last, as they carry out what readers have posted.
+/// Runs until a signal ends it. The workers end last, as they carry out what readers have submitted.
 fn run(server: &Server, signals: &Signals, listeners: Vec<Listener>) {
     thread::scope(|workers| {
         for _ in 0..server.settings.workers {
@@ -46,7 +45,7 @@ fn run(server: &Server, signals: &Signals, listeners: Vec<Listener>) {
             }
             server.stop();
         });
-        server.queue.end();
+        server.end();
     });
 }
 

@@ -95,6 +95,8 @@ impl Settings {
         Options {
             reserved: self.reserved,
             cache: self.cache,
+            notes: true,
+            queues: 1,
             ..Options::new(self.tags + self.reserved, self.connections + self.workers)
         }
     }

@@ -3,7 +3,6 @@ use crate::connection::{Connection, Request};
 use crate::handshake::agree;
 use crate::options::Settings;
 use crate::protocol::{command, Fault, Header, REQUEST_SIZE};
-use crate::queue::Queue;
 use crate::store::Store;
 use crate::wire::Wire;
 use crate::{give_up, must};
@@ -11,11 +10,11 @@ use std::io::{ErrorKind, Result};
 use std::net::{Ipv4Addr, Shutdown, TcpListener, TcpStream};
 use std::os::fd::OwnedFd;
 use std::os::unix::net::{UnixListener, UnixStream};
-use std::sync::atomic::{AtomicBool, AtomicU64, Ordering::Relaxed};
+use std::sync::atomic::{AtomicBool, AtomicU32, Ordering::Relaxed, Ordering::SeqCst};
 use std::sync::{Arc, Condvar, Mutex};
 use std::thread::Scope;
-use std::time::{Duration, Instant};
-use tags::{Error, Hand, Kind, Pool, Tag};
+use std::time::Duration;
+use tags::{default_sleeper, Error, Hand, Kind, Pool, Tag};
 
 pub enum Listener {
     Unix(UnixListener),
@@ -43,18 +42,25 @@ impl Listener {
     }
 }
 
+/// Of tags on their way to a worker.
+const QUEUE: u32 = 0;
+
+fn give_back(mut tag: Tag<Request>) {
+    tag.value_mut().release_large();
+}
+
 pub struct Server {
     pub settings: Settings,
     pub pool: Pool<Request>,
-    pub queue: Queue,
     pub store: Store,
-    /// For each tag what `report_busy` shows of its request, which it may not look into; 0 if that is done.
-    shown: Vec<AtomicU64>,
-    began: Instant,
     open: Mutex<Vec<Arc<Connection>>>,
     /// A connection has ended, and its hand is free.
     has_ended: Condvar,
     is_stopping: AtomicBool,
+    /// No reader is left.
+    is_over: AtomicBool,
+    /// Workers that wait in the queue, or are about to look there.
+    idle: AtomicU32,
 }
 
 impl Server {
@@ -63,13 +69,12 @@ impl Server {
         let pool = must("the pool", Pool::open_with(&options, |_| Request::default()));
         Server {
             pool,
-            queue: Queue::default(),
             store: Store::open(&settings),
-            shown: (0..options.total).map(|_| AtomicU64::new(0)).collect(),
-            began: Instant::now(),
             open: Mutex::default(),
             has_ended: Condvar::new(),
             is_stopping: AtomicBool::new(false),
+            is_over: AtomicBool::new(false),
+            idle: AtomicU32::new(0),
             settings,
         }
     }
@@ -78,10 +83,18 @@ impl Server {
         !self.is_stopping.load(Relaxed)
     }
 
+    /// A stop also ends the waits of workers, which go on as long as a reader may submit a tag.
     pub fn work(&self, hand: &Hand<Request>) {
-        // The tags that an idle worker would keep in its cache are what a reader may wait for.
-        while let Some(number) = self.queue.pop(|| hand.flush()) {
-            self.carry_out(must("take", hand.take(number)));
+        loop {
+            self.idle.fetch_add(1, Relaxed);
+            let next = hand.next_blocking(QUEUE);
+            self.idle.fetch_sub(1, Relaxed);
+            match next {
+                Ok(tag) => self.carry_out(tag),
+                Err(Error::Stopped) if self.is_over.load(SeqCst) => return,
+                Err(Error::Stopped) => (),
+                Err(error) => give_up("next", &error),
+            }
         }
     }
 
@@ -90,21 +103,16 @@ impl Server {
     fn carry_out(&self, mut tag: Tag<Request>) {
         let request = tag.value_mut();
         let header = request.header;
-        // A request that was posted has a connection.
+        // A request that was submitted has a connection.
         let connection = request.connection.take().unwrap();
         let done = self.store.carry_out(&header, request.data());
         if header.command == command::READ && done.is_ok() {
             connection.reply(&header, request.read_reply());
-            self.give_back(tag);
+            give_back(tag);
         } else {
-            self.give_back(tag);
+            give_back(tag);
             connection.reply(&header, &header.reply(done));
         }
-    }
-
-    fn give_back(&self, mut tag: Tag<Request>) {
-        tag.value_mut().release_large();
-        self.shown[tag.number() as usize].store(0, Relaxed);
     }
 
     /// Waits for a hand while all are out. `None` once the server stops.
@@ -152,17 +160,16 @@ impl Server {
         self.has_ended.notify_all();
     }
 
-    /// A flush and a disconnect get a reserved tag, and so pass requests for which no tag is free.
-    fn get_tag<'a>(hand: &'a Hand<Request>, header: &Header) -> tags::Result<Tag<'a, Request>> {
-        if matches!(header.command, command::FLUSH | command::DISC) {
-            if let Ok(Some(tag)) = hand.get_reserved() {
-                return Ok(tag);
-            }
+    /// A flush and a disconnect get a reserved tag, and so pass requests for which no tag is free. If there is none they
+    /// wait for it, with only each other before them.
+    fn get_tag<'a>(&self, hand: &'a Hand<Request>, header: &Header) -> tags::Result<Tag<'a, Request>> {
+        match header.command {
+            command::FLUSH | command::DISC if self.settings.reserved > 0 => hand.get_reserved_blocking(),
+            _ => hand.get_blocking(),
         }
-        hand.get_blocking()
     }
 
-    /// Reads a request and posts its tag. An error ends the connection.
+    /// Reads a request and submits its tag. An error ends the connection.
     fn read_request(&self, hand: &Hand<Request>, connection: &Arc<Connection>) -> Result<()> {
         let mut bytes = [0; REQUEST_SIZE];
         connection.wire.receive_next(&mut bytes)?;
@@ -174,12 +181,12 @@ impl Server {
         if header.command == command::DISC {
             connection.wait_until_idle();
         }
-        let submitted = match Self::get_tag(hand, &header) {
+        let submitted = match self.get_tag(hand, &header) {
             Ok(tag) => self.submit(tag, header, connection),
             Err(Error::Stopped) => connection.refuse(&header, Fault::Shutdown),
             Err(error) => give_up("get", &error),
         };
-        // A tag that went back without a post is not kept while this thread is idle.
+        // A tag that went back at once is not kept while this thread is idle.
         hand.flush();
         submitted?;
         if header.command == command::DISC {
@@ -189,29 +196,22 @@ impl Server {
     }
 
     fn submit(&self, mut tag: Tag<Request>, header: Header, connection: &Arc<Connection>) -> Result<()> {
-        self.show(tag.number(), connection.number, &header);
+        must("note", tag.note(connection.number << 16 | u64::from(header.command)));
         let request = tag.value_mut();
         if let Err(fault) = request.fill(header) {
-            self.give_back(tag);
+            give_back(tag);
             return connection.refuse(&header, fault);
         }
         if header.command == command::WRITE {
             if let Err(error) = connection.wire.receive(request.data()) {
-                self.give_back(tag);
+                give_back(tag);
                 return Err(error);
             }
         }
         request.connection = Some(Arc::clone(connection));
         connection.begin();
-        let number = tag.post();
-        self.queue.push(number, number < self.settings.reserved);
+        must("submit", tag.submit(QUEUE));
         Ok(())
-    }
-
-    fn show(&self, tag: u32, connection: u64, header: &Header) {
-        let since = self.began.elapsed().as_millis() as u64;
-        let word = since << 24 | (connection & 0xffff) << 8 | u64::from(header.command) << 1 | 1;
-        self.shown[tag as usize].store(word, Relaxed);
     }
 
     /// Prints which tags are busy. This needs no hand, and stops nobody.
@@ -224,27 +224,26 @@ impl Server {
             ordinary.depth,
             reserved.busy,
             reserved.depth,
-            self.pool.waiting()
+            self.pool.waiting().saturating_sub(self.idle.load(Relaxed))
         );
-        for tag in self.pool.busy_tags() {
-            let word = self.shown[tag as usize].load(Relaxed);
-            // A tag that a hand keeps, or that has just been got or given back, has no request.
-            if word != 0 {
-                let now = self.began.elapsed().as_millis() as u64;
-                println!(
-                    "tag {tag}: connection {}, {}, {} ms",
-                    word >> 8 & 0xffff,
-                    command::NAMES[(word >> 1 & 0x7f) as usize],
-                    now - (word >> 24)
-                );
-            }
+        for (tag, note) in must("the notes", self.pool.noted_tags()) {
+            // A tag that a hand keeps, or that has just been got, has none.
+            let Some(note) = note else { continue };
+            println!(
+                "tag {tag}: connection {}, {}, {} ms",
+                note.value >> 16,
+                command::NAMES[(note.value & 0xffff) as usize],
+                (default_sleeper().now() - note.since).as_millis()
+            );
         }
     }
 
-    /// Each reader stops where it is, waits for the replies to what it has posted, and ends.
+    /// Each reader stops where it is, waits for the replies to what it has submitted, and ends.
     pub fn stop(&self) {
         self.is_stopping.store(true, Relaxed);
         self.pool.stop();
+        // Workers wait on meanwhile.
+        self.pool.resume();
         for connection in self.open.lock().unwrap().iter() {
             let _ = connection.wire.stream.shutdown(Shutdown::Read);
         }
@@ -256,5 +255,11 @@ impl Server {
         if let Some(port) = self.settings.port {
             let _ = TcpStream::connect_timeout(&(Ipv4Addr::LOCALHOST, port).into(), Duration::from_secs(1));
         }
+    }
+
+    /// Once no reader is left each worker carries out what is queued, and ends.
+    pub fn end(&self) {
+        self.is_over.store(true, SeqCst);
+        self.pool.stop();
     }
 }

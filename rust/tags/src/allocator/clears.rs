@@ -1,7 +1,8 @@
-//! Calls that give tags back. Those who wait are then to be told how many became free (`see_to`).
+//! Calls that give tags back. Those who wait for tags of their set are then to be told how many became free (`see_to`).
 
 use crate::allocator::way::{by_way, Cached, Plain, Way};
-use crate::allocator::{Core, Due, Held, HeldMask};
+use crate::allocator::{Core, Due, Freed, Held, HeldMask};
+use crate::options::Kind;
 
 impl Plain {
     #[inline(never)]
@@ -27,12 +28,16 @@ impl Cached {
     fn clear_any(&mut self, core: &Core, number: u32) {
         let freed = self.cache.clear_any(&core.tags, number);
         debug_assert!(freed.is_ok(), "a guard's tag is held");
-        self.freed = freed.unwrap_or(0);
+        // The call counts ordinary tags alone.
+        self.freed = match core.kind(number) {
+            Kind::Ordinary => freed.unwrap_or(0),
+            Kind::Reserved => 1,
+        };
     }
 }
 
 impl Way {
-    /// Gives a tag back. How many became free `freed` says, so that a clear that tells nobody need not keep the number.
+    /// Gives a tag back. What became free `freed` says, so that a clear that tells nobody need not ask.
     #[inline(always)]
     pub fn clear(&mut self, core: &Core, held: Held) {
         match self {
@@ -50,18 +55,19 @@ impl Way {
         }
     }
 
-    /// How many tags the last `clear` made free.
-    pub fn freed(&self) -> u32 {
-        match self {
+    /// What the last `clear` made free, which was of this tag.
+    pub fn freed(&self, core: &Core, number: u32) -> Freed {
+        let count = match self {
             Way::Cached(cached) => cached.freed,
             _ => 1,
-        }
+        };
+        Freed::of(core.kind(number), count)
     }
 
     /// Gives tags back together.
-    pub fn clear_mask(&mut self, core: &Core, held: HeldMask) -> u32 {
+    pub fn clear_mask(&mut self, core: &Core, held: HeldMask) -> Freed {
         let (first, mask) = (held.numbers().first(), held.numbers().mask());
-        by_way!(self,
+        let freed = by_way!(self,
             hand => {
                 core.tags.clear_mask_held_quietly(hand, first, mask);
                 mask.count_ones()
@@ -71,21 +77,25 @@ impl Way {
                 debug_assert!(freed.is_ok(), "a guard's tags are held");
                 freed.unwrap_or(0)
             }
-        )
+        );
+        Freed::of(Kind::Ordinary, freed)
     }
 
     /// Gives all kept tags back.
-    pub fn flush(&mut self, core: &Core) -> u32 {
-        by_way!(self, _hand => 0, cache => cache.flush_quietly(&core.tags))
+    pub fn flush(&mut self, core: &Core) -> Freed {
+        let freed = by_way!(self, _hand => 0, cache => cache.flush_quietly(&core.tags));
+        Freed::of(Kind::Ordinary, freed)
     }
 
-    /// Tells those who wait for this many tags that became free, if any did. If somebody waits, what the hand keeps goes
-    /// back too.
-    pub fn see_to(&mut self, core: &Core, freed: u32) -> Due {
+    /// Tells those who wait for a tag of this kind of those that became free, if any did. If somebody waits for an
+    /// ordinary one, what the hand keeps goes back too.
+    pub fn see_to(&mut self, core: &Core, kind: Kind, freed: Freed) -> Due {
+        let (tags, freed) = (&core.tags, freed.count(kind));
         if freed == 0 {
             return Due::NOBODY;
         }
-        let tags = &core.tags;
-        by_way!(self, hand => tags.see_to(hand, freed), cache => cache.see_to(tags, freed)).into()
+        let set = kind.into();
+        let told = by_way!(self, hand => tags.see_to(hand, set, freed), cache => cache.see_to(tags, set, freed));
+        Due::of(kind, told)
     }
 }

@@ -38,7 +38,7 @@ impl From<ResizeCause> for Error {
             ResizeCause::Missing(_) => Error::HandsOut,
             ResizeCause::DepthTooLarge => Error::TotalTooLarge,
             ResizeCause::InUse(_, _) => Error::InUse,
-            // A hand that leaves is on no list.
+            // A hand that leaves does not wait.
             ResizeCause::Waiting(_) => Error::Unexpected(-30),
             ResizeCause::Memory => Error::NoMemory,
         }

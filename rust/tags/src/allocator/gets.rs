@@ -1,13 +1,14 @@
-//! Calls that take tags. Each says how many its sweeps made free and it did not take, of which those who wait are to be told.
+//! Calls that take tags. Each says what its sweeps made free and it did not take, of which those who wait are to be told.
 
 use crate::allocator::way::{by_way, Cached, Outcome, Plain, Way};
-use crate::allocator::{Core, Held, HeldMask};
+use crate::allocator::{Core, Freed, Held, HeldMask};
 use crate::batch::Numbers;
 use crate::error::Result;
+use crate::options::Kind;
 use crate::proved::tag_pool::{Found, TagFault, Unfinished};
 
-/// What a get found, and how many tags it made free and did not take.
-pub(crate) type Gotten<H> = (Result<Option<H>>, u32);
+/// What a get found, and what it made free and did not take.
+pub(crate) type Gotten<H> = (Result<Option<H>>, Freed);
 
 type Answer<A> = core::result::Result<Found<A>, TagFault>;
 
@@ -25,11 +26,11 @@ fn won(found: Answer<u32>, outcome: &mut Outcome) -> Option<Held> {
     None
 }
 
-fn gotten<A, H>(found: Answer<A>, hold: impl FnOnce(A) -> H) -> Gotten<H> {
+fn gotten<A, H>(kind: Kind, found: Answer<A>, hold: impl FnOnce(A) -> H) -> Gotten<H> {
     match found {
         // There are at most 64 hands to be told.
-        Ok(Found { answer, left }) => (Ok(answer.map(hold)), left.min(64) as u32),
-        Err(fault) => (Err(fault.into()), 0),
+        Ok(Found { answer, left }) => (Ok(answer.map(hold)), Freed::of(kind, left.min(64) as u32)),
+        Err(fault) => (Err(fault.into()), Freed::NONE),
     }
 }
 
@@ -92,20 +93,31 @@ impl Way {
             Way::Cached(cached) => cached.outcome.take(),
             Way::Left => None,
         };
-        gotten(outcome.expect("a get ends somehow"), Held::new)
+        gotten(Kind::Ordinary, outcome.expect("a get ends somehow"), Held::new)
     }
 
-    pub fn get(&mut self, core: &Core) -> Gotten<Held> {
+    /// Takes a tag of this kind.
+    pub fn get_in(&mut self, core: &Core, kind: Kind) -> Gotten<Held> {
+        match kind {
+            Kind::Ordinary => self.get(core),
+            Kind::Reserved => self.get_reserved(core),
+        }
+    }
+
+    fn get(&mut self, core: &Core) -> Gotten<Held> {
         match self.try_get(core) {
-            Some(held) => (Ok(Some(held)), 0),
+            Some(held) => (Ok(Some(held)), Freed::NONE),
             None => self.outcome(),
         }
     }
 
-    pub fn get_reserved(&mut self, core: &Core) -> Result<Option<Held>> {
+    fn get_reserved(&mut self, core: &Core) -> Gotten<Held> {
         let tags = &core.tags;
-        let found = by_way!(self, hand => tags.get_reserved(hand), cache => cache.get_reserved(tags));
-        Ok(found?.map(Held::new))
+        let found = by_way!(self,
+            hand => tags.get_reserved_quietly(hand),
+            cache => cache.get_reserved_quietly(tags)
+        );
+        gotten(Kind::Reserved, found, Held::new)
     }
 
     pub fn get_shallow(&mut self, core: &Core, depth: u32) -> Gotten<Held> {
@@ -114,7 +126,7 @@ impl Way {
             hand => tags.get_shallow_quietly(hand, depth),
             cache => cache.get_shallow_quietly(tags, depth)
         );
-        gotten(found, Held::new)
+        gotten(Kind::Ordinary, found, Held::new)
     }
 
     pub fn get_exactly(&mut self, core: &Core, number: u32) -> Gotten<Held> {
@@ -123,7 +135,7 @@ impl Way {
             hand => tags.get_exactly_quietly(hand, number),
             cache => cache.get_exactly_quietly(tags, number)
         );
-        gotten(found, Held::new)
+        gotten(core.kind(number), found, Held::new)
     }
 
     pub fn get_batch(&mut self, core: &Core, n: u32) -> Gotten<HeldMask> {
@@ -132,6 +144,22 @@ impl Way {
             hand => tags.get_batch_quietly(hand, n),
             cache => cache.get_batch_quietly(tags, n)
         );
-        gotten(found, |(first, won)| HeldMask::new(Numbers::new(first, won)))
+        gotten(Kind::Ordinary, found, |(first, won)| {
+            HeldMask::new(Numbers::new(first, won))
+        })
+    }
+
+    /// Fills in the numbers of as many tags as there are places, or takes none.
+    pub fn get_many(&mut self, core: &Core, numbers: &mut [u32]) -> Gotten<()> {
+        let tags = &core.tags;
+        let found = by_way!(self,
+            hand => tags.get_many_quietly(hand, numbers),
+            cache => cache.get_many_quietly(tags, numbers)
+        );
+        let found = found.map(|(all, left)| Found {
+            answer: all.then_some(()),
+            left,
+        });
+        gotten(Kind::Ordinary, found, |()| ())
     }
 }

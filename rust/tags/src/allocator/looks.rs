@@ -15,6 +15,15 @@ impl From<Kind> for tag_pool::Kind {
     }
 }
 
+impl From<tag_pool::Kind> for Kind {
+    fn from(kind: tag_pool::Kind) -> Kind {
+        match kind {
+            tag_pool::Kind::Ordinary => Kind::Ordinary,
+            tag_pool::Kind::Reserved => Kind::Reserved,
+        }
+    }
+}
+
 impl From<Shown> for Sizes {
     fn from(shown: Shown) -> Sizes {
         Sizes {
@@ -28,6 +37,11 @@ impl From<Shown> for Sizes {
 }
 
 impl Core {
+    /// The set of a tag.
+    pub fn kind(&self, number: u32) -> Kind {
+        self.tags.kind(number).into()
+    }
+
     /// Whether a slice has a bit for each tag.
     pub fn check_room(&self, into: &[u64]) -> Result<()> {
         if self.tags.depth().div_ceil(64) as usize > into.len() {

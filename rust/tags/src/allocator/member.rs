@@ -1,13 +1,15 @@
 //! A hand that is out.
 
 use crate::allocator::way::{Terms, Way};
-use crate::allocator::{Core, Due, Gotten, Held, HeldMask, List, Next, Roster, Set, Turn};
+use crate::allocator::{Core, Due, Freed, Gotten, Held, HeldMask, Next, Roster, Set, Turn, Waiter, MAX_TOTAL};
 use crate::batch::Numbers;
 use crate::cells::Own;
 use crate::error::{Error, Result};
+use crate::notes::Note;
 use crate::options::{Kind, Sizes};
 use crate::proved::tag_pool::Hand;
 use alloc::sync::Arc;
+use alloc::vec;
 use alloc::vec::Vec;
 
 /// A hand with the tags that it belongs to: it is never used with others.
@@ -32,7 +34,7 @@ impl<T> Member<T> {
     }
 
     #[inline(always)]
-    fn call<R>(&self, call: impl FnOnce(&mut Way, &Core) -> R) -> R {
+    pub(super) fn call<R>(&self, call: impl FnOnce(&mut Way, &Core) -> R) -> R {
         self.way.lend(|way| call(way, &self.set.core))
     }
 
@@ -71,13 +73,9 @@ impl<T> Member<T> {
         self.call(|way, _| way.outcome())
     }
 
-    #[inline]
-    pub fn get(&self) -> Gotten<Held> {
-        self.call(Way::get)
-    }
-
-    pub fn get_reserved(&self) -> Result<Option<Held>> {
-        self.call(Way::get_reserved)
+    /// Takes a tag of this kind.
+    pub fn get_in(&self, kind: Kind) -> Gotten<Held> {
+        self.call(|way, core| way.get_in(core, kind))
     }
 
     pub fn get_shallow(&self, depth: u32) -> Gotten<Held> {
@@ -93,31 +91,52 @@ impl<T> Member<T> {
         self.call(|way, core| way.get_batch(core, n))
     }
 
-    /// Gives a tag back.
+    /// More than all ordinary tags are refused.
+    pub fn get_many(&self, n: u32) -> Gotten<Vec<Held>> {
+        let mut numbers = vec![0; n.min(MAX_TOTAL + 1) as usize];
+        let (found, left) = self.call(|way, core| way.get_many(core, &mut numbers));
+        let hold_all = |()| numbers.into_iter().map(Held::new).collect();
+        (found.map(|all| all.map(hold_all)), left)
+    }
+
+    /// Publishes the note of a tag for its guard, in one call at a time.
+    pub fn note(&self, number: u32, note: Note) -> Result<()> {
+        let notes = self.set.notes.as_ref().ok_or(Error::NoNotes)?;
+        notes.publish(number, note);
+        Ok(())
+    }
+
+    /// Gives a tag back, whose note ends before.
     #[inline]
     pub fn clear(&self, held: Held) {
+        if let Some(notes) = &self.set.notes {
+            notes.end(held.number());
+        }
         self.call(|way, core| way.clear(core, held));
     }
 
-    /// How many tags the last `clear` made free.
-    pub fn freed(&self) -> u32 {
-        self.call(|way, _| way.freed())
+    /// What the last `clear` made free, which was of this tag.
+    pub fn freed(&self, number: u32) -> Freed {
+        self.call(|way, core| way.freed(core, number))
     }
 
-    /// Gives tags back together. Returns how many became free, as the calls below do.
-    pub fn clear_mask(&self, held: HeldMask) -> u32 {
+    /// Gives tags back together. Returns what became free, as the calls below do.
+    pub fn clear_mask(&self, held: HeldMask) -> Freed {
+        if let Some(notes) = &self.set.notes {
+            held.numbers().iter().for_each(|number| notes.end(number));
+        }
         self.call(|way, core| way.clear_mask(core, held))
     }
 
     /// Gives all kept tags back.
-    pub fn flush(&self) -> u32 {
+    pub fn flush(&self) -> Freed {
         self.call(Way::flush)
     }
 
-    /// Tells those who wait for this many tags that became free, if any did. If somebody waits, what the hand keeps goes
-    /// back too.
-    pub fn see_to(&self, freed: u32) -> Due {
-        self.call(|way, core| way.see_to(core, freed))
+    /// Tells those who wait for a tag of this kind of those that became free, if any did. If somebody waits for an
+    /// ordinary one, what the hand keeps goes back too.
+    pub fn see_to(&self, kind: Kind, freed: Freed) -> Due {
+        self.call(|way, core| way.see_to(core, kind, freed))
     }
 
     pub fn read(&self, held: &Held) -> u64 {
@@ -140,25 +159,15 @@ impl<T> Member<T> {
     }
 
     /// Offers a tag to all hands of the pool, and returns its number. Tags that are kept only beside it go back.
-    pub fn post(&self, held: Held) -> (u32, u32) {
+    pub fn post(&self, held: Held) -> (u32, Freed) {
         let number = held.number();
         (number, self.call(|way, core| way.post(core, number)))
     }
 
     /// Offers tags to all hands of the pool, and returns their numbers.
-    pub fn post_mask(&self, held: HeldMask) -> (Numbers, u32) {
+    pub fn post_mask(&self, held: HeldMask) -> (Numbers, Freed) {
         let numbers = held.numbers();
         (numbers, self.call(|way, core| way.post_each(core, numbers.iter())))
-    }
-
-    /// Takes a posted tag.
-    pub fn take(&self, number: u32) -> Result<Held> {
-        self.call(|way, core| way.take(core, number))
-    }
-
-    /// Takes posted tags: all of them or none. Those taken before one that is not posted are posted again.
-    pub fn take_mask(&self, posted: Numbers) -> (Result<HeldMask>, u32) {
-        self.call(|way, core| way.take_mask(core, posted))
     }
 
     /// Ends a guard whose tag the hand goes on to hold, and returns its number.
@@ -194,15 +203,15 @@ impl<T> Member<T> {
         self.call(|way, core| way.holds(core, number))
     }
 
-    /// One round of a wait, after a get that found none: lists the hand and tries each tag, or ends the wait. If it
-    /// answers `Sleep` the hand may sleep. Otherwise it waits no more and has nothing to see to. Those told are to be
-    /// woken.
-    pub fn wait_on(&self, list: List, is_over: bool, turn: Turn) -> (Result<Next>, Due) {
-        self.call(|way, core| way.wait_on(core, list, is_over, turn))
+    /// One round of a wait for a tag of this kind, after a get that found none: lists the hand as this waiter and tries
+    /// each tag, or ends the wait. If it answers `Sleep` the hand may sleep. Otherwise it waits no more and has nothing to see to.
+    /// Those told are to be woken.
+    pub fn wait_on(&self, kind: Kind, waiter: Waiter, is_over: bool, turn: Turn) -> (Result<Next>, Due) {
+        self.call(|way, core| way.wait_on(core, kind, waiter, is_over, turn))
     }
 
     /// One round of the wait of a hand for futures, also where other calls of the hand came between.
-    pub fn listen_on(&self, is_over: bool, turn: Turn) -> (Result<Next>, Due) {
-        self.call(|way, core| way.listen_on(core, is_over, turn))
+    pub fn listen_on(&self, kind: Kind, is_over: bool, turn: Turn) -> (Result<Next>, Due) {
+        self.call(|way, core| way.listen_on(core, kind, is_over, turn))
     }
 }

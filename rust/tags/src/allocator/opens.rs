@@ -5,9 +5,12 @@ use crate::allocator::{Core, Roster, Set, MAX_CACHE};
 use crate::base::vec::Global;
 use crate::cells::Values;
 use crate::error::{Error, Result};
+use crate::notes::Notes;
 use crate::options::{Options, Shift};
 use crate::proved::tag_cache::Keeping;
 use crate::proved::tag_pool::{self, Pool, MOST_WON};
+use crate::queues::Queues;
+use crate::sleep::Sleeper;
 use alloc::sync::Arc;
 
 /// Each hand may win as much as the limit allows.
@@ -42,7 +45,7 @@ fn terms(options: &Options) -> Terms {
 impl<T> Roster<T> {
     /// Opens tags that are all free, with slots of 0, and a value beside each. Their hands join in the order of their
     /// numbers until one is given back.
-    pub fn open(options: &Options, make: impl FnMut(u32) -> T) -> Result<Roster<T>> {
+    pub fn open(options: &Options, sleeper: &'static dyn Sleeper, make: impl FnMut(u32) -> T) -> Result<Roster<T>> {
         if options.cache > MAX_CACHE {
             return Err(Error::CacheTooLarge);
         }
@@ -51,6 +54,8 @@ impl<T> Roster<T> {
         let set = Set {
             core: Core { tags },
             values: Values::new(0..options.total, make)?,
+            notes: options.notes.then(|| Notes::new(options.total)).transpose()?,
+            queues: Queues::open(options, sleeper)?,
         };
         Ok(Roster {
             set: Some(Arc::new(set)),

@@ -3,10 +3,13 @@
 use crate::allocator::way::Terms;
 use crate::allocator::{Core, Member, Set, MAX_TOTAL};
 use crate::base::vec::{Global, Vec};
+use crate::bell::numbers_in;
 use crate::cells::Values;
 use crate::error::{Error, Result};
+use crate::notes::{Found, Notes};
 use crate::options::{Kind, Sizes, Totals};
 use crate::proved::tag_pool::{Hand, Pool, PoolGatherFault, PoolResizeFault};
+use crate::queues::Queues;
 use alloc::sync::Arc;
 
 /// The tags of a pool, and its hands that are not out.
@@ -71,13 +74,18 @@ impl<T> Roster<T> {
             Err(error) => return (others, Err(error)),
         };
         let reserved = set.core.tags.reserved();
-        let (left, answer) = match set.values.room_for(reserved, &others) {
+        let room = set.values.room_for(reserved, &others);
+        let (left, answer) = match room.and_then(|room| Ok((room, set.notes_for(total)?, set.queues.renewed(total)?))) {
             Err(error) => (others, Err(error)),
-            Ok(room) => {
+            Ok((room, notes, queues)) => {
                 let (tags, answer) = self.resize_tags(set.core.tags, total);
                 set.core.tags = tags;
                 match answer {
-                    Ok(()) => (set.values.replace(reserved, others, room), Ok(())),
+                    Ok(()) => {
+                        set.notes = notes;
+                        set.queues = queues;
+                        (set.values.replace(reserved, others, room), Ok(()))
+                    }
                     Err(error) => (others, Err(error)),
                 }
             }
@@ -108,7 +116,7 @@ impl<T> Roster<T> {
 
     /// Closes the pool if all hands are back, and returns the totals, and the values to be dropped.
     pub fn close(&mut self) -> Result<(Totals, Values<T>)> {
-        let Set { core, values } = self.take_set()?;
+        let Set { core, values, .. } = self.take_set()?;
         let idle = core::mem::replace(&mut self.idle, Vec::new(Global));
         match Pool::gather(core.tags, idle) {
             Ok(sums) => {
@@ -124,6 +132,11 @@ impl<T> Roster<T> {
         }
     }
 
+    /// The queues of submitted tags.
+    pub fn queues(&self) -> &Queues {
+        self.set().queues()
+    }
+
     /// Number of tags of both sets.
     pub fn total(&self) -> u32 {
         self.set().core.tags.depth()
@@ -136,9 +149,28 @@ impl<T> Roster<T> {
         Ok(core.tags.peek_busy(into))
     }
 
+    /// Finds busy tags from a number on, with their notes, as many as there is room for.
+    pub fn find_noted(&self, from: u32, found: &mut Found) -> Result<()> {
+        let set = self.set();
+        let notes = set.notes.as_ref().ok_or(Error::NoNotes)?;
+        let mut busy = [0; MAX_TOTAL as usize / 64];
+        set.core.tags.peek_busy(&mut busy);
+        let tags = numbers_in(busy).skip_while(|tag| *tag < from);
+        let mut noted = tags.map(|tag| (tag, notes.find(tag)));
+        found.fill_with(|| noted.next());
+        Ok(())
+    }
+
     /// Returns the sizes of a set, without a hand.
     pub fn show(&self, kind: Kind) -> Sizes {
         self.set().core.tags.peek_show(kind.into()).into()
+    }
+}
+
+impl<T> Set<T> {
+    /// As many of its own has a set of `total` tags, of which none is in use.
+    fn notes_for(&self, total: u32) -> Result<Option<Notes>> {
+        self.notes.as_ref().map(|_| Notes::new(total)).transpose()
     }
 }
 

@@ -32,7 +32,7 @@ pub(super) struct Plain {
 pub(super) struct Cached {
     pub cache: Cache<u64>,
     pub outcome: Outcome,
-    /// How many tags the last clear made free.
+    /// How many tags the last clear made free, of the set of its tag.
     pub freed: u32,
 }
 

@@ -1,6 +1,6 @@
 //! Atomic words, and the use of a slot. The explorer of schedules has its own of these.
 
-pub use core::sync::atomic::{AtomicI32, AtomicU32, AtomicU64 as Word};
+pub use core::sync::atomic::{AtomicU32, AtomicU64 as Word};
 
 /// How often a thread looks whether a lock is free before it sleeps.
 pub const LOOKS: u32 = 100;

@@ -6,6 +6,7 @@ use crate::hand::Hand;
 use crate::lists::Busy;
 use crate::options::Kind;
 use crate::pool::Pool;
+use crate::queues::Line;
 use core::time::Duration;
 
 impl<T> Pool<T> {
@@ -61,7 +62,7 @@ impl<T> Pool<T> {
         }
     }
 
-    /// Sleeps until all tags are back: none of either set is held, posted, or kept in a cache. For a shutdown and
+    /// Sleeps until all tags are back: none of either set is held, posted or queued, or kept in a cache. For a shutdown and
     /// before a resize, when threads get no more tags: where they do, all of them need not have been back at any one
     /// moment. A hand that keeps tags gives them back with its next clear, by a [`flush`](Hand::flush), or when it is
     /// dropped. A [`stop`](Pool::stop) does not end this.
@@ -154,11 +155,12 @@ impl<T> Pool<T> {
         Ok(bell.lists().enter(numbers, total)?.wait(bell.sleeper, end, report))
     }
 
-    /// Ends every wait for a tag or a hand, now and from now on, as for a shutdown. Threads that sleep for either and
-    /// futures that wait for a tag are woken. From now on [`Hand::get_blocking`], [`Hand::get_timeout`] and
-    /// [`Hand::get_async`] return [`Stopped`](crate::Error::Stopped), even while a tag is free, and so does
-    /// [`join_blocking`](Pool::join_blocking) where it would have to sleep. A call that was waiting may still return a
-    /// tag or a hand. Tags still go back, and [`Hand::get`] still takes them.
+    /// Ends every wait for a tag or a hand, or in a queue, now and from now on, as for a shutdown. Threads that sleep for
+    /// one of these and futures that wait are woken. From now on [`Hand::get_blocking`], [`Hand::get_timeout`],
+    /// [`Hand::get_async`] and the same calls for a reserved tag return [`Stopped`](crate::Error::Stopped), even while a
+    /// tag is free, and so do [`join_blocking`](Pool::join_blocking) and the calls that wait in a queue, such as
+    /// [`Hand::next_blocking`], where they would have to sleep. A call that was waiting may still return a tag or a hand.
+    /// Tags still go back, and [`Hand::get`] and [`Hand::next`] still take them.
     ///
     /// ```
     /// # use tags::{Error, Options, Pool};
@@ -177,6 +179,7 @@ impl<T> Pool<T> {
     /// ```
     pub fn stop(&self) {
         self.home.bell.stop();
+        self.token_pools().for_each(|tokens| tokens.stop());
     }
 
     /// Lets waits begin again after [`stop`](Pool::stop). A wait that began before the stop ends, also if this call
@@ -196,5 +199,14 @@ impl<T> Pool<T> {
     /// ```
     pub fn resume(&self) {
         self.home.bell.resume();
+        self.token_pools().for_each(|tokens| tokens.resume());
+    }
+
+    /// Those of the queues, to be used without the lock, as wakers may need that.
+    fn token_pools(&self) -> impl Iterator<Item = Pool> + '_ {
+        (0..).map_while(|queue| {
+            let roster = self.home.roster.lock();
+            roster.queues().line(queue).map(Line::tokens).ok()
+        })
     }
 }

@@ -9,8 +9,6 @@ use core::time::Duration;
 const NONE: u32 = 0;
 const GIVEN: u32 = 1;
 const ASLEEP: u32 = 2;
-/// Given while the thread slept.
-const ROUSED: u32 = 3;
 
 /// Given by whoever wakes the thread, and taken by it when a sleep ends. One that is left over ends the next sleep at once.
 pub(crate) struct Token(AtomicU32);
@@ -20,31 +18,18 @@ impl Token {
         Token(AtomicU32::new(NONE))
     }
 
-    /// Gives the token. Returns whether the thread sleeps, which is then to be woken; it takes this token and no other.
-    pub fn give(&self) -> bool {
-        let given = |state| match state {
-            NONE => Some(GIVEN),
-            ASLEEP => Some(ROUSED),
-            _ => None,
-        };
-        self.0.fetch_update(SeqCst, SeqCst, given) == Ok(ASLEEP)
+    /// Gives the token, and wakes the thread if it sleeps.
+    pub fn give(&self, sleeper: &dyn Sleeper) {
+        if self.0.swap(GIVEN, SeqCst) == ASLEEP {
+            sleeper.wake(&self.0);
+        }
     }
 
-    /// Wakes the thread, which sleeps.
-    pub fn wake(&self, sleeper: &dyn Sleeper) {
-        sleeper.wake(&self.0);
-    }
-
-    /// Sleeps until the token is given, and takes it; or until the end. Returns whether it was given while the thread
-    /// slept.
-    pub fn sleep(&self, sleeper: &dyn Sleeper, end: Option<Duration>) -> bool {
+    /// Sleeps until the token is given, and takes it; or until the end.
+    pub fn sleep(&self, sleeper: &dyn Sleeper, end: Option<Duration>) {
         loop {
-            let found = self.0.swap(NONE, SeqCst);
-            if found == ROUSED {
-                return true;
-            }
-            if found == GIVEN || is_past(sleeper, end) {
-                return false;
+            if self.0.swap(NONE, SeqCst) == GIVEN || is_past(sleeper, end) {
+                return;
             }
             if self.0.compare_exchange(NONE, ASLEEP, SeqCst, SeqCst).is_ok() {
                 sleeper.sleep(&self.0, ASLEEP, end);
@@ -63,6 +48,7 @@ mod tests {
 
     static TOKEN: Token = Token::new();
     static SLEEPS: AtomicU32 = AtomicU32::new(0);
+    static WAKES: AtomicU32 = AtomicU32::new(0);
 
     /// Gives the token just before the sleep, when the time is asked for.
     struct Meddler;
@@ -70,25 +56,29 @@ mod tests {
     impl Sleeper for Meddler {
         fn sleep(&self, _: &AtomicU32, _: u32, _: Option<Duration>) {
             SLEEPS.fetch_add(1, SeqCst);
-            assert!(TOKEN.give());
+            TOKEN.give(self);
         }
 
-        fn wake(&self, _: &AtomicU32) {}
+        fn wake(&self, _: &AtomicU32) {
+            WAKES.fetch_add(1, SeqCst);
+        }
 
         fn now(&self) -> Duration {
-            assert!(!TOKEN.give());
+            TOKEN.give(self);
             Duration::ZERO
         }
     }
 
     #[test]
     fn a_token_that_comes_before_the_sleep_ends_it() {
-        assert!(!TOKEN.sleep(&Meddler, Some(Duration::from_secs(1))));
-        assert_eq!(SLEEPS.load(SeqCst), 0);
-        assert!(TOKEN.sleep(&Meddler, None));
-        assert_eq!(SLEEPS.load(SeqCst), 1);
-        assert!(!TOKEN.give());
-        assert!(!TOKEN.sleep(&Meddler, None));
-        assert_eq!(SLEEPS.load(SeqCst), 1);
+        let so_far = || (SLEEPS.load(SeqCst), WAKES.load(SeqCst));
+        TOKEN.sleep(&Meddler, Some(Duration::from_secs(1)));
+        assert_eq!(so_far(), (0, 0));
+        TOKEN.sleep(&Meddler, None);
+        assert_eq!(so_far(), (1, 1));
+        TOKEN.give(&Meddler);
+        TOKEN.give(&Meddler);
+        TOKEN.sleep(&Meddler, None);
+        assert_eq!(so_far(), (1, 1));
     }
 }

@@ -5,7 +5,7 @@ ghost use Rattle.tag_core.specs.Callers.{IsCallerOf, Holds};
 
 use std::alloc::Global;
 use std::test::Fail;
-use tag_core::{Caller, Claim, Closed, Map, Spent};
+use tag_core::{Caller, Claim, Closed, MOST_NOTE, Map, Spent};
 use tag_layout::Layout;
 
 /// Opens a map of numbers with its callers.
@@ -83,15 +83,26 @@ pub(crate) fn sweep_word(map: &Map<u64>, caller: &mut Caller<u64>, word: u32) ->
     word < map.layout().words() && map.sweep(caller, word) != 0
 }
 
-pub(crate) fn post_tag(map: &Map<u64>, caller: &mut Caller<u64>, tag: u32) -> bool
+pub(crate) fn post_tag(map: &Map<u64>, caller: &mut Caller<u64>, tag: u32, note: u64) -> bool
     requires { IsCallerOf map.now caller.old }
     ensures { IsCallerOf map.now caller.new }
 {
-    if !has(map, caller, tag) {
+    if note > MOST_NOTE || !has(map, caller, tag) {
         return false;
     }
-    map.post(caller, tag);
+    map.post(caller, tag, note);
     true
+}
+
+/// The note of a posted tag.
+pub(crate) fn read_note(map: &Map<u64>, caller: &mut Caller<u64>, tag: u32) -> Option<u64>
+    requires { IsCallerOf map.now caller.old }
+    ensures { IsCallerOf map.now caller.new }
+{
+    if tag >= map.layout().depth() {
+        return None;
+    }
+    map.read_note(caller, tag)
 }
 
 pub(crate) fn take_tag(map: &Map<u64>, caller: &mut Caller<u64>, tag: u32) -> bool

@@ -2,7 +2,8 @@
 ghost use Rattle.tag_core.specs.Callers.{IsCallerOf};
 
 use crate::tests::map::callers::{
-    claim_bits, exchange, give_tag, has, look_at, post_tag, put_tag, read, sweep_word, take_tag,
+    claim_bits, exchange, give_tag, has, look_at, post_tag, put_tag, read, read_note, sweep_word,
+    take_tag,
 };
 use step_ledger::Numbered;
 use tag_core::{Caller, Claim, Map, Spent};
@@ -16,6 +17,9 @@ pub(crate) enum Call {
     Put(u32),
     Sweep(u32),
     Post(u32),
+    /// Posts a tag with a note.
+    PostNoted(u32, u64),
+    ReadNote(u32),
     Take(u32),
     Holds(u32),
     /// Writes a tag's slot.
@@ -35,7 +39,7 @@ pub(crate) enum Answer {
     /// It cannot be done, or there is nothing to do.
     Undone,
     Held(bool),
-    /// The value of a slot before the call.
+    /// The value of a slot before the call, or a note.
     Value(u64),
     /// A word and its cleared set.
     Word(u64, u64),
@@ -78,7 +82,9 @@ pub(crate) fn act(map: &Map<u64>, caller: &mut Caller<u64>, call: Call) -> Answe
         Call::Give(tag) => done(give_tag(map, caller, tag)),
         Call::Put(tag) => done(put_tag(map, caller, tag)),
         Call::Sweep(word) => done(sweep_word(map, caller, word)),
-        Call::Post(tag) => done(post_tag(map, caller, tag)),
+        Call::Post(tag) => done(post_tag(map, caller, tag, 0)),
+        Call::PostNoted(tag, note) => done(post_tag(map, caller, tag, note)),
+        Call::ReadNote(tag) => value(read_note(map, caller, tag)),
         Call::Take(tag) => done(take_tag(map, caller, tag)),
         Call::Holds(tag) => Answer::Held(has(map, caller, tag)),
         Call::Exchange(tag, new) => value(exchange(map, caller, tag, new)),

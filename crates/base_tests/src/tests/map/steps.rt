@@ -1,7 +1,7 @@
 //! Steps of one or two callers, in one thread.
 use crate::tests::map::calls::Answer::{Done, Held, Spent, Undone, Value, Won, Word};
 use crate::tests::map::calls::Call::{
-    Claim, Exchange, Give, Holds, Look, Post, Put, Read, Sweep, Take,
+    Claim, Exchange, Give, Holds, Look, Post, PostNoted, Put, Read, ReadNote, Sweep, Take,
 };
 use crate::tests::map::stage::Stage;
 use crate::tests::totals::totals;
@@ -59,6 +59,29 @@ fn steps_answer_as_on_paper(rt: HostRuntime) -> Result<(), Fail> {
             ][..],
             totals(1, 0, 0, 1),
             [7, 0, 0, 0],
+        ),
+        (
+            "a note stands from the post to the take",
+            2,
+            16,
+            &[
+                (1, ReadNote(0), Undone),
+                (0, Claim(0, 3), Won(3, 0)),
+                (1, ReadNote(0), Undone),
+                (0, PostNoted(0, 18_446_744_073_709_551_614), Done),
+                (0, Post(1), Done),
+                (1, ReadNote(0), Value(18_446_744_073_709_551_614)),
+                (0, ReadNote(1), Value(0)),
+                (1, Take(0), Done),
+                (0, ReadNote(0), Undone),
+                (1, PostNoted(0, 5), Done),
+                (0, ReadNote(0), Value(5)),
+                (0, Take(0), Done),
+                (0, Give(0), Done),
+                (1, ReadNote(0), Undone),
+            ][..],
+            totals(2, 1, 0, 1),
+            [0; 4],
         ),
         (
             "a tag set aside is free after a sweep",

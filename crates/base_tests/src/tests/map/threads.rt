@@ -95,7 +95,7 @@ fn spend(map: &Map<u64>, caller: &mut Caller<u64>, tally: &Tally, tag: u32, valu
     count(&tally.wrong, !reads_back(map, caller, tally, tag));
     write(map, caller, tally, tag, value ^ 1);
     if value % 4 < 2 {
-        let done = post_tag(map, caller, tag);
+        let done = post_tag(map, caller, tag, 0);
         count(&tally.posted, done);
         count(&tally.wrong, !done);
         return;

@@ -1,38 +1,30 @@
 -- Each turn is one look more. The caller sleeps only after a look in which it found itself listed.
 use Rattle.std.specs.Prelude.{◌∷◌, ◌≡◌}
-use Rattle.tag_bell.proofs.Uses.{[], ap, arith, Bell, bit_at, bit_at-lt, Caller, List, OnlyAdds, Record, record_of, refl, Sight, subst, sym, ℕ, ◌∙◌}
+use Rattle.std.proofs.lemmas.Bool.{false≢true}
+use Rattle.tag_bell.proofs.Uses.{[], Adds, AgreesWith, ap, Bell, Berth, Caller, IsListed, IsTold, List, Listed, LookAt, OnlyAdds, Record, record_of, refl, Sleeper, Step, subst, sym, Told, true, Up, waits_as, ℕ, ◌∙◌}
+use mathlib.Core.Option.{some, some-ne-none}
 use Rattle.std.proofs.lemmas.List.Elements.{All-cons, All-nil}
-use Rattle.tag_core.specs.Sleeping.{SawItselfListed}
 use Rattle.tag_model.proofs.HoldingFacts.{same_itself, same_then_same}
 use Rattle.tag_bell.specs.Sleeping.{looks_at}
-use Rattle.tag_bell.specs.declared.told.TheConstants.{SLEEPERS}
 use Rattle.tag_bell.proofs.Looking.{looks_owe, looks_try, looks_wait}
-use Rattle.tag_bell.proofs.Rung.{added_after, steps_added}
+use Rattle.tag_bell.proofs.Rung.{added_after, rung, steps_added}
 use Rattle.tag_bell.proofs.sleeping.sleep.Goals as goal
 
 -- one look after others
-module _ {R : Type 0} (seen : List ℕ) (found : ℕ) (first old new : Caller R)
-    (before : OnlyAdds (looks_at SLEEPERS seen) first old) (look : OnlyAdds (Bell (Sight SLEEPERS found) ∷ []) old new)
-  where
-    one_more : OnlyAdds (looks_at SLEEPERS (found ∷ seen)) first new
-    one_more = added_after (looks_at SLEEPERS seen) (Bell (Sight SLEEPERS found) ∷ []) first old new before look
+module _ {R : Type 0} (seen : List Berth) (found : Berth) (first old new : Caller R)
+    (before : OnlyAdds (looks_at (record_of first).number seen) first old)
+    (look : Adds (Bell (LookAt (record_of old).number found)) old new) where
+  one_more : OnlyAdds (looks_at (record_of first).number (found ∷ seen)) first new
+  one_more = added_after (looks_at (record_of first).number seen) (Bell (LookAt (record_of first).number found) ∷ []) first
+      old new before (subst (λ (n : ℕ). OnlyAdds (Bell (LookAt n found) ∷ []) old new)
+      (ap (λ (r : Record R). r.number) before.known) (rung (LookAt (record_of old).number found) old new look))
 
-    -- what it found of the caller
-    of_first : (bit : ℕ) → bit_at found (record_of old).number ≡ bit → bit_at found (record_of first).number ≡ bit
-    of_first bit is = ap (λ (r : Record R). bit_at found r.number) (sym before.known) ∙ is
-
-    -- it found the caller listed
-    saw_itself : (at : Caller R) → at ≡ old → bit_at found (record_of old).number ≡ 1 → SawItselfListed at new
-    saw_itself at is listed = subst (λ (a : Caller R). SawItselfListed a new) (sym is) (record {
-      list = SLEEPERS;
-      found = found;
-      step = steps_added (Bell (Sight SLEEPERS found) ∷ []) old new look;
-      listed = listed;
-    })
-
--- a bit that is not 0
-is_one : (found n : ℕ) → ¬ (bit_at found n ≡ 0) → bit_at found n ≡ 1
-is_one found n some = let low = bit_at-lt found n in omega arith
+-- a caller that waits, and does not find itself listed, was told
+was_told : {R : Type 0} (own : List (Step R)) (b : Berth) → AgreesWith own b → waits_as own ≡ some Sleeper
+    → ¬ IsListed (λ waiter. true) b → IsTold (λ waiter. true) b
+was_told own Up is waits not = absurd (some-ne-none Sleeper (sym waits ∙ is))
+was_told own (Listed waiter turn) is waits not = absurd (not refl)
+was_told own (Told waiter turn) is waits not = refl
 
 pub loop-init : goal.loop-init
 loop-init g c = record {
@@ -44,49 +36,59 @@ loop-init g c = record {
   kept = same_itself c.args.caller.now;
 }
 
-pub returns-then-is_told-clause-sleeps : goal.returns-then-is_told-clause-sleeps
-returns-then-is_told-clause-sleeps g c =
-    let inv = c.loop.invariant in let look = c.is_told.ensures.step in let first = c.args.caller.now in record {
+pub returns-then-not-is_listed-clause-sleeps : goal.returns-then-not-is_listed-clause-sleeps
+returns-then-not-is_listed-clause-sleeps g c =
+    let inv = c.loop.invariant in let look = c.look_at_own-berth in let first = c.args.caller.now in
+    let at = c.loop.caller in record {
       seen = inv.seen;
-      found = look.0;
-      looks = one_more inv.seen look.0 first c.loop.caller c.is_told.new.caller inv.looks look.1;
+      found = look.result;
+      looks = one_more inv.seen look.result first at look.new.caller inv.looks look.ensures.step;
       listed = inv.listed;
-      told = of_first inv.seen look.0 first c.loop.caller c.is_told.new.caller inv.looks look.1 0
-          (look.2.0 c.if-is_told.true);
+      told = was_told (record_of at).steps look.result look.ensures.own
+          (looks_wait (record_of first).number inv.seen first at inv.looks ∙ c.requires.waiting)
+          (λ listed. false≢true (sym c.if-not-is_listed.true ∙ c.is_listed.ensures.1 listed));
     }
 
-pub returns-then-is_told-clause-waits : goal.returns-then-is_told-clause-waits
-returns-then-is_told-clause-waits g c = let is = returns-then-is_told-clause-sleeps g c in
-    looks_wait SLEEPERS (is.found ∷ is.seen) c.args.caller.now c.is_told.new.caller is.looks
+pub returns-then-not-is_listed-clause-waits : goal.returns-then-not-is_listed-clause-waits
+unfolding returns-then-not-is_listed-clause-sleeps
+returns-then-not-is_listed-clause-waits g c = let is = returns-then-not-is_listed-clause-sleeps g c in
+    looks_wait (record_of c.args.caller.now).number (is.found ∷ is.seen) c.args.caller.now c.look_at_own-berth.new.caller
+    is.looks
 
-pub returns-then-is_told-clause-tried : goal.returns-then-is_told-clause-tried
-returns-then-is_told-clause-tried g c = let is = returns-then-is_told-clause-sleeps g c in
-    looks_try SLEEPERS (is.found ∷ is.seen) c.args.caller.now c.is_told.new.caller is.looks
+pub returns-then-not-is_listed-clause-tried : goal.returns-then-not-is_listed-clause-tried
+unfolding returns-then-not-is_listed-clause-sleeps
+returns-then-not-is_listed-clause-tried g c = let is = returns-then-not-is_listed-clause-sleeps g c in
+    looks_try (record_of c.args.caller.now).number (is.found ∷ is.seen) c.args.caller.now c.look_at_own-berth.new.caller
+    is.looks
 
-pub returns-then-is_told-clause-owes : goal.returns-then-is_told-clause-owes
-returns-then-is_told-clause-owes g c = let is = returns-then-is_told-clause-sleeps g c in
-    looks_owe SLEEPERS (is.found ∷ is.seen) c.args.caller.now c.is_told.new.caller is.looks
+pub returns-then-not-is_listed-clause-owes : goal.returns-then-not-is_listed-clause-owes
+unfolding returns-then-not-is_listed-clause-sleeps
+returns-then-not-is_listed-clause-owes g c = let is = returns-then-not-is_listed-clause-sleeps g c in
+    looks_owe (record_of c.args.caller.now).number (is.found ∷ is.seen) c.args.caller.now c.look_at_own-berth.new.caller
+    is.looks
 
-pub returns-then-is_told-clause-kept : goal.returns-then-is_told-clause-kept
-returns-then-is_told-clause-kept g c = same_then_same c.loop.invariant.kept c.is_told.ensures.kept
+pub returns-then-not-is_listed-clause-kept : goal.returns-then-not-is_listed-clause-kept
+returns-then-not-is_listed-clause-kept g c = same_then_same c.loop.invariant.kept c.look_at_own-berth.ensures.kept
 
 pub sleep-requires-clause-looked : goal.sleep-requires-clause-looked
-sleep-requires-clause-looked g c =
-    let inv = c.loop.invariant in let look = c.is_told.ensures.step in let at = c.loop.caller in
-    saw_itself inv.seen look.0 c.args.caller.now at c.is_told.new.caller inv.looks look.1
-    c.peek_own_turn-turn.result.caller.value c.peek_own_turn-turn.ensures
-    (is_one look.0 (record_of at).number (λ none. absurd (let wrong = look.2.1 none in let not = c.if-is_told.false in cc)))
+sleep-requires-clause-looked g c = let look = c.look_at_own-berth in let at = c.loop.caller in
+    let only = rung (LookAt (record_of at).number look.result) at look.new.caller look.ensures.step in record {
+      older = (record_of at).steps;
+      look = subst (λ (n : ℕ). (record_of look.new.caller).steps ≡ Bell (LookAt n look.result) ∷ (record_of at).steps)
+          (sym (ap (λ (r : Record g.row.R.Denot). r.number) only.known))
+          (steps_added (Bell (LookAt (record_of at).number look.result) ∷ []) at look.new.caller only);
+      listed = c.is_listed.ensures.0 c.if-not-is_listed.false;
+    }
 
 pub loop-preserved : goal.loop-preserved
 loop-preserved g c =
-    let inv = c.loop.invariant in let look = c.is_told.ensures.step in let first = c.args.caller.now in
-    let at = c.loop.caller in let new = c.is_told.new.caller in record {
+    let inv = c.loop.invariant in let look = c.look_at_own-berth in let first = c.args.caller.now in
+    let at = c.loop.caller in record {
       turns = (tt, tt);
-      own = c.is_told.ensures.caller;
-      seen = look.0 ∷ inv.seen;
-      looks = one_more inv.seen look.0 first at new inv.looks look.1;
-      listed = All-cons (λ (n : ℕ). bit_at n (record_of first).number ≡ 1) look.0 inv.seen
-          (of_first inv.seen look.0 first at new inv.looks look.1 1 (is_one look.0 (record_of at).number
-          (λ none. absurd (let wrong = look.2.1 none in let not = c.if-is_told.false in cc)))) inv.listed;
-      kept = same_then_same inv.kept c.is_told.ensures.kept;
+      own = look.ensures.caller;
+      seen = look.result ∷ inv.seen;
+      looks = one_more inv.seen look.result first at look.new.caller inv.looks look.ensures.step;
+      listed = All-cons (IsListed (λ waiter. true)) look.result inv.seen
+          (c.is_listed.ensures.0 c.if-not-is_listed.false) inv.listed;
+      kept = same_then_same inv.kept look.ensures.kept;
     }

@@ -1,30 +1,65 @@
--- Each list's steps tell nobody of the other one.
-use Rattle.std.proofs.Common.{◌++◌, max, arith, sym, ◌∙◌, length-append, inl, inr, ⊎_elim}
-use Rattle.tag_bell.proofs.Rung.{added_after, told-before, told-after}
-use Rattle.tag_bell.proofs.Choosing.{misses-after, misses-before}
+-- The looks come before the tells, and the sleepers before the listeners.
+use Rattle.std.specs.Prelude.{◌*◌, ◌+◌}
+use Rattle.tag_bell.proofs.Uses.{arith, Caller, count_ones, Listener, MAX_CALLERS, OwesNothing, refl, Sleeper, subst, TellsInTurn, Waiter, ℕ, ◌∙◌}
+use Rattle.tag_bell.specs.declared.told.Told.{Told}
+use Rattle.tag_bell.specs.Lines.{nobody_of, those_of}
+use Rattle.tag_bell.proofs.Goes.{goes_after, goes_both, goes_line, goes_owes, goes_round, goes_waits, turns_both}
+use Rattle.tag_bell.proofs.Coming.{goes_sleepers}
+use Rattle.tag_bell.proofs.Rung.{tells_within}
 use Rattle.tag_bell.proofs.telling.tell_each.Goals as goal
+
+pub tell_sleepers-sleepers-requires-clause-round : goal.tell_sleepers-sleepers-requires-clause-round
+tell_sleepers-sleepers-requires-clause-round g c = let look = c.look_at_each-found in
+    goes_round MAX_CALLERS nobody_of c.args.caller.now look.new.caller look.ensures.goes c.requires.round
+
+pub tell_in_turn-listeners-requires-clause-round : goal.tell_in_turn-listeners-requires-clause-round
+tell_in_turn-listeners-requires-clause-round g c =
+    let look = c.look_at_each-found in let first = c.tell_sleepers-sleepers in
+    goes_round _ _ look.new.caller first.new.caller first.ensures.goes
+    (goes_round MAX_CALLERS nobody_of c.args.caller.now look.new.caller look.ensures.goes c.requires.round)
+
+pub tell_in_turn-listeners-requires-clause-line : goal.tell_in_turn-listeners-requires-clause-line
+tell_in_turn-listeners-requires-clause-line g c =
+    let look = c.look_at_each-found in let first = c.tell_sleepers-sleepers in
+    goes_line _ _ look.new.caller first.new.caller first.ensures.goes Listener (λ e. Unit {0}) look.result.listeners
+    look.result.turns look.ensures.lines.of_listeners
+
+by_kind : {R : Type 0} (caller : Caller R) → OwesNothing Sleeper caller → OwesNothing Listener caller → (kind : Waiter)
+    → OwesNothing kind caller
+by_kind caller s l Sleeper = s
+by_kind caller s l Listener = l
+
+pub returns-clause-done : goal.returns-clause-done
+returns-clause-done g c = let first = c.tell_sleepers-sleepers in let next = c.tell_in_turn-listeners in
+    by_kind next.new.caller (goes_owes _ _ first.new.caller next.new.caller next.ensures.goes Sleeper first.ensures.done)
+    next.ensures.done
 
 pub returns-clause-told : goal.returns-clause-told
 returns-clause-told g c =
-    let first = c.tell_some-sleepers.ensures.told in let next = c.tell_some-listeners.ensures.told in
-    let few_first = first.few in let few_next = next.few in record {
-      steps = next.steps ++ first.steps;
-      only = added_after first.steps next.steps c.args.caller.now c.tell_some-sleepers.new.caller
-          c.tell_some-listeners.new.caller first.only next.only;
-      few = omega (arith, length-append next.steps first.steps);
-      sleepers = first.told ∙ sym (told-after 0 next.steps first.steps (next.others 0 (λ e. omega arith)));
-      listeners = next.told ∙ sym (told-before 1 next.steps first.steps (first.others 1 (λ e. omega arith)));
-    }
+    let look = c.look_at_each-found in let first = c.tell_sleepers-sleepers in let next = c.tell_in_turn-listeners in
+    let s = count_ones look.result.sleepers in let l = count_ones look.result.listeners in let few = look.ensures.few in
+    let a = c.args.caller.now in let d = first.new.caller in let e = next.new.caller in
+    tells_within (MAX_CALLERS + s + l) (2 * MAX_CALLERS) _ a e (omega arith) (goes_both (MAX_CALLERS + s) l
+    (those_of Sleeper first.result) (those_of Listener next.result) a d e (goes_after MAX_CALLERS s nobody_of
+    (those_of Sleeper first.result) a look.new.caller d look.ensures.goes first.ensures.goes (λ kind. refl))
+    next.ensures.goes (record { sleepers = first.result; listeners = next.result }) refl refl refl refl)
 
-pub returns-clause-few : goal.returns-clause-few
-returns-clause-few g c =
-    let first = c.tell_some-sleepers.ensures.few in let next = c.tell_some-listeners.ensures.few in
-    let most = max c.args.freed 1 in record {
-      steps = next.steps ++ first.steps;
-      only = added_after first.steps next.steps c.args.caller.now c.tell_some-sleepers.new.caller
-          c.tell_some-listeners.new.caller first.only next.only;
-      of_sleepers = ⊎_elim (λ few. inl few)
-          (λ m. inr (misses-after 0 most first.steps c.args.sleepers next.steps m)) first.few;
-      of_listeners = ⊎_elim (λ few. inl few)
-          (λ m. inr (misses-before 1 most next.steps c.args.listeners first.steps m)) next.few;
-    }
+pub returns-clause-turns : goal.returns-clause-turns
+returns-clause-turns g c =
+    let look = c.look_at_each-found in let first = c.tell_sleepers-sleepers in let next = c.tell_in_turn-listeners in
+    let s = count_ones look.result.sleepers in let l = count_ones look.result.listeners in
+    let a = c.args.caller.now in let d = first.new.caller in let e = next.new.caller in
+    let told : Told = record { sleepers = first.result; listeners = next.result } in
+    subst (λ (most : ℕ). TellsInTurn most told a e) c.max-most.ensures
+    (turns_both (MAX_CALLERS + s) l (those_of Sleeper first.result) (those_of Listener next.result) a d e
+    (goes_after MAX_CALLERS s nobody_of (those_of Sleeper first.result) a look.new.caller d look.ensures.goes
+    first.ensures.goes (λ kind. refl)) next.ensures.goes c.max-most.result told
+    (goes_sleepers l (those_of Listener next.result) d e next.ensures.goes next.ensures.coming c.max-most.result
+    first.result first.ensures.most) next.ensures.most)
+
+pub returns-clause-waits : goal.returns-clause-waits
+returns-clause-waits g c =
+    let look = c.look_at_each-found in let first = c.tell_sleepers-sleepers in let next = c.tell_in_turn-listeners in
+    goes_waits _ _ first.new.caller next.new.caller next.ensures.goes
+    ∙ goes_waits _ _ look.new.caller first.new.caller first.ensures.goes
+    ∙ goes_waits MAX_CALLERS nobody_of c.args.caller.now look.new.caller look.ensures.goes

@@ -1,6 +1,6 @@
 -- The closed table hands out its words together with the rule, so the history that shows them is at hand. The sums over
--- the records are those of that history, and the states that are 1 are its posted tags.
-use Rattle.tag_core.proofs.Uses.{ap, arith, Final, get_elem?, List, nat_eq, one_if, refl, Seen, Shape, Shown, slice_index, SlotIs, slots_items, some-injective, subst, sum_below, sym, ℕ, ◌∙◌}
+-- the records are those of that history, and the states that are not 0 are its posted tags.
+use Rattle.tag_core.proofs.Uses.{ap, arith, Final, get_elem?, List, posted_by_word, refl, Seen, Shape, Shown, slice_index, SlotIs, slots_items, some-injective, subst, sum_below, sym, ℕ, ◌∙◌}
 use Rattle.tag_core.specs.Spacing.{state_at}
 use Rattle.tag_core.proofs.Ends.{won_all, back_all, held_all, posted_all, even_all}
 use Rattle.tag_core.proofs.Chains.{count_chain}
@@ -17,7 +17,7 @@ returns g c =
     let back = a.sums.1 ∙ back_all k s sh a.seat.id v at c.requires.all in
     let held = a.sums.2 ∙ held_all k s sh a.seat.id v at c.requires.all in
     let posted = c.count_posted-posted.ensures.value
-    ∙ ap (λ (z : List ℕ). sum_below (λ t. one_if (nat_eq (slice_index z (state_at k.layout t)) 1)) k.layout.depth)
+    ∙ ap (λ (z : List ℕ). sum_below (λ t. posted_by_word (slice_index z (state_at k.layout t))) k.layout.depth)
     (sym last.2)
     ∙ posted_all k s sh a.seat.id v at in
     let even = even_all k s sh a.seat.id v at in record {

@@ -8,7 +8,7 @@ use crate::tests::shared::stages::{expect, expect_steps, pool};
 use crate::tests::steps::Step::{Calls, Clears, Gets, Meet};
 use std::test::Fail;
 use tag_pool::TagFault::{NoSuchTag, NotHeld, NotPosted};
-use tag_pool::{LISTENERS, SLEEPERS};
+use tag_pool::Waiter::{Listener, Sleeper};
 
 /// The second caller, a bare hand, does not find a kept tag.
 #[test]
@@ -76,10 +76,10 @@ fn a_clear_that_finds_a_waiter_gives_all_back(rt: HostRuntime) -> Result<(), Fai
             (0, Get, Tag(1)),
             (0, Get, Tag(2)),
             (0, Clear(0), Told(0)),
-            (1, ListSelf(SLEEPERS), Done),
+            (1, ListSelf(Sleeper), Done),
             (0, Clear(1), Told(0b10)),
             (0, Kept, Keeps(0, 3, 2, 0)),
-            (1, GetUp(SLEEPERS), WasTold(true)),
+            (1, GetUp, WasTold(true)),
             (0, Clear(2), Told(0)),
             (0, Kept, Keeps(1, 3, 3, 0)),
         ],
@@ -94,10 +94,10 @@ fn a_flush_tells(rt: HostRuntime) -> Result<(), Fail> {
         &[
             (0, Get, Tag(0)),
             (0, Clear(0), Told(0)),
-            (1, ListSelf(LISTENERS), Done),
+            (1, ListSelf(Listener), Done),
             (0, Flush, Told(0b10)),
             (0, Flush, Told(0)),
-            (1, GetUp(LISTENERS), WasTold(true)),
+            (1, GetUp, WasTold(true)),
         ],
     )
 }

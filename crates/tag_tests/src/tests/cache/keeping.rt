@@ -3,7 +3,7 @@ use crate::tests::answers::Answer::{Done, Keeps, Tag, Told};
 use crate::tests::calls::Call::{Clear, Get, GetReserved, Kept, ListSelf, Post, Take};
 use crate::tests::shared::stages::{expect, pool};
 use std::test::Fail;
-use tag_pool::SLEEPERS;
+use tag_pool::Waiter::Sleeper;
 
 #[test]
 fn the_last_clear_gives_all_back(rt: HostRuntime) -> Result<(), Fail> {
@@ -72,7 +72,7 @@ fn a_thread_that_keeps_tags_has_a_clear_to_come(rt: HostRuntime) -> Result<(), F
             (0, Get, Tag(0)),
             (0, Get, Tag(1)),
             (0, Clear(1), Told(0)),
-            (1, ListSelf(SLEEPERS), Done),
+            (1, ListSelf(Sleeper), Done),
             (0, Kept, Keeps(1, 2, 1, 0)),
             (0, Clear(0), Told(0b10)),
             (0, Kept, Keeps(0, 2, 2, 0)),

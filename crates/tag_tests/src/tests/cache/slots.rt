@@ -1,10 +1,10 @@
 //! Slots through a cache, and tags that pass from thread to thread.
-use crate::tests::answers::Answer::{Done, Keeps, Refused, Tag, Told, Value};
-use crate::tests::calls::Call::{Clear, Get, Kept, Post, Read, Take, Write};
+use crate::tests::answers::Answer::{Done, Keeps, Noted, Refused, Tag, Told, Value};
+use crate::tests::calls::Call::{Clear, Get, Kept, Post, PostNoted, Read, ReadNote, Take, Write};
 use crate::tests::shared::stages::{expect, pool};
 use crate::tests::totals::FILL;
 use std::test::Fail;
-use tag_pool::TagFault::NotPosted;
+use tag_pool::TagFault::{NoSuchTag, NotHeld, NotPosted};
 
 #[test]
 fn a_kept_tag_keeps_its_value(rt: HostRuntime) -> Result<(), Fail> {
@@ -66,6 +66,27 @@ fn a_thread_that_only_clears_keeps_few(rt: HostRuntime) -> Result<(), Fail> {
             (0, Kept, Keeps(1, 0, 3, 0)),
             (1, Get, Tag(0)),
             (1, Get, Tag(1)),
+        ],
+    )
+}
+
+#[test]
+fn a_kept_tag_has_no_note(rt: HostRuntime) -> Result<(), Fail> {
+    expect(
+        &rt,
+        pool(4, 0, 2).with_caches(1, 4),
+        &[
+            (0, Get, Tag(0)),
+            (0, PostNoted(0, 7), Done),
+            (1, ReadNote(0), Noted(Some(7))),
+            (0, Take(0), Done),
+            (0, Clear(0), Told(0)),
+            (1, ReadNote(0), Noted(None)),
+            (0, PostNoted(0, 8), Refused(NotHeld)),
+            (1, ReadNote(4), Refused(NoSuchTag)),
+            (0, Get, Tag(0)),
+            (0, PostNoted(0, 8), Done),
+            (1, ReadNote(0), Noted(Some(8))),
         ],
     )
 }

@@ -10,17 +10,17 @@ use crate::tests::steps::Step::{Calls, Clears, Gets};
 use std::process::Abort;
 use std::sync::Wait;
 use std::test::Fail;
-use tag_pool::{LISTENERS, SLEEPERS};
+use tag_pool::Waiter::{Listener, Sleeper};
 
 /// Hands that list themselves.
 const LISTED: [(usize, Call, Answer); 7] = [
-    (1, ListSelf(SLEEPERS), Done),
-    (2, ListSelf(SLEEPERS), Done),
-    (3, ListSelf(SLEEPERS), Done),
-    (4, ListSelf(SLEEPERS), Done),
-    (5, ListSelf(SLEEPERS), Done),
-    (6, ListSelf(SLEEPERS), Done),
-    (7, ListSelf(SLEEPERS), Done),
+    (1, ListSelf(Sleeper), Done),
+    (2, ListSelf(Sleeper), Done),
+    (3, ListSelf(Sleeper), Done),
+    (4, ListSelf(Sleeper), Done),
+    (5, ListSelf(Sleeper), Done),
+    (6, ListSelf(Sleeper), Done),
+    (7, ListSelf(Sleeper), Done),
 ];
 
 /// Hand 0 gets four tags and clears three, of which its cache keeps up to `most`. Then so many others wait, and it
@@ -122,12 +122,12 @@ fn who_sees_to_others_keeps_nothing(rt: HostRuntime) -> Result<(), Fail> {
             Calls(&[
                 (0, SeeTo(1), Told(0)),
                 (0, Kept, Keeps(2, 4, 2, 0)),
-                (1, ListSelf(SLEEPERS), Done),
-                (2, ListSelf(LISTENERS), Done),
+                (1, ListSelf(Sleeper), Done),
+                (2, ListSelf(Listener), Done),
                 (0, SeeTo(1), Told(0b110)),
                 (0, Kept, Keeps(0, 4, 2, 0)),
                 (1, Get, Tag(0)),
-                (3, ListSelf(SLEEPERS), Done),
+                (3, ListSelf(Sleeper), Done),
                 (1, SeeToAll, Told(0b1000)),
             ]),
         ],

@@ -72,6 +72,7 @@ pub(crate) fn clear_once<R: Wait, T: TagAllocator>(
     tags: &T,
     caller: &mut T::Caller,
     tally: &Tally,
+    get: Call,
     rounds: u32,
 )
     requires { T.is_own tags.now caller.old }
@@ -80,7 +81,7 @@ pub(crate) fn clear_once<R: Wait, T: TagAllocator>(
     let mut wins = 0u64;
     for round in 0..rounds {
         wins = wins.wrapping_add(2);
-        tally.check(tags.act(rt, caller, Call::Get) == Answer::Tag(0));
+        tally.check(tags.act(rt, caller, get) == Answer::Tag(0));
         tally.wins(0);
         for _ in 0..round % 512 {
             tally.check(tally.won.load(SeqCst) < wins);
@@ -89,7 +90,7 @@ pub(crate) fn clear_once<R: Wait, T: TagAllocator>(
         tally.cleared(1, tags.act(rt, caller, Call::Clear(0)));
         if !comes_to(&tally.won, wins) {
             tally.check(false);
-            tags.act(rt, caller, Call::Get);
+            tags.act(rt, caller, get);
             tags.act(rt, caller, Call::Clear(0));
         }
         wait_until(rt, &tally.back, wins);
@@ -102,6 +103,7 @@ pub(crate) fn wait_for_one_clear<R: Wait, T: TagAllocator>(
     tags: &T,
     caller: &mut T::Caller,
     tally: &Tally,
+    wait: Call,
     rounds: u32,
 )
     requires { T.is_own tags.now caller.old }
@@ -110,7 +112,7 @@ pub(crate) fn wait_for_one_clear<R: Wait, T: TagAllocator>(
     let mut wins = 1u64;
     for _ in 0..rounds {
         wait_until(rt, &tally.won, wins);
-        tally.check(tags.act(rt, caller, Call::GetBlocking) == Answer::Tag(0));
+        tally.check(tags.act(rt, caller, wait) == Answer::Tag(0));
         tally.wins(0);
         tally.goes(0);
         tally.cleared(1, tags.act(rt, caller, Call::Clear(0)));

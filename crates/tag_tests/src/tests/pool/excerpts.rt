@@ -1,14 +1,16 @@
 //! The code that docs/USING_RATTLE.md quotes, as a caller writes it.
 ghost use Rattle.std.specs.Prelude.{All, IfOk};
 ghost use Rattle.tag_pool.specs.Hands.{IsHandOf, Holds};
+ghost use Rattle.std.specs.Prelude.{◌≤◌};
+ghost use Rattle.tag_core.specs.declared.posts.TheConstants.{MOST_NOTE};
 
 use std::test::Fail;
 use tag_pool::{
-    GatherCause, Hand, Kind, Options, Pool, SLEEPERS, Shown, TagFault, Totals, Turn, Woken,
+    GatherCause, Hand, Kind, Options, Pool, Shown, TagFault, Totals, Turn, Waiter, Woken,
 };
 
 /// Takes the last of the hands.
-fn next_hand(pool: &Pool<u64>, hands: &mut Vec<Hand<u64>>) -> Result<Hand<u64>, Fail>
+pub(crate) fn next_hand(pool: &Pool<u64>, hands: &mut Vec<Hand<u64>>) -> Result<Hand<u64>, Fail>
     requires { All (IsHandOf pool.now) hands.old.items }
     ensures own { All (IsHandOf pool.now) hands.new.items }
     ensures hand { IfOk result (IsHandOf pool.now) }
@@ -48,6 +50,24 @@ fn pass_on(
     pool.read(second, tag)
 }
 
+/// Posts a tag with a request's number as its note, has the other hand read it, and takes the tag back.
+fn look_in_flight(
+    pool: &Pool<u64>,
+    first: &mut Hand<u64>,
+    second: &mut Hand<u64>,
+    tag: u32,
+    request: u64,
+) -> Result<Option<u64>, TagFault>
+    requires hands { IsHandOf pool.now first.old × IsHandOf pool.now second.old }
+    requires note { request ≤ MOST_NOTE }
+    ensures { IsHandOf pool.now first.new × IsHandOf pool.now second.new }
+{
+    pool.post_noted(first, tag, request)?;
+    let note = pool.read_note(second, tag)?;
+    pool.take(first, tag)?;
+    Ok(note)
+}
+
 /// Has one hand wait while another clears a tag, and returns whom that told and woke.
 fn wait_for_clear(
     pool: &Pool<u64>,
@@ -58,9 +78,9 @@ fn wait_for_clear(
     requires { IsHandOf pool.now waiting.old × IsHandOf pool.now hand.old }
     ensures { IsHandOf pool.now waiting.new × IsHandOf pool.now hand.new }
 {
-    pool.list_self(waiting, SLEEPERS, Turn::Next);
+    pool.list_self(waiting, Kind::Ordinary, Waiter::Sleeper, Turn::Next);
     let woken = pool.clear(hand, tag)?;
-    pool.get_up(waiting, SLEEPERS);
+    pool.get_up(waiting, Kind::Ordinary);
     Ok(woken)
 }
 
@@ -71,6 +91,10 @@ fn a_tag_is_won_passed_on_and_waited_for(rt: HostRuntime) -> Result<(), Fail> {
     let mut second = next_hand(&pool, &mut hands)?;
     let mut first = next_hand(&pool, &mut hands)?;
     let tag = win(&pool, &mut first)?;
+    assert_eq!(rt;
+        look_in_flight(&pool, &mut first, &mut second, tag, 6),
+        Ok(Some(6))
+    );
     assert_eq!(rt; pass_on(&pool, &mut first, &mut second, tag, 7), Ok(7));
     let woken = wait_for_clear(&pool, &mut first, &mut second, tag)?;
     assert_eq!(rt; woken.sleepers(), 1);

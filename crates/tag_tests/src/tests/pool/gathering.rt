@@ -7,7 +7,7 @@ use crate::tests::steps::Step::{
 };
 use crate::tests::totals::totals;
 use std::test::Fail;
-use tag_pool::SLEEPERS;
+use tag_pool::Waiter::Sleeper;
 
 #[test]
 fn gather_without_a_hand_is_refused(rt: HostRuntime) -> Result<(), Fail> {
@@ -96,7 +96,7 @@ fn a_gather_adds_up_both_sets(rt: HostRuntime) -> Result<(), Fail> {
             (0, Get, Tag(2)),
             (0, Get, Tag(3)),
             (0, Get, Tag(4)),
-            (1, ListSelf(SLEEPERS), Done),
+            (1, ListSelf(Sleeper), Done),
             (0, Clear(2), Told(0b10)),
             (0, Post(3), Done),
         ])],

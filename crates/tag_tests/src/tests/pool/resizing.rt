@@ -9,7 +9,8 @@ use crate::tests::steps::Step::{
 };
 use crate::tests::totals::{FILL, totals};
 use std::test::Fail;
-use tag_pool::{LISTENERS, ResizeCause, SLEEPERS};
+use tag_pool::ResizeCause;
+use tag_pool::Waiter::{Listener, Sleeper};
 
 #[test]
 fn a_resize_keeps_the_reserved_set(rt: HostRuntime) -> Result<(), Fail> {
@@ -49,9 +50,9 @@ fn a_resize_is_refused_for_its_first_cause(rt: HostRuntime) -> Result<(), Fail> 
                 (0, Get, Tag(1)),
                 (0, GetReserved, Tag(0)),
                 (0, Post(0), Done),
-                (1, ListSelf(SLEEPERS), Done),
-                (2, ListSelf(LISTENERS), Done),
-                (0, ListSelf(SLEEPERS), Done),
+                (1, ListSelf(Sleeper), Done),
+                (2, ListSelf(Listener), Done),
+                (0, ListSelf(Sleeper), Done),
             ]),
             BringBack,
             ResizeFails(10_241, ResizeCause::DepthTooLarge),
@@ -61,12 +62,9 @@ fn a_resize_is_refused_for_its_first_cause(rt: HostRuntime) -> Result<(), Fail> 
             ResizeFails(8, ResizeCause::InUse(1, 0)),
             Calls(&[(0, ClearQuietly(1), Done)]),
             ResizeFails(8, ResizeCause::Waiting(3)),
-            Calls(&[
-                (0, GetUp(SLEEPERS), WasTold(false)),
-                (2, GetUp(LISTENERS), WasTold(false)),
-            ]),
+            Calls(&[(0, GetUp, WasTold(false)), (2, GetUp, WasTold(false))]),
             ResizeFails(8, ResizeCause::Waiting(1)),
-            Calls(&[(1, GetUp(SLEEPERS), WasTold(false))]),
+            Calls(&[(1, GetUp, WasTold(false))]),
             Resize(8),
             Present(&[0, 1, 2, 3]),
         ],

@@ -1,9 +1,12 @@
 //! Which tags a hand holds, and their slots.
-use crate::tests::answers::Answer::{Done, Held, Refused, Tag, Told, Value};
-use crate::tests::calls::Call::{Clear, Get, GetReserved, Holds, Post, Read, Take, Write};
+use crate::tests::answers::Answer::{Done, Held, Noted, Refused, Tag, Told, Value};
+use crate::tests::calls::Call::{
+    Clear, Get, GetReserved, Holds, Post, PostNoted, Read, ReadNote, Take, Write,
+};
 use crate::tests::shared::stages::{expect, pool};
 use crate::tests::totals::FILL;
 use std::test::Fail;
+use tag_core::MOST_NOTE;
 use tag_pool::TagFault::{NoSuchTag, NotHeld, NotPosted};
 
 #[test]
@@ -82,6 +85,33 @@ fn tags_of_both_sets_pass_with_their_values(rt: HostRuntime) -> Result<(), Fail>
             (1, Read(1), Value(6)),
             (0, Read(0), Refused(NotHeld)),
             (0, Take(1), Refused(NotPosted)),
+        ],
+    )
+}
+
+#[test]
+fn any_hand_reads_the_notes_of_posted_tags_of_both_sets(rt: HostRuntime) -> Result<(), Fail> {
+    expect(
+        &rt,
+        pool(4, 2, 2),
+        &[
+            (0, GetReserved, Tag(0)),
+            (0, Get, Tag(2)),
+            (0, Get, Tag(3)),
+            (1, ReadNote(0), Noted(None)),
+            (1, ReadNote(4), Refused(NoSuchTag)),
+            (0, PostNoted(1, 7), Refused(NotHeld)),
+            (0, PostNoted(0, 7), Done),
+            (0, PostNoted(2, MOST_NOTE), Done),
+            (0, Post(3), Done),
+            (1, ReadNote(0), Noted(Some(7))),
+            (1, ReadNote(2), Noted(Some(MOST_NOTE))),
+            (0, ReadNote(3), Noted(Some(0))),
+            (1, Take(2), Done),
+            (0, ReadNote(2), Noted(None)),
+            (1, Clear(2), Told(0)),
+            (0, ReadNote(2), Noted(None)),
+            (0, ReadNote(0), Noted(Some(7))),
         ],
     )
 }

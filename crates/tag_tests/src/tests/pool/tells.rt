@@ -9,10 +9,10 @@ use crate::tests::calls::Call::{
 use crate::tests::shared::stages::{expect, expect_steps, pool};
 use crate::tests::steps::Step::{Calls, Gets};
 use std::test::Fail;
-use tag_pool::{LISTENERS, SLEEPERS};
+use tag_pool::Waiter::{Listener, Sleeper};
 
 #[test]
-fn a_clear_tells_one_of_each_list(rt: HostRuntime) -> Result<(), Fail> {
+fn a_clear_tells_a_sleeper_and_a_listener(rt: HostRuntime) -> Result<(), Fail> {
     expect(
         &rt,
         pool(3, 1, 4),
@@ -21,19 +21,19 @@ fn a_clear_tells_one_of_each_list(rt: HostRuntime) -> Result<(), Fail> {
             (0, Get, Tag(1)),
             (0, Get, Tag(2)),
             (0, FindsWaiters, Waiters(false)),
-            (1, ListSelf(SLEEPERS), Done),
-            (2, ListSelf(SLEEPERS), Done),
-            (3, ListSelf(LISTENERS), Done),
+            (1, ListSelf(Sleeper), Done),
+            (2, ListSelf(Sleeper), Done),
+            (3, ListSelf(Listener), Done),
             (0, FindsWaiters, Waiters(true)),
-            // Nobody waits for a reserved tag.
+            // None of them waits for a reserved tag.
             (0, Clear(0), Told(0)),
-            (1, IsTold(SLEEPERS), WasTold(false)),
+            (1, IsTold, WasTold(false)),
             (0, Clear(1), Told(0b1010)),
-            (1, IsTold(SLEEPERS), WasTold(true)),
-            (2, IsTold(SLEEPERS), WasTold(false)),
-            (1, GetUp(SLEEPERS), WasTold(true)),
-            (3, GetUp(LISTENERS), WasTold(true)),
-            (2, GetUp(SLEEPERS), WasTold(false)),
+            (1, IsTold, WasTold(true)),
+            (2, IsTold, WasTold(false)),
+            (1, GetUp, WasTold(true)),
+            (3, GetUp, WasTold(true)),
+            (2, GetUp, WasTold(false)),
             (0, Clear(2), Told(0)),
         ],
     )
@@ -42,9 +42,9 @@ fn a_clear_tells_one_of_each_list(rt: HostRuntime) -> Result<(), Fail> {
 #[test]
 fn a_batch_and_a_mask_tell_one_for_each_tag(rt: HostRuntime) -> Result<(), Fail> {
     let listed = Calls(&[
-        (1, ListSelf(SLEEPERS), Done),
-        (2, ListSelf(SLEEPERS), Done),
-        (3, ListSelf(SLEEPERS), Done),
+        (1, ListSelf(Sleeper), Done),
+        (2, ListSelf(Sleeper), Done),
+        (3, ListSelf(Sleeper), Done),
     ]);
     for clear in [ClearBoth(1, 3), ClearMask(1, 0b101)] {
         expect_steps(
@@ -79,7 +79,7 @@ fn a_get_tells_of_the_tags_that_it_left_free(rt: HostRuntime) -> Result<(), Fail
                 Calls(&[
                     (0, Clear(2), Told(0)),
                     (0, Clear(1), Told(0)),
-                    (1, ListSelf(SLEEPERS), Done),
+                    (1, ListSelf(Sleeper), Done),
                     (0, get, answer),
                 ]),
             ],
@@ -96,13 +96,13 @@ fn quiet_calls_tell_nobody(rt: HostRuntime) -> Result<(), Fail> {
         &[
             Gets(0, 4),
             Calls(&[
-                (1, ListSelf(SLEEPERS), Done),
-                (2, ListSelf(LISTENERS), Done),
+                (1, ListSelf(Sleeper), Done),
+                (2, ListSelf(Listener), Done),
                 (0, ClearQuietly(2), Done),
                 (0, ClearQuietly(1), Done),
                 (0, ClearQuietly(0), Done),
                 (0, GetQuietly, TagAndLeft(0, 2)),
-                (1, IsTold(SLEEPERS), WasTold(false)),
+                (1, IsTold, WasTold(false)),
                 (0, SeeTo(2), Told(0b110)),
                 (0, SeeTo(2), Told(0)),
             ]),
@@ -120,16 +120,16 @@ fn who_was_told_and_has_a_tag_sees_to_the_next(rt: HostRuntime) -> Result<(), Fa
         &[
             (0, Get, Tag(0)),
             (1, Get, Tag(1)),
-            (2, ListSelf(SLEEPERS), Done),
-            (3, ListSelf(SLEEPERS), Done),
+            (2, ListSelf(Sleeper), Done),
+            (3, ListSelf(Sleeper), Done),
             (0, Clear(0), Told(0b0100)),
             (1, ClearQuietly(1), Done),
-            (2, GetUp(SLEEPERS), WasTold(true)),
+            (2, GetUp, WasTold(true)),
             (2, GetQuietly, TagAndLeft(0, 1)),
             (2, SeeToAll, Told(0b1000)),
-            (3, GetUp(SLEEPERS), WasTold(true)),
+            (3, GetUp, WasTold(true)),
             (3, Get, Tag(1)),
-            (2, ListSelf(SLEEPERS), Done),
+            (2, ListSelf(Sleeper), Done),
             // No tag is free, so there is nothing to tell.
             (3, SeeToAll, Told(0)),
         ],
@@ -146,12 +146,12 @@ fn who_waits_on_keeps_its_turn(rt: HostRuntime) -> Result<(), Fail> {
             &[
                 Gets(0, 3),
                 Calls(&[
-                    (1, ListSelf(SLEEPERS), Done),
-                    (2, ListSelf(SLEEPERS), Done),
+                    (1, ListSelf(Sleeper), Done),
+                    (2, ListSelf(Sleeper), Done),
                     (0, Clear(0), Told(0b010)),
-                    (1, ListAgain(SLEEPERS), Done),
+                    (1, ListAgain(Sleeper), Done),
                     (0, Clear(1), Told(0b010)),
-                    (1, ListSelf(SLEEPERS), Done),
+                    (1, ListSelf(Sleeper), Done),
                     (0, Clear(2), Told(0b100)),
                 ]),
             ],

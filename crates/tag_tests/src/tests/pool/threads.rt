@@ -54,10 +54,22 @@ fn a_slot_names_its_holder_among_nine_threads(rt: HostRuntime) -> Result<(), Fai
         Call::Get,
         Call::GetBlocking,
     ];
-    let (tally, sums) = played_on_pool(&rt, pool(20, 4, 9), everything(calls, 10_000))?;
-    assert_eq!(rt; tally.wrong.load(SeqCst), 0);
-    assert_eq!(rt; (sums.got, sums.held, sums.posted), (sums.back, 0, 0));
-    expect_all_taken(&rt, &tally);
+    let waits = [
+        Call::Take(0),
+        Call::WaitInVain,
+        Call::GetReservedUntil(3),
+        Call::GetReservedBlocking,
+        Call::GetReserved,
+        Call::GetUntil(3),
+        Call::Get,
+        Call::GetBlocking,
+    ];
+    for calls in [calls, waits] {
+        let (tally, sums) = played_on_pool(&rt, pool(20, 4, 9), everything(calls, 10_000))?;
+        assert_eq!(rt; tally.wrong.load(SeqCst), 0);
+        assert_eq!(rt; (sums.got, sums.held, sums.posted), (sums.back, 0, 0));
+        expect_all_taken(&rt, &tally);
+    }
     Ok(())
 }
 
@@ -81,17 +93,30 @@ fn caches_and_bare_hands_sleep_for_few_tags(rt: HostRuntime) -> Result<(), Fail>
     Ok(())
 }
 
+/// Four callers make this call and a get in each round, and clear what the get won first.
+fn pairs(call: Call) -> Plan {
+    Plan {
+        job: Job::Pairs(call),
+        workers: 4,
+        rounds: 5_000,
+    }
+}
+
 /// Four callers hold up to two tags each, all of which they clear.
 #[test]
 fn nobody_sleeps_while_caches_keep_tags(rt: HostRuntime) -> Result<(), Fail> {
-    let pairs = Plan {
-        job: Job::Pairs(Call::GetBlocking),
-        workers: 4,
-        rounds: 5_000,
-    };
+    let pairs = pairs(Call::GetBlocking);
     expect_all_back(&rt, pool(3, 0, 4).with_caches(4, 8), pairs)?;
     expect_all_back(&rt, pool(3, 0, 4).with_caches(4, 8).careful(), pairs)?;
     expect_all_back(&rt, pool(3, 0, 4).with_caches(2, 8).careful(), pairs)
+}
+
+/// Who sleeps for the reserved tag keeps ordinary ones meanwhile.
+#[test]
+fn caches_sleep_for_a_reserved_tag(rt: HostRuntime) -> Result<(), Fail> {
+    let pairs = pairs(Call::GetReservedBlocking);
+    expect_all_back(&rt, pool(4, 1, 4).with_caches(4, 8), pairs)?;
+    expect_all_back(&rt, pool(4, 1, 4).with_caches(2, 8).careful(), pairs)
 }
 
 #[test]
@@ -104,9 +129,27 @@ fn as_many_callers_as_tags_meet(rt: HostRuntime) -> Result<(), Fail> {
 
 #[test]
 fn one_clear_is_enough_for_one_sleeper(rt: HostRuntime) -> Result<(), Fail> {
-    let (tally, sums) = played_on_pool(&rt, pool(1, 0, 2), one_clear())?;
-    expect_balance(&rt, &tally, sums);
-    assert_eq!(rt; sums, totals(20_000, 20_000, 0, 0));
+    for (reserved, get, wait) in [
+        (0, Call::Get, Call::GetBlocking),
+        (1, Call::GetReserved, Call::GetReservedBlocking),
+    ] {
+        let (tally, sums) = played_on_pool(&rt, pool(1, reserved, 2), one_clear(get, wait))?;
+        expect_balance(&rt, &tally, sums);
+        assert_eq!(rt; sums, totals(20_000, 20_000, 0, 0));
+    }
+    Ok(())
+}
+
+/// The ordinary tag stays free all the while.
+#[test]
+fn threads_sleep_for_reserved_tags(rt: HostRuntime) -> Result<(), Fail> {
+    for reserved in [1, 3] {
+        let sleeping = gets(Call::GetReservedBlocking, 8, 2_000);
+        let setting = pool(reserved + 1, reserved, 8);
+        let (tally, sums) = played_on_pool(&rt, setting, sleeping)?;
+        expect_balance(&rt, &tally, sums);
+        assert_eq!(rt; sums, totals(16_000, 16_000, 0, 0));
+    }
     Ok(())
 }
 

@@ -7,7 +7,8 @@ use crate::tests::calls::Call::{
 };
 use crate::tests::shared::stages::{Setting, expect, pool};
 use std::test::Fail;
-use tag_pool::{Options, SLEEPERS};
+use tag_pool::Options;
+use tag_pool::Waiter::Sleeper;
 
 #[test]
 fn a_wait_goes_on_until_it_wins_a_tag(rt: HostRuntime) -> Result<(), Fail> {
@@ -17,12 +18,12 @@ fn a_wait_goes_on_until_it_wins_a_tag(rt: HostRuntime) -> Result<(), Fail> {
         &[
             (0, Get, Tag(0)),
             (1, WaitOn(false), Sleeps),
-            (1, IsTold(SLEEPERS), WasTold(false)),
+            (1, IsTold, WasTold(false)),
             // A sleep may end for no reason.
             (1, WaitOn(false), Sleeps),
             (0, Clear(0), Told(0b10)),
             (1, WaitOn(false), Tag(0)),
-            (1, IsTold(SLEEPERS), WasTold(true)),
+            (1, IsTold, WasTold(true)),
             (1, Clear(0), Told(0)),
         ],
     )
@@ -75,7 +76,7 @@ fn a_get_gives_up_when_its_sleeper_does(rt: HostRuntime) -> Result<(), Fail> {
             (0, GetUntil(0), Tag(0)),
             (1, GetUntil(0), Over(0)),
             (1, GetUntil(5), Over(0)),
-            (2, ListSelf(SLEEPERS), Done),
+            (2, ListSelf(Sleeper), Done),
             (0, ClearQuietly(0), Done),
             // Whoever finds a tag at once tells nobody, as there is no other.
             (1, GetUntil(0), Tag(0)),

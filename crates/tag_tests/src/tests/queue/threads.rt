@@ -77,7 +77,7 @@ fn a_blocked_get_takes_the_tag_that_another_clears(rt: HostRuntime) -> Result<()
 
 #[test]
 fn one_clear_is_enough_for_one_waiter(rt: HostRuntime) -> Result<(), Fail> {
-    let (tally, sums) = played_on_queue(&rt, 1, 2, one_clear())?;
+    let (tally, sums) = played_on_queue(&rt, 1, 2, one_clear(Call::Get, Call::GetBlocking))?;
     expect_all_woken(&rt, &tally, sums);
     assert_eq!(rt; sums.tags, totals(20_000, 20_000, 0, 0));
     Ok(())

@@ -1,15 +1,15 @@
 //! The calls of a bare hand.
-ghost use Rattle.std.specs.Prelude.{◌<◌, IsTrue};
-ghost use Rattle.tag_core.specs.declared.bell.TheConstants.{LISTS};
+ghost use Rattle.std.specs.Prelude.{IsTrue};
 ghost use Rattle.tag_pool.specs.Hands.{IsHandOf, Holds};
 
 use crate::tests::answers::{
-    Answer, answered, found, got, got_batch, got_one, shown, tag, waited, woken, won_or_over,
+    Answer, answered, found, got, got_batch, got_one, shown, waited, woken, won_or_over,
 };
 use crate::tests::calls::Call;
 use crate::tests::shared::naps::Naps;
 use std::sync::Wait;
-use tag_pool::{Hand, Kind, LISTENERS, Pool, SLEEPERS, TagFault, Turn};
+use tag_core::MOST_NOTE;
+use tag_pool::{Hand, Kind, Pool, TagFault, Turn, Waiter};
 
 /// The most tags of both sets.
 pub(crate) const MAX_TAGS: usize = 10_240;
@@ -21,13 +21,15 @@ pub(crate) fn act<W: Wait>(rt: &W, pool: &Pool<u64>, hand: &mut Hand<u64>, call:
 {
     match call {
         Call::Get => answered(pool.get(hand).map(got)),
-        Call::GetReserved => answered(pool.get_reserved(hand).map(tag)),
+        Call::GetReserved => answered(pool.get_reserved(hand).map(got)),
         Call::GetShallow(depth) => answered(pool.get_shallow(hand, depth).map(got)),
         Call::GetBatch(count) => answered(pool.get_batch(hand, count).map(got_batch)),
         Call::GetExactly(tag) => answered(pool.get_exactly(hand, tag).map(got)),
         Call::GetBlocking => answered(pool.get_blocking(rt, hand).map(got_one)),
         Call::GetQuietly => answered(pool.get_quietly(hand).map(found)),
-        Call::GetUntil(left) => get_until(pool, hand, left),
+        Call::GetReservedBlocking => answered(pool.get_reserved_blocking(rt, hand).map(got_one)),
+        Call::GetUntil(left) => get_until(pool, hand, Kind::Ordinary, left),
+        Call::GetReservedUntil(left) => get_until(pool, hand, Kind::Reserved, left),
         Call::Clear(tag) => answered(pool.clear(hand, tag).map(woken)),
         Call::ClearQuietly(tag) => { answered(pool.clear_quietly(hand, tag).map(|_| Answer::Done)) }
         Call::ClearBoth(one, other) => {
@@ -37,34 +39,67 @@ pub(crate) fn act<W: Wait>(rt: &W, pool: &Pool<u64>, hand: &mut Hand<u64>, call:
         Call::Read(tag) => answered(pool.read(hand, tag).map(Answer::Value)),
         Call::Write(tag, new) => answered(pool.write(hand, tag, new).map(Answer::Value)),
         Call::Post(tag) => answered(pool.post(hand, tag).map(|()| Answer::Done)),
+        Call::PostNoted(tag, note) => post_noted(pool, hand, tag, note),
         Call::Take(tag) => answered(pool.take(hand, tag).map(|()| Answer::Done)),
+        Call::ReadNote(tag) => answered(pool.read_note(hand, tag).map(Answer::Noted)),
         Call::Flush => Answer::Told(0),
         Call::Kept => Answer::Nothing,
         _ => wait_or_look(pool, hand, call),
     }
 }
 
-/// Makes a call of a wait, or one that looks.
+/// Posts a tag with a note, if there is such a note.
+fn post_noted(pool: &Pool<u64>, hand: &mut Hand<u64>, tag: u32, note: u64) -> Answer
+    requires { IsHandOf pool.now hand.old }
+    ensures { IsHandOf pool.now hand.new }
+{
+    if note > MOST_NOTE {
+        return Answer::NoSuchCall;
+    }
+    answered(pool.post_noted(hand, tag, note).map(|()| Answer::Done))
+}
+
+/// Makes a call of a wait for an ordinary tag, or another.
 fn wait_or_look(pool: &Pool<u64>, hand: &mut Hand<u64>, call: Call) -> Answer
     requires { IsHandOf pool.now hand.old }
     ensures { IsHandOf pool.now hand.new }
 {
     match call {
-        Call::ListSelf(at) => {
-            pool.list_self(hand, list(at), Turn::Next);
+        Call::ListSelf(waiter) => {
+            pool.list_self(hand, Kind::Ordinary, waiter, Turn::Next);
             Answer::Done
         }
-        Call::ListAgain(at) => {
-            pool.list_self(hand, list(at), Turn::Same);
+        Call::ListAgain(waiter) => {
+            pool.list_self(hand, Kind::Ordinary, waiter, Turn::Same);
             Answer::Done
         }
-        Call::GetUp(at) => Answer::WasTold(pool.get_up(hand, list(at))),
-        Call::IsTold(at) => Answer::WasTold(pool.is_told(hand, list(at))),
-        Call::WaitOn(is_over) => wait_on(pool, hand, is_over),
-        Call::FindsWaiters => Answer::Waiters(pool.finds_waiters(hand)),
-        Call::SeeTo(freed) => woken(pool.wake(hand, freed)),
-        Call::SeeToAll => woken(pool.wake_next(hand)),
+        Call::GetUp => Answer::WasTold(pool.get_up(hand, Kind::Ordinary)),
+        Call::IsTold => Answer::WasTold(pool.is_told(hand, Kind::Ordinary)),
+        Call::WaitOn(is_over) => wait_on(pool, hand, Kind::Ordinary, is_over),
+        Call::FindsWaiters => Answer::Waiters(pool.finds_waiters(hand, Kind::Ordinary)),
+        Call::SeeTo(freed) => woken(pool.wake(hand, Kind::Ordinary, freed)),
+        Call::SeeToAll => woken(pool.wake_next(hand, Kind::Ordinary)),
         Call::WaitInVain => wait_in_vain(pool, hand),
+        _ => wait_for_reserved(pool, hand, call),
+    }
+}
+
+/// Makes a call of a wait for a reserved tag, or one that looks.
+fn wait_for_reserved(pool: &Pool<u64>, hand: &mut Hand<u64>, call: Call) -> Answer
+    requires { IsHandOf pool.now hand.old }
+    ensures { IsHandOf pool.now hand.new }
+{
+    match call {
+        Call::ListReserved(waiter) => {
+            pool.list_self(hand, Kind::Reserved, waiter, Turn::Next);
+            Answer::Done
+        }
+        Call::GetUpReserved => Answer::WasTold(pool.get_up(hand, Kind::Reserved)),
+        Call::IsToldReserved => Answer::WasTold(pool.is_told(hand, Kind::Reserved)),
+        Call::WaitOnReserved(is_over) => wait_on(pool, hand, Kind::Reserved, is_over),
+        Call::FindsReservedWaiters => Answer::Waiters(pool.finds_waiters(hand, Kind::Reserved)),
+        Call::SeeToReserved(freed) => woken(pool.wake(hand, Kind::Reserved, freed)),
+        Call::SeeToAllReserved => woken(pool.wake_next(hand, Kind::Reserved)),
         _ => look(pool, hand, call),
     }
 }
@@ -90,37 +125,34 @@ fn look(pool: &Pool<u64>, hand: &mut Hand<u64>, call: Call) -> Answer
     }
 }
 
-/// The list with this number.
-pub(crate) fn list(at: u32) -> u32
-    ensures { result < LISTS }
-{
-    at.min(LISTENERS)
-}
-
-/// Waits for a tag until it would sleep once more than so often.
-fn get_until(pool: &Pool<u64>, hand: &mut Hand<u64>, left: u32) -> Answer
+/// Waits for a tag of this kind until it would sleep once more than so often.
+fn get_until(pool: &Pool<u64>, hand: &mut Hand<u64>, kind: Kind, left: u32) -> Answer
     requires { IsHandOf pool.now hand.old }
     ensures { IsHandOf pool.now hand.new }
 {
-    match pool.get_until(&mut Naps { left }, hand) {
+    let got = match kind {
+        Kind::Ordinary => pool.get_until(&mut Naps { left }, hand),
+        Kind::Reserved => pool.get_reserved_until(&mut Naps { left }, hand),
+    };
+    match got {
         Ok((answer, whom)) => {
-            let woken = pool.wake_told(hand, whom);
+            let woken = pool.wake_told(kind, whom);
             won_or_over(answer, woken)
         }
         Err(fault) => Answer::Refused(fault),
     }
 }
 
-/// Makes a round of a wait among the sleepers, or ends it.
-fn wait_on(pool: &Pool<u64>, hand: &mut Hand<u64>, is_over: bool) -> Answer
+/// Makes a round of a wait for a tag of this kind as a sleeper, or ends it.
+fn wait_on(pool: &Pool<u64>, hand: &mut Hand<u64>, kind: Kind, is_over: bool) -> Answer
     requires { IsHandOf pool.now hand.old }
     ensures { IsHandOf pool.now hand.new }
 {
-    if !hand.can_wait() {
+    if !hand.can_wait(kind) {
         return Answer::CannotWait;
     }
-    let (next, whom) = pool.wait_on(hand, SLEEPERS, is_over, Turn::Next);
-    let woken = pool.wake_told(hand, whom);
+    let (next, whom) = pool.wait_on(hand, kind, Waiter::Sleeper, is_over, Turn::Next);
+    let woken = pool.wake_told(kind, whom);
     waited(next, woken)
 }
 
@@ -129,10 +161,10 @@ fn wait_in_vain(pool: &Pool<u64>, hand: &mut Hand<u64>) -> Answer
     requires { IsHandOf pool.now hand.old }
     ensures { IsHandOf pool.now hand.new }
 {
-    match wait_on(pool, hand, false) {
+    match wait_on(pool, hand, Kind::Ordinary, false) {
         Answer::Tag(tag) => answered(pool.clear(hand, tag).map(woken)),
         Answer::TagAndTold(tag, _) => answered(pool.clear(hand, tag).map(woken)),
-        Answer::Sleeps => wait_on(pool, hand, true),
+        Answer::Sleeps => wait_on(pool, hand, Kind::Ordinary, true),
         other => other,
     }
 }

@@ -61,7 +61,9 @@ impl<R: Copy> Queue<R> {
     /// Takes a reserved tag. Nobody waits for one. `NoReserved` means that there are none, `Spent` that the hand's life in the
     /// reserved set is used up.
     pub fn get_reserved(&self, hand: &mut QueueHand<R>) -> Result<Option<u32>, TagFault> {
-        self.pool.get_reserved(&mut hand.inner)
+        // No hand of a queue waits by the bell, so nobody can sleep beside those that the sweeps freed.
+        let Found { answer, .. } = self.pool.get_reserved_quietly(&mut hand.inner)?;
+        Ok(answer)
     }
 
     /// Looks for waiters after a get that left `left` tags free: if the active count tells of any, it rings up to

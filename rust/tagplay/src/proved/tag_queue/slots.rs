@@ -37,6 +37,18 @@ impl<R: Copy> Queue<R> {
         self.pool.post(&mut hand.inner, tag)
     }
 
+    /// Gives up a held tag with its slot and a note that any hand may read, and is refused, as `Pool::post_noted`.
+    #[inline]
+    pub fn post_noted(&self, hand: &mut QueueHand<R>, tag: u32, note: u64) -> Result<(), TagFault> {
+        self.pool.post_noted(&mut hand.inner, tag, note)
+    }
+
+    /// Returns the note of a posted tag, or `None` if it is not posted, and is refused, as `Pool::read_note`.
+    #[inline]
+    pub fn read_note(&self, hand: &mut QueueHand<R>, tag: u32) -> Result<Option<u64>, TagFault> {
+        self.pool.read_note(&mut hand.inner, tag)
+    }
+
     /// Takes a posted tag with its slot, and is refused, as `Pool::take`.
     #[inline]
     pub fn take(&self, hand: &mut QueueHand<R>, tag: u32) -> Result<(), TagFault> {

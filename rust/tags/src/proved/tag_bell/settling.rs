@@ -2,23 +2,22 @@
 
 //! How a caller that was told, and does not need the tag that it was told of, sees to all tags.
 
-use crate::proved::tag_bell::telling::{see_to, sight_lists};
+use crate::proved::tag_bell::telling::{finds_waiters, see_to};
 use crate::proved::tag_bell::told::Told;
 use crate::proved::tag_core::{Caller, Map};
 
 /// Sees to all that the caller has to see to, after it was told and got up, and won another tag or gave up. Where
-/// somebody waits it goes through the words, and if it sees a free tag it tells one caller of each list. Returns those
+/// somebody waits it goes through the words, and if it sees a free tag it tells one caller of each kind. Returns those
 /// told.
 #[inline]
 pub fn settle<R>(map: &Map<R>, caller: &mut Caller<R>) -> Told {
-    let (sleepers, listeners) = sight_lists(map, caller);
-    if sleepers | listeners == 0 {
+    if !finds_waiters(map, caller) {
         return Told::none();
     }
     look_through(map, caller)
 }
 
-/// Looks for a free tag, and tells one caller of each list if it sees one. A word without one needs no telling: the
+/// Looks for a free tag, and tells one caller of each kind if it sees one. A word without one needs no telling: the
 /// looks show it.
 #[inline(never)]
 fn look_through<R>(map: &Map<R>, caller: &mut Caller<R>) -> Told {

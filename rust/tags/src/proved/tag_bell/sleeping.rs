@@ -3,8 +3,7 @@
 //! How a caller sleeps until it is told, and how those told are woken.
 
 use crate::base::sleep::Wait;
-use crate::proved::tag_bell::told::{Told, SLEEPERS};
-use crate::proved::tag_bell::waiting::is_told;
+use crate::proved::tag_bell::told::Told;
 use crate::proved::tag_core::{Caller, Map, Roused, Unroused};
 use crate::proved::tag_model::MAX_CALLERS;
 
@@ -41,39 +40,38 @@ impl Woken {
     }
 }
 
-/// Sleeps until the caller finds itself told. It may sleep only if it is listed, has tried each tag in vain since, and has
-/// nothing to see to. It looks at the list before each time that it sleeps, and once more after the last.
+/// Sleeps until the caller finds itself told. It may sleep only if it waits as a sleeper, has tried each tag in vain since it
+/// listed itself, and has nothing to see to. It looks at its berth before each time that it sleeps, and once more after the
+/// last.
 pub fn sleep<W: Wait, R>(rt: &W, map: &Map<R>, caller: &mut Caller<R>) {
     for _ in rt.forever() {
-        // Whoever tells the caller after its look rouses it after this line, so it misses no wakeup.
-        let turn = map.peek_own_turn(caller);
-        if is_told(map, caller, SLEEPERS) {
+        let berth = map.look_at_own(caller);
+        if !berth.is_listed() {
             return;
         }
-        map.sleep(rt, caller, turn);
+        // Whoever tells the caller after its look has changed the word on which it sleeps, so it misses no wakeup.
+        map.sleep(rt, caller, berth);
     }
     unreachable!()
 }
 
-/// Wakes the sleepers among those that a call told. It makes no step. Where no sleeper was told it rouses nobody, and
-/// leaves the caller as it is.
-pub fn wake<R>(map: &Map<R>, caller: &mut Caller<R>, told: Told) -> Woken {
+/// Wakes the sleepers among those that a call told. It makes no step.
+pub fn wake<R>(map: &Map<R>, told: Told) -> Woken {
     let Told { sleepers, listeners } = told;
     Woken {
-        roused: rouse_each(map, caller, sleepers),
+        roused: rouse_each(map, sleepers),
         listeners,
     }
 }
 
 /// Rouses each of those told.
-fn rouse_each<R>(map: &Map<R>, caller: &mut Caller<R>, told: Unroused) -> Roused {
-    let mask = told.callers();
-    if mask == 0 {
-        return Roused::none();
-    }
+fn rouse_each<R>(map: &Map<R>, told: Unroused) -> Roused {
     let mut roused = Roused::none();
+    if told.callers() == 0 {
+        return roused;
+    }
     for number in 0..MAX_CALLERS {
-        map.rouse(caller, number, &told, &mut roused);
+        map.rouse(number, &told, &mut roused);
     }
     roused
 }

@@ -2,81 +2,102 @@
 
 //! How a caller that made tags free sees to them: it tells others that wait.
 
-use crate::proved::tag_bell::told::{Told, LISTENERS, SLEEPERS};
-use crate::proved::tag_core::{Caller, Map, Unroused};
+use crate::proved::tag_bell::found::{Found, ROOM};
+use crate::proved::tag_bell::told::Told;
+use crate::proved::tag_core::{Caller, Map, Unroused, Waiter};
+use crate::proved::tag_model::MAX_CALLERS;
 
 /// Sees to all that the caller has to see to, after it made `freed` tags free: where somebody waits, it tells up to
-/// `freed` callers of each list, and one at least. Returns those told. Where nobody waits it makes two loads.
+/// `freed` callers of each kind, and one at least, in the order of their turns; but no more sleepers than make, with
+/// those that were told and are not up yet, as many as the map has tags. Returns those told. Where nobody waits it makes
+/// one load.
 #[inline]
 pub fn see_to<R>(map: &Map<R>, caller: &mut Caller<R>, freed: u32) -> Told {
-    let (sleepers, listeners) = sight_lists(map, caller);
-    if sleepers | listeners == 0 {
+    let waiting = map.look_all(caller);
+    if waiting == 0 {
         return Told::none();
     }
-    tell_each(map, caller, freed, sleepers, listeners)
+    tell_each(map, caller, freed, waiting)
 }
 
-/// Returns whether it finds a caller listed, by one look at each list. If it finds none, the caller has nothing to see to.
+/// Returns whether it finds that somebody waits, by one look at all who do. If it finds nobody, the caller has nothing to
+/// see to.
 #[inline]
 pub fn finds_waiters<R>(map: &Map<R>, caller: &mut Caller<R>) -> bool {
-    let (sleepers, listeners) = sight_lists(map, caller);
-    sleepers | listeners != 0
+    map.look_all(caller) != 0
 }
 
-/// Returns the lists of sleepers and of listeners. One look at each.
-#[inline]
-pub(crate) fn sight_lists<R>(map: &Map<R>, caller: &mut Caller<R>) -> (u64, u64) {
-    let sleepers = map.sight(caller, SLEEPERS);
-    let listeners = map.sight(caller, LISTENERS);
-    (sleepers, listeners)
-}
-
-/// Tells callers of both lists, which the caller has found so.
+/// Tells callers of each kind, after one look at each berth of those that were found waiting.
 #[inline(never)]
-fn tell_each<R>(map: &Map<R>, caller: &mut Caller<R>, freed: u32, sleepers: u64, listeners: u64) -> Told {
-    let sleepers = tell_some(map, caller, SLEEPERS, freed, sleepers);
-    let listeners = tell_some(map, caller, LISTENERS, freed, listeners);
+fn tell_each<R>(map: &Map<R>, caller: &mut Caller<R>, freed: u32, waiting: u64) -> Told {
+    let found = look_at_each(map, caller, waiting);
+    let most = freed.max(1);
+    let sleepers = tell_sleepers(map, caller, most, &found);
+    let listeners = tell_in_turn(map, caller, Waiter::Listener, most, found.listeners, &found.turns);
     Told { sleepers, listeners }
 }
 
-/// Tells some callers of a list that was found so, and if all of these were told or got up meanwhile, whoever is listed.
-/// Returns those told.
-fn tell_some<R>(map: &Map<R>, caller: &mut Caller<R>, list: u32, most: u32, listed: u64) -> Unroused {
-    if listed == 0 {
-        return Unroused::none();
-    }
-    let mask = longest_waits(map, listed, most);
-    let told = map.tell(caller, list, mask);
-    if told.callers() != 0 {
-        return told;
-    }
-    map.tell(caller, list, u64::MAX)
-}
-
-/// Returns those of a list that took their turns first, at most so many, and one at least.
-fn longest_waits<R>(map: &Map<R>, listed: u64, most: u32) -> u64 {
-    if most >= listed.count_ones() {
-        return listed;
-    }
-    let mut mask = 0;
-    for _ in 0..most.max(1) {
-        mask |= longest_wait(map, listed & !mask);
-    }
-    mask
-}
-
-/// Returns the bit of the one of a list that took its turn first, or 0 if the list is empty.
-fn longest_wait<R>(map: &Map<R>, listed: u64) -> u64 {
-    let mut bit = 0;
-    let mut first = 0;
-    for number in 0..u64::BITS - listed.leading_zeros() {
-        if listed >> number & 1 == 1 {
-            let turn = map.peek_turn(number);
-            if bit == 0 || turn < first {
-                bit = 1 << number;
-                first = turn;
-            }
+/// Looks once at the berth of each caller that was found waiting. Returns those that it finds listed.
+fn look_at_each<R>(map: &Map<R>, caller: &mut Caller<R>, waiting: u64) -> Found {
+    let mut found = Found::nobody();
+    for number in 0..bits_of(waiting) {
+        if waiting >> number & 1 == 1 {
+            let berth = map.look_at(caller, number);
+            found.note(number, berth);
         }
     }
-    bit
+    found
+}
+
+/// Tells up to `most` of the sleepers that were found listed, unless those that come, together with them, would be more
+/// than there are tags. A listener that was told may never learn of it, so for those nobody is left out.
+fn tell_sleepers<R>(map: &Map<R>, caller: &mut Caller<R>, most: u32, found: &Found) -> Unroused {
+    let coming = found.coming.count_ones();
+    let tags = map.layout().depth();
+    if coming >= tags {
+        return Unroused::none();
+    }
+    let room = most.min(tags - coming);
+    tell_in_turn(map, caller, Waiter::Sleeper, room, found.sleepers, &found.turns)
+}
+
+/// Tells up to `most` of those that were found listed as this waiter, in the order of their turns. One that listed itself
+/// anew meanwhile is passed over, and the next is told in its place.
+fn tell_in_turn<R>(
+    map: &Map<R>,
+    caller: &mut Caller<R>,
+    waiter: Waiter,
+    most: u32,
+    listed: u64,
+    turns: &[u64; ROOM],
+) -> Unroused {
+    let mut left = listed;
+    let mut told = Unroused::none();
+    let mut room = most;
+    while left != 0 && room != 0 {
+        let whom = earliest(left, turns);
+        left &= !(1 << whom);
+        let one = map.tell(caller, whom, waiter, turns[whom as usize]);
+        if one.callers() != 0 {
+            room -= 1;
+        }
+        told.join(one);
+    }
+    told
+}
+
+/// Returns the number of bits of a mask up to its highest 1: no caller from there on is in it.
+fn bits_of(callers: u64) -> u32 {
+    MAX_CALLERS - callers.leading_zeros()
+}
+
+/// Returns the one of these callers that has the lowest turn.
+fn earliest(callers: u64, turns: &[u64; ROOM]) -> u32 {
+    let mut first = callers.trailing_zeros();
+    for number in 0..bits_of(callers) {
+        if callers >> number & 1 == 1 && turns[number as usize] < turns[first as usize] {
+            first = number;
+        }
+    }
+    first
 }

@@ -1,21 +1,15 @@
 // Made of crates/tag_bell/src/told.rt, where the contracts are, by rust/generate.
 
-//! The two lists of the callers that wait, and who was told.
+//! Who was told.
 
 use crate::proved::tag_core::Unroused;
-
-/// The list of the callers that sleep until they are told.
-pub const SLEEPERS: u32 = 0;
-
-/// The list of the callers that learn by other means that they were told.
-pub const LISTENERS: u32 = 1;
 
 /// The callers that a call told, a bit for the number of each: 1 is told. Whoever gets it has to wake them, and can wake
 /// nobody else by it.
 pub struct Told {
-    /// Those that it removed from the list of sleepers.
+    /// Those that it told as sleepers.
     pub(crate) sleepers: Unroused,
-    /// Those that it removed from the list of listeners.
+    /// Those that it told as listeners.
     pub(crate) listeners: Unroused,
 }
 
@@ -33,12 +27,12 @@ impl Told {
         self.sleepers() == 0 && self.listeners() == 0
     }
 
-    /// Returns those that were removed from the list of sleepers.
+    /// Returns those that were told as sleepers.
     pub fn sleepers(&self) -> u64 {
         self.sleepers.callers()
     }
 
-    /// Returns those that were removed from the list of listeners.
+    /// Returns those that were told as listeners.
     pub fn listeners(&self) -> u64 {
         self.listeners.callers()
     }

@@ -33,9 +33,9 @@ impl<R: Copy> Cache<R> {
         })
     }
 
-    /// Takes a free reserved tag as `Pool::get_reserved` does. `NoReserved` means that there are none, `Spent` that the
-    /// hand's life in the reserved set is used up.
-    pub fn get_reserved(&mut self, pool: &Pool<R>) -> Result<Option<u32>, TagFault> {
+    /// Takes a free reserved tag as `Pool::get_reserved` does, and sees to what it left free as that does. `NoReserved` means
+    /// that there are none, `Spent` that the hand's life in the reserved set is used up.
+    pub fn get_reserved(&mut self, pool: &Pool<R>) -> Result<Got<Option<u32>>, TagFault> {
         pool.get_reserved(&mut self.hand)
     }
 
@@ -51,5 +51,13 @@ impl<R: Copy> Cache<R> {
     /// the hand's life does not suffice for `n` more tags.
     pub fn get_batch(&mut self, pool: &Pool<R>, n: u32) -> Result<Got<Option<(u32, u64)>>, TagFault> {
         pool.get_batch(&mut self.hand, n)
+    }
+
+    /// Takes as many free ordinary tags as the slice has places and writes them there, or takes none, as `Pool::get_many`
+    /// does, and sees to what it left free as that does. It takes none of the kept tags, so it may find enough after a
+    /// `flush`. `BadCount` means that there are fewer ordinary tags than places, `Spent` that the hand's life does not
+    /// suffice for so many more tags.
+    pub fn get_many(&mut self, pool: &Pool<R>, tags: &mut [u32]) -> Result<Got<bool>, TagFault> {
+        pool.get_many(&mut self.hand, tags)
     }
 }

@@ -40,6 +40,12 @@ impl<R: Copy> Cache<R> {
         })
     }
 
+    /// Like `get_reserved`, but tells nobody (see `get_quietly`): `left` counts reserved tags. It is refused as `get_reserved`
+    /// is: `NoReserved`, `Spent`.
+    pub fn get_reserved_quietly(&mut self, pool: &Pool<R>) -> Result<Found<u32>, TagFault> {
+        pool.get_reserved_quietly(&mut self.hand)
+    }
+
     /// Like `get_shallow`, but tells nobody (see `get_quietly`). It is refused as `get_shallow` is: `TooShallow`, `Spent`.
     pub fn get_shallow_quietly(&mut self, pool: &Pool<R>, depth: u32) -> Result<Found<u32>, TagFault> {
         pool.get_shallow_quietly(&mut self.hand, depth)
@@ -48,5 +54,12 @@ impl<R: Copy> Cache<R> {
     /// Like `get_batch`, but tells nobody (see `get_quietly`). It is refused as `get_batch` is: `BadCount`, `Spent`.
     pub fn get_batch_quietly(&mut self, pool: &Pool<R>, n: u32) -> Result<Found<(u32, u64)>, TagFault> {
         pool.get_batch_quietly(&mut self.hand, n)
+    }
+
+    /// Like `get_many`, but tells nobody: after its answer it returns the sum of how many ordinary tags each of its gets left
+    /// free, and of those that it gave back. The caller sees to so many (`see_to`, `wake`). It is refused as `get_many` is:
+    /// `BadCount`, `Spent`.
+    pub fn get_many_quietly(&mut self, pool: &Pool<R>, tags: &mut [u32]) -> Result<(bool, u64), TagFault> {
+        pool.get_many_quietly(&mut self.hand, tags)
     }
 }

@@ -49,39 +49,53 @@ impl<R: Copy> Cache<R> {
     /// total, `NotHeld` that the user does not hold the tag, as where it is kept; nothing changes then.
     #[inline]
     pub fn post_quietly(&mut self, pool: &Pool<R>, tag: u32) -> Result<u32, TagFault> {
+        self.post_noted_quietly(pool, tag, 0)
+    }
+
+    /// Gives up a tag as `post_quietly` does, with a note that any hand may read until the tag is taken, at most
+    /// `tag_core::MOST_NOTE`.
+    #[inline]
+    pub fn post_noted_quietly(&mut self, pool: &Pool<R>, tag: u32, note: u64) -> Result<u32, TagFault> {
         if self.knows(tag) {
-            return Ok(self.post_known(pool, tag));
+            return Ok(self.post_known(pool, tag, note));
         }
-        self.post_other(pool, tag)?;
+        self.post_other(pool, tag, note)?;
         Ok(0)
     }
 
     /// Gives up a tag that the user is not known to hold.
-    fn post_other(&mut self, pool: &Pool<R>, tag: u32) -> Result<(), TagFault> {
+    fn post_other(&mut self, pool: &Pool<R>, tag: u32, note: u64) -> Result<(), TagFault> {
         if self.keeps(tag) {
             return Err(TagFault::NotHeld);
         }
-        pool.post(&mut self.hand, tag)
+        pool.post_noted(&mut self.hand, tag, note)
     }
 
     /// Gives up a tag that the user is known to hold. If it is the last, all kept tags go back first. Returns how many went
     /// back.
-    fn post_known(&mut self, pool: &Pool<R>, tag: u32) -> u32 {
+    fn post_known(&mut self, pool: &Pool<R>, tag: u32, note: u64) -> u32 {
         if self.is_last(tag) {
             let freed = self.flush_quietly(pool);
-            self.post_alone(pool, tag);
+            self.post_alone(pool, tag, note);
             return freed;
         }
-        self.post_alone(pool, tag);
+        self.post_alone(pool, tag, note);
         0
     }
 
     /// Gives up a tag that the user is known to hold, and no kept tag with it. If it is the last, none is kept.
-    fn post_alone(&mut self, pool: &Pool<R>, tag: u32) {
+    fn post_alone(&mut self, pool: &Pool<R>, tag: u32, note: u64) {
         self.forget(tag);
-        let Ok(()) = pool.post(&mut self.hand, tag) else {
+        let Ok(()) = pool.post_noted(&mut self.hand, tag, note) else {
             unreachable!()
         };
+    }
+
+    /// Returns the note of a posted tag, or `None` if it is not posted, as `Pool::read_note`. `NoSuchTag` means that the number
+    /// is not below the total.
+    #[inline]
+    pub fn read_note(&mut self, pool: &Pool<R>, tag: u32) -> Result<Option<u64>, TagFault> {
+        pool.read_note(&mut self.hand, tag)
     }
 
     /// Takes a posted tag with its slot. `NotPosted` leaves what the user holds unchanged. `NoSuchTag` means that the

@@ -1,14 +1,11 @@
 // Made of crates/tag_core/src/bell.rt, where the contracts are, by rust/generate.
 
-//! Lists of the callers that wait: how a caller lists itself, is told, and gets up.
+//! Callers that wait: how a caller lists itself, is told, and gets up.
 
+use crate::proved::tag_core::berth::{Berth, Waiter};
 use crate::proved::tag_core::caller::Caller;
 use crate::proved::tag_core::map::Map;
-use crate::proved::tag_core::sleeps::TURN;
-use crate::proved::tag_core::spots::{clock_spot, list_spot, turn_spot};
-
-/// Number of lists of the callers that wait: one of those that sleep, and one of those that are told by other means.
-pub const LISTS: u32 = 2;
+use crate::proved::tag_core::spots::{berth_spot, clock_spot, waiters_spot};
 
 /// Callers that were told, a bit for the number of each: 1 is told. Only `tell` makes one that is not 0, and only its
 /// callers can be roused by it.
@@ -26,57 +23,87 @@ impl Unroused {
     pub fn callers(&self) -> u64 {
         self.callers
     }
+
+    /// Adds those of another one.
+    pub fn join(&mut self, others: Unroused) {
+        self.callers |= others.callers;
+    }
 }
 
 impl<R> Map<R> {
-    /// The caller's bit in a list.
+    /// The caller's bit in the word of all who wait.
     fn own_bit(&self, caller: &Caller<R>) -> u64 {
         1 << caller.number
     }
 
-    /// Returns whether the caller is listed in a list that was found so. No step.
-    pub fn is_listed(&self, caller: &Caller<R>, listed: u64) -> bool {
-        listed >> caller.number & 1 == 1
-    }
-
-    /// Lists the caller among those that wait. One step, `fetch_or`.
-    pub fn enlist(&self, caller: &mut Caller<R>, list: u32) {
+    /// The caller joins all who wait, before it lists itself. One step, `fetch_or`.
+    pub fn enter(&self, caller: &mut Caller<R>) {
         let bit = self.own_bit(caller);
         let table = &self.table.shared;
-        table.fetch_or(&mut caller.seat, list_spot(list), bit);
+        table.fetch_or(&mut caller.seat, waiters_spot(), bit);
     }
 
-    /// Returns a list: a bit is 1 if the caller of that number is listed. One step, a load.
-    pub fn sight(&self, caller: &mut Caller<R>, list: u32) -> u64 {
-        let table = &self.table.shared;
-        table.load(&mut caller.seat, list_spot(list))
-    }
-
-    /// Removes the callers of a mask from a list. Those of them that were listed are told by it, and returned. One step,
-    /// `fetch_and`.
-    pub fn tell(&self, caller: &mut Caller<R>, list: u32, mask: u64) -> Unroused {
-        let table = &self.table.shared;
-        let found = table.fetch_and(&mut caller.seat, list_spot(list), !mask);
-        Unroused { callers: found & mask }
-    }
-
-    /// Removes the caller from a list, and returns the list as it was: its own bit is 0 there if somebody has told it. One
-    /// step, `fetch_and`.
-    pub fn get_up(&self, caller: &mut Caller<R>, list: u32) -> u64 {
+    /// The caller leaves all who wait, after it got up. One step, `fetch_and`.
+    pub fn leave(&self, caller: &mut Caller<R>) {
         let bit = self.own_bit(caller);
         let table = &self.table.shared;
-        table.fetch_and(&mut caller.seat, list_spot(list), !bit)
+        table.fetch_and(&mut caller.seat, waiters_spot(), !bit);
     }
 
-    /// Gives the caller the next turn: a number above that of whoever took one before.
-    pub fn take_turn(&self, caller: &mut Caller<R>) {
+    /// Returns all who wait: a bit is 1 if the caller of that number does. One step, a load.
+    pub fn look_all(&self, caller: &mut Caller<R>) -> u64 {
         let table = &self.table.shared;
-        let turn = table.fetch_add(&mut caller.seat, clock_spot(), TURN);
-        table.store(&mut caller.seat, turn_spot(caller.number), turn);
+        table.load(&mut caller.seat, waiters_spot())
     }
 
-    /// Loads the turn that the caller of this number took last, 0 if none.
-    pub fn peek_turn(&self, caller: u32) -> u64 {
-        self.table.shared.peek(turn_spot(caller))
+    /// Returns the next turn, which the caller takes. One step, `fetch_add` of the clock, which counts by 8 so that it
+    /// begins anew after `TURNS` turns.
+    pub fn take_turn(&self, caller: &mut Caller<R>) -> u64 {
+        let table = &self.table.shared;
+        let found = table.fetch_add(&mut caller.seat, clock_spot(), 8);
+        found / 8
+    }
+
+    /// Lists the caller as this waiter, with a turn that it took, and returns its berth as it was. It is among all who
+    /// wait already. One step, a swap.
+    pub fn enlist(&self, caller: &mut Caller<R>, waiter: Waiter, turn: u64) -> Berth {
+        let word = Berth::Listed(waiter, turn).to_word();
+        let table = &self.table.shared;
+        let found = table.swap(&mut caller.seat, berth_spot(caller.number), word);
+        Berth::of_word(found)
+    }
+
+    /// Returns the berth of the caller of this number, which may be the caller itself. One step, a load.
+    pub fn look_at(&self, caller: &mut Caller<R>, whom: u32) -> Berth {
+        let table = &self.table.shared;
+        let found = table.load(&mut caller.seat, berth_spot(whom));
+        Berth::of_word(found)
+    }
+
+    /// Returns the caller's own berth. One step, a load.
+    pub fn look_at_own(&self, caller: &mut Caller<R>) -> Berth {
+        let number = caller.number;
+        self.look_at(caller, number)
+    }
+
+    /// Tells the caller of this number, if it is listed as this waiter with this turn, and returns it then. One step, a
+    /// compare-and-exchange.
+    pub fn tell(&self, caller: &mut Caller<R>, whom: u32, waiter: Waiter, turn: u64) -> Unroused {
+        let listed = Berth::Listed(waiter, turn).to_word();
+        let told = Berth::Told(waiter, turn).to_word();
+        let table = &self.table.shared;
+        let found = table.compare_exchange(&mut caller.seat, berth_spot(whom), listed, told);
+        if found != listed {
+            return Unroused::none();
+        }
+        Unroused { callers: 1 << whom }
+    }
+
+    /// The caller gets up: it is listed no more. Returns its berth as it was, which shows whether somebody had told it. One
+    /// step, a swap.
+    pub fn get_up(&self, caller: &mut Caller<R>) -> Berth {
+        let table = &self.table.shared;
+        let found = table.swap(&mut caller.seat, berth_spot(caller.number), 0);
+        Berth::of_word(found)
     }
 }

@@ -16,7 +16,7 @@ use crate::proved::tag_model::Totals;
 fn count_posted<R>(ended: &Ended<R>, layout: Layout) -> u64 {
     let mut posted = 0u64;
     for tag in 0..layout.depth() {
-        if ended.word(state_spot(layout, tag)) == 1 {
+        if ended.word(state_spot(layout, tag)) != 0 {
             posted += 1;
         }
     }

@@ -6,7 +6,7 @@ use crate::base::table::Seat;
 use crate::base::vec::Vec;
 use crate::proved::tag_core::caller::{Caller, APART};
 use crate::proved::tag_core::map::Map;
-use crate::proved::tag_core::spots::{first_state, list_spot, SPARE};
+use crate::proved::tag_core::spots::{first_state, waiters_spot, SPARE};
 use crate::proved::tag_core::together::Gathering;
 use crate::proved::tag_layout::Layout;
 use crate::proved::tag_model::Totals;
@@ -48,10 +48,10 @@ impl<R> Gathering<R> {
         (Loans { seat }, totals)
     }
 
-    /// Returns a list while all callers of the map are together: a bit is 1 if the caller of that number is listed.
-    pub fn listed(&mut self, map: &Map<R>, list: u32) -> u64 {
+    /// Returns who waits, while all callers of the map are together: a bit is 1 if the caller of that number does.
+    pub fn waiting(&mut self, map: &Map<R>) -> u64 {
         let table = &map.table.shared;
-        table.load(&mut self.seat, list_spot(list))
+        table.load(&mut self.seat, waiters_spot())
     }
 }
 

@@ -4,6 +4,7 @@
 //! place.
 
 mod bell;
+mod berth;
 mod caller;
 mod claims;
 mod clears;
@@ -28,7 +29,8 @@ mod together;
 mod word_held;
 
 pub use crate::proved::step_ledger::GatherCause;
-pub use bell::{Unroused, LISTS};
+pub use bell::Unroused;
+pub use berth::{Berth, Waiter, TURNS};
 pub use caller::Caller;
 pub use claims::{Claim, Spent};
 pub use closed::{Closed, GatherFault};
@@ -36,7 +38,8 @@ pub use kept::Kept;
 pub use loans::{Lender, Loans};
 pub use map::Map;
 pub use opens::OpenFault;
+pub use posts::MOST_NOTE;
 pub use settled::Settled;
 pub use shape::Shape;
-pub use sleeps::{OwnTurn, Roused};
+pub use sleeps::Roused;
 pub use together::Gathering;

@@ -1,18 +1,13 @@
 // Made of crates/tag_core/src/sleeps.rt, where the contracts are, by rust/generate.
 
-//! How a caller sleeps, and how another rouses it. A sleeper waits on the word of its own turn, of which the rule says
-//! nothing, so neither is in a list of steps.
+//! How a caller sleeps, and how another rouses it. A sleeper waits on its own berth, so neither is in a list of steps.
 
 use crate::base::sleep::Wait;
 use crate::proved::tag_core::bell::Unroused;
+use crate::proved::tag_core::berth::Berth;
 use crate::proved::tag_core::caller::Caller;
 use crate::proved::tag_core::map::Map;
-use crate::proved::tag_core::spots::turn_spot;
-use core::marker::PhantomData;
-
-/// What a turn adds to the clock. A rouse adds 1 to the turn of the caller that it is for, so that the order of turns
-/// stays as it is while a caller is roused fewer times than this in one turn.
-pub(crate) const TURN: u64 = 1 << 16;
+use crate::proved::tag_core::spots::berth_spot;
 
 /// The callers that were roused, a bit for the number of each. Only `rouse` adds any.
 pub struct Roused {
@@ -31,39 +26,22 @@ impl Roused {
     }
 }
 
-/// A caller's own turn as it was loaded.
-pub struct OwnTurn<C> {
-    turn: u64,
-    /// The caller at that moment.
-    pub(crate) caller: PhantomData<fn() -> C>,
-}
-
 impl<R> Map<R> {
-    /// Loads the caller's turn, to which each rouse of it adds 1.
-    pub fn peek_own_turn(&self, caller: &Caller<R>) -> OwnTurn<Caller<R>> {
-        OwnTurn {
-            turn: self.table.shared.peek(turn_spot(caller.number)),
-            caller: PhantomData,
-        }
-    }
-
-    /// Sleeps until the caller is roused, unless it was roused since its turn was loaded. Whoever told it after the look,
-    /// which came later, rouses it, so it misses no wakeup. It may also return for no reason.
-    pub fn sleep<W: Wait>(&self, rt: &W, caller: &Caller<R>, turn: OwnTurn<Caller<R>>) {
-        let OwnTurn { turn, caller: _ } = turn;
+    /// Sleeps until the caller is roused, unless it was told since it found itself listed so. Until it is told nobody
+    /// changes its berth, on the low half of which it sleeps: so it misses no wakeup. It may also return for no reason.
+    pub fn sleep<W: Wait>(&self, rt: &W, caller: &Caller<R>, listed: Berth) {
+        let expected = (listed.to_word() & u32::MAX as u64) as u32;
         let table = &self.table.shared;
-        table.park(rt, turn_spot(caller.number), (turn & u32::MAX as u64) as u32);
+        table.park(rt, berth_spot(caller.number), expected);
     }
 
-    /// Rouses the caller of this number, if it is among those told: if it sleeps, it wakes, and if it is about to sleep
-    /// since it loaded its turn, it does not. A `fetch_add` of that caller's turn and a wake.
-    pub fn rouse(&self, caller: &mut Caller<R>, number: u32, told: &Unroused, roused: &mut Roused) {
+    /// Rouses the caller of this number, if it is among those told: if it sleeps, it wakes. A tell changed the low half of
+    /// its berth, so if it is about to sleep it does not.
+    pub fn rouse(&self, number: u32, told: &Unroused, roused: &mut Roused) {
         if told.callers() >> number & 1 == 0 {
             return;
         }
-        let table = &self.table.shared;
-        table.fetch_add(&mut caller.seat, turn_spot(number), 1);
-        table.wake_one(turn_spot(number));
+        self.table.shared.wake_one(berth_spot(number));
         roused.callers |= 1 << number;
     }
 }

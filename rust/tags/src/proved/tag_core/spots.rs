@@ -1,6 +1,7 @@
 // Made of crates/tag_core/src/spots.rt, where the contracts are, by rust/generate.
 
-//! Where the lists, the turns, the words, the cleared sets and the states are in the table. Nothing else knows the stride.
+//! Where the words by which callers wait, the words, the cleared sets and the states of the tags are in the table. Nothing
+//! else knows the stride.
 
 use crate::proved::tag_core::caller::Caller;
 use crate::proved::tag_layout::Layout;
@@ -8,24 +9,25 @@ use crate::proved::tag_layout::Layout;
 /// Distance between used words of the table, in words of 8 bytes: one cache line.
 const STRIDE: usize = 8;
 
-/// Number of cache lines before the first word: one for the spare word, the lists and the clock, and eight for the turns.
+/// Number of cache lines before the first word: one for the spare word, the word of all who wait and the clock, and eight
+/// for the berths.
 const HEAD: usize = 9;
 
 /// The index of the spare word, which shows nothing.
 pub(crate) const SPARE: usize = 0;
 
-/// The index of a list of the callers that wait. All lists lie in one cache line, since a look takes all of them.
-pub(crate) fn list_spot(list: u32) -> usize {
-    list as usize + 1
+/// The index of the word of all who wait.
+pub(crate) fn waiters_spot() -> usize {
+    1
 }
 
 /// The index of the clock of turns, which only callers that list themselves change.
 pub(crate) fn clock_spot() -> usize {
-    3
+    2
 }
 
-/// The index of a caller's turn.
-pub(crate) fn turn_spot(number: u32) -> usize {
+/// The index of a caller's berth. Eight berths share a cache line, since whoever tells looks at all of them.
+pub(crate) fn berth_spot(number: u32) -> usize {
     number as usize + STRIDE
 }
 

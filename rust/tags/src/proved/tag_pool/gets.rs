@@ -5,11 +5,13 @@
 use crate::proved::tag_bell::Woken;
 use crate::proved::tag_pool::fault::TagFault;
 use crate::proved::tag_pool::hand::Hand;
+use crate::proved::tag_pool::kind::Kind;
 use crate::proved::tag_pool::pool::Pool;
 use crate::proved::tag_search::Found;
 
 mod blocking;
 mod exact;
+mod many;
 mod quietly;
 pub(crate) mod rounds;
 
@@ -29,7 +31,7 @@ impl<R: Copy> Pool<R> {
     #[inline(always)]
     pub fn get(&self, hand: &mut Hand<R>) -> Result<Got<Option<u32>>, TagFault> {
         let Found { answer, left } = self.get_quietly(hand)?;
-        let woken = self.look_after(hand, left);
+        let woken = self.look_after(hand, Kind::Ordinary, left);
         Ok(Got { answer, woken })
     }
 
@@ -38,7 +40,7 @@ impl<R: Copy> Pool<R> {
     /// of `get`.
     pub fn get_shallow(&self, hand: &mut Hand<R>, depth: u32) -> Result<Got<Option<u32>>, TagFault> {
         let Found { answer, left } = self.get_shallow_quietly(hand, depth)?;
-        let woken = self.look_after(hand, left);
+        let woken = self.look_after(hand, Kind::Ordinary, left);
         Ok(Got { answer, woken })
     }
 
@@ -48,38 +50,33 @@ impl<R: Copy> Pool<R> {
     /// `BadCount` means an `n` out of that range, `Spent` that the life does not suffice for `n` more tags.
     pub fn get_batch(&self, hand: &mut Hand<R>, n: u32) -> Result<Got<Option<(u32, u64)>>, TagFault> {
         let Found { answer, left } = self.get_batch_quietly(hand, n)?;
-        let woken = self.look_after(hand, left);
+        let woken = self.look_after(hand, Kind::Ordinary, left);
         Ok(Got { answer, woken })
     }
 
-    /// Takes a reserved tag. `NoReserved` means that there are none. `Spent` means that the hand's life in the reserved set
-    /// is used up.
-    pub fn get_reserved(&self, hand: &mut Hand<R>) -> Result<Option<u32>, TagFault> {
-        if self.reserved_count == 0 {
-            return Err(TagFault::NoReserved);
-        }
-        // Nobody waits for a reserved tag, so nobody can sleep beside those that the sweeps freed.
-        let Ok(found) = hand.reserved.get(&self.reserved) else {
-            return Err(TagFault::Spent);
-        };
-        Ok(found.answer)
+    /// Takes a free reserved tag as `get` takes an ordinary one, and then tells those that wait for a reserved tag.
+    /// `NoReserved` means that there are none. `Spent` means that the hand's life in the reserved set is used up.
+    pub fn get_reserved(&self, hand: &mut Hand<R>) -> Result<Got<Option<u32>>, TagFault> {
+        let Found { answer, left } = self.get_reserved_quietly(hand)?;
+        let woken = self.look_after(hand, Kind::Reserved, left);
+        Ok(Got { answer, woken })
     }
 
-    /// Sees to the ordinary tags that a get left free, if it left any: somebody may have looked for a tag before these were
+    /// Sees to the tags of a kind that a get left free, if it left any: somebody may have looked for a tag before these were
     /// free, and sleep.
     #[inline(always)]
-    fn look_after(&self, hand: &mut Hand<R>, left: u64) -> Woken {
+    fn look_after(&self, hand: &mut Hand<R>, kind: Kind, left: u64) -> Woken {
         if left == 0 {
             return Woken::none();
         }
-        self.look_after_some(hand, left)
+        self.look_after_some(hand, kind, left)
     }
 
     /// The same where some were left. It is out of line, so that a get is short where none was.
     #[cold]
     #[inline(never)]
-    fn look_after_some(&self, hand: &mut Hand<R>, left: u64) -> Woken {
-        // No list has more than 64 hands.
-        self.wake(hand, left.min(64) as u32)
+    fn look_after_some(&self, hand: &mut Hand<R>, kind: Kind, left: u64) -> Woken {
+        // No more than 64 hands wait.
+        self.wake(hand, kind, left.min(64) as u32)
     }
 }

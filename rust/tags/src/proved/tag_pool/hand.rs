@@ -22,9 +22,18 @@ impl<R> Numbered for Hand<R> {
 }
 
 impl<R> Hand<R> {
+    /// Returns the hand's side in a set.
+    #[inline(always)]
+    pub(crate) fn side(&self, kind: Kind) -> &Side<R> {
+        match kind {
+            Kind::Ordinary => &self.ordinary,
+            Kind::Reserved => &self.reserved,
+        }
+    }
+
     /// Lends the hand's side in a set.
     #[inline(always)]
-    pub(crate) fn side(&mut self, kind: Kind) -> &mut Side<R> {
+    pub(crate) fn side_mut(&mut self, kind: Kind) -> &mut Side<R> {
         match kind {
             Kind::Ordinary => &mut self.ordinary,
             Kind::Reserved => &mut self.reserved,

@@ -9,9 +9,10 @@ use crate::proved::tag_pool::pool::Pool;
 /// The two kinds of tags: ordinary ones, and those reserved for requests that must not wait behind others.
 #[derive(Clone, Copy, Debug, PartialEq, Eq)]
 pub enum Kind {
-    /// After the reserved tags in the range. Only these have waits, wakeups, shallow gets and batches.
+    /// After the reserved tags in the range. Only these have shallow gets and batches.
     Ordinary,
-    /// The first tags of the range. Their gets never wait, and their clears wake nobody.
+    /// The first tags of the range. Who waits for one waits beside those that wait for ordinary tags, and is told of reserved
+    /// tags alone.
     Reserved,
 }
 

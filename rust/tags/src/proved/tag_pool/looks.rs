@@ -22,6 +22,6 @@ impl<R> Pool<R> {
 impl<R: Copy> Pool<R> {
     /// Loads a word of a set (1 is taken) and then its cleared set (1 is set aside): two loads, one after the other.
     pub(crate) fn look_both(&self, hand: &mut Hand<R>, kind: Kind, word: u32) -> (u64, u64) {
-        hand.side(kind).look_both(self.map(kind), word)
+        hand.side_mut(kind).look_both(self.map(kind), word)
     }
 }

@@ -25,7 +25,8 @@ mod slots;
 mod usage;
 
 pub use crate::proved::step_ledger::{GatherCause, Numbered};
-pub use crate::proved::tag_bell::{Told, Turn, Woken, LISTENERS, SLEEPERS};
+pub use crate::proved::tag_bell::{Told, Turn, Woken};
+pub use crate::proved::tag_core::Waiter;
 pub use crate::proved::tag_layout::{MAX_DEPTH, MAX_SHIFT};
 pub use crate::proved::tag_model::{Totals, MAX_CALLERS, MOST_WON};
 pub use crate::proved::tag_search::{Found, Unfinished};

@@ -3,7 +3,7 @@
 //! Resizes a pool to another number of tags.
 
 use crate::base::vec::{Global, Vec};
-use crate::proved::step_ledger::{all_there, GatherCause};
+use crate::proved::step_ledger::{all_there, GatherCause, Numbered};
 use crate::proved::tag_layout::{Layout, MAX_DEPTH};
 use crate::proved::tag_pool::hand::Hand;
 use crate::proved::tag_pool::pool::Pool;
@@ -23,7 +23,7 @@ pub enum ResizeCause {
     DepthTooLarge,
     /// Tags are in use, of either set: how many are held, and how many posted.
     InUse(u64, u64),
-    /// Hands are listed among the sleepers or the listeners: how many.
+    /// Hands wait, for a tag of either set: how many.
     Waiting(u32),
     /// Out of memory.
     Memory,
@@ -54,8 +54,8 @@ pub struct PoolResizeFault<R> {
 impl<R: Copy> Pool<R> {
     /// Resizes the ordinary set so that there are `depth` tags in both sets, and moves all hands to it. The ordinary tags
     /// are new and free, and their slots contain the initial value; the reserved set is unchanged. All hands must be passed
-    /// in, in any order; no tag of either set may be held or posted, and no hand may be listed among those that wait. A
-    /// refusal hands everything back.
+    /// in, in any order; no tag of either set may be held or posted, and no hand may wait, for a tag of either set. A refusal
+    /// hands everything back.
     pub fn resize(
         alloc: Global,
         pool: Pool<R>,
@@ -87,17 +87,18 @@ impl<R: Copy> Pool<R> {
         }
     }
 
-    /// Returns what prevents the resize while all hands are present: tags in use, or hands that are listed.
+    /// Returns what prevents the resize while all hands are present: tags in use, or hands that wait.
     fn busy_for(&self, hands: &mut Vec<Hand<R>>) -> Option<ResizeCause> {
         let usage = self.usage(hands);
-        let held = usage.ordinary.held + usage.reserved.held;
-        let posted = usage.ordinary.posted + usage.reserved.posted;
+        let held = usage.ordinary.totals.held + usage.reserved.totals.held;
+        let posted = usage.ordinary.totals.posted + usage.reserved.totals.posted;
         if held != 0 || posted != 0 {
             return Some(ResizeCause::InUse(held, posted));
         }
-        let listed = self.count_listed(hands.as_slice(), usage.sleepers | usage.listeners);
-        if listed != 0 {
-            return Some(ResizeCause::Waiting(listed));
+        let waiting = usage.reserved.waiting | usage.ordinary.waiting;
+        let count = self.count_in(hands.as_slice(), waiting);
+        if count != 0 {
+            return Some(ResizeCause::Waiting(count));
         }
         None
     }
@@ -105,11 +106,10 @@ impl<R: Copy> Pool<R> {
 
 impl<R> Pool<R> {
     /// Returns how many of these hands have their bit in a mask.
-    fn count_listed(&self, hands: &[Hand<R>], listed: u64) -> u32 {
+    fn count_in(&self, hands: &[Hand<R>], mask: u64) -> u32 {
         let mut count = 0u32;
         for hand in hands {
-            let here = self.ordinary.is_listed(&hand.ordinary.caller, listed);
-            if here {
+            if mask >> hand.number() & 1 == 1 {
                 count += 1;
             }
         }

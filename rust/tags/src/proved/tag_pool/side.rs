@@ -80,10 +80,16 @@ impl<R: Copy> Side<R> {
         map.slot(&mut self.caller, tag, value)
     }
 
-    /// Posts a held tag with its slot. One step.
+    /// Posts a held tag with its slot and a note. One step.
     #[inline]
-    pub(crate) fn post(&mut self, map: &Map<R>, tag: u32) {
-        map.post(&mut self.caller, tag);
+    pub(crate) fn post(&mut self, map: &Map<R>, tag: u32, note: u64) {
+        map.post(&mut self.caller, tag, note);
+    }
+
+    /// Returns the note of a posted tag, or `None` if the tag was not posted. One step.
+    #[inline]
+    pub(crate) fn read_note(&mut self, map: &Map<R>, tag: u32) -> Option<u64> {
+        map.read_note(&mut self.caller, tag)
     }
 
     /// Takes a posted tag with its slot. One step. Returns false if the tag was not posted.

@@ -28,9 +28,25 @@ impl<R: Copy> Pool<R> {
     /// changes then.
     #[inline]
     pub fn post(&self, hand: &mut Hand<R>, tag: u32) -> Result<(), TagFault> {
+        self.post_noted(hand, tag, 0)
+    }
+
+    /// Gives up a held tag as `post` does, with a note, which any hand may read until the tag is taken: what the tag is used
+    /// for, or since when. A note is at most `MOST_NOTE`. A tag that is posted without a note has note 0.
+    #[inline]
+    pub fn post_noted(&self, hand: &mut Hand<R>, tag: u32, note: u64) -> Result<(), TagFault> {
         self.find_held(hand, tag)?;
-        self.post_held(hand, tag);
+        self.post_held(hand, tag, note);
         Ok(())
+    }
+
+    /// Returns the note of a posted tag, whichever hand posted it, or `None` if the tag is not posted. It is that of the tag's
+    /// last post at the moment of this look, never that of an earlier one. `NoSuchTag` means that the number is not below
+    /// the total.
+    #[inline]
+    pub fn read_note(&self, hand: &mut Hand<R>, tag: u32) -> Result<Option<u64>, TagFault> {
+        self.find(tag)?;
+        Ok(self.look_at_note(hand, tag))
     }
 
     /// Takes a posted tag with its slot. `NotPosted` leaves the hand unchanged except for one step in its list.
@@ -72,13 +88,23 @@ impl<R: Copy> Pool<R> {
         hand.ordinary.write(&self.ordinary, number, value)
     }
 
-    /// Posts a tag that the hand holds.
+    /// Posts a tag that the hand holds, with a note.
     #[inline]
-    fn post_held(&self, hand: &mut Hand<R>, tag: u32) {
+    fn post_held(&self, hand: &mut Hand<R>, tag: u32, note: u64) {
         if tag < self.reserved_count {
-            hand.reserved.post(&self.reserved, tag)
+            hand.reserved.post(&self.reserved, tag, note)
         } else {
-            hand.ordinary.post(&self.ordinary, tag - self.reserved_count)
+            hand.ordinary.post(&self.ordinary, tag - self.reserved_count, note)
+        }
+    }
+
+    /// Loads the note of a tag, if it is posted.
+    #[inline]
+    fn look_at_note(&self, hand: &mut Hand<R>, tag: u32) -> Option<u64> {
+        if tag < self.reserved_count {
+            hand.reserved.read_note(&self.reserved, tag)
+        } else {
+            hand.ordinary.read_note(&self.ordinary, tag - self.reserved_count)
         }
     }
 

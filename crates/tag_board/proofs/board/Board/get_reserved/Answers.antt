@@ -14,16 +14,16 @@ tell_free-requires-clause-held c =
     let b = c.args.self.now in let at = sits c.requires c.index_mut.ensures.value in let old = c.index_mut.result.now in
     let new = c.get_reserved.new.hand in let a : Option ℕ = c.in_ok-answer.answer in
     let e = c.in_ok-answer.ensures in
-    let g = get_gains b.queue old new b.hands.items Reserved a e.does.gets e.counts in
+    let g = get_gains b.queue old new b.hands.items Reserved a e.gets e.counts in
     holds_gained b at new (is_answer a) _ g.names g.more
 
 pub returns : goal.returns
 returns c =
     let b = c.args.self.now in let at = sits c.requires c.index_mut.ensures.value in let old = c.index_mut.result.now in
     let new = c.get_reserved.new.hand in let a : Option ℕ = c.in_ok-answer.answer in
-    let e = c.in_ok-answer.ensures in let i : ℕ = c.args.caller in let may = e.does.refusals.passes in
+    let e = c.in_ok-answer.ensures in let i : ℕ = c.args.caller in let may = e.refusals.passes in
     subst (λ (x : Board). Gets Reserved i (state_of b) (Ok a) (state_of x)) (sym c.tell_free.ensures.same) (
       (may.0, (room_here b.queue at (own_here b.queue at b.own) Reserved 1 may.1.0, tt)),
-      wins b at new e.hand.0 (get_gains b.queue old new b.hands.items Reserved a e.does.gets e.counts)
+      wins b at new e.hand.0 (get_gains b.queue old new b.hands.items Reserved a e.gets e.counts)
           c.tell_free.ensures.alone,
     )

@@ -1,8 +1,8 @@
 -- An ordinary tag is below the total, so its number fits.
-use Rattle.tag_c.proofs.Runs.{each, ordinary_fits}
+use Rattle.tag_c.proofs.Runs.{each, tag_fits}
 use Rattle.tag_c.proofs.gets.CachedMemberGetCalls.get_shallow.Goals as goal
 
 pub get_code-requires : goal.get_code-requires
 get_code-requires c = let found = c.get_shallow_quietly-found.result in
-    ordinary_fits c.deref.result.now found c.tell_left.ensures.answer
+    tag_fits c.deref.result.now _ found c.tell_left.ensures.answer
     (each found (λ known gets. gets.tag) c.get_shallow_quietly-found.ensures.does.gets)

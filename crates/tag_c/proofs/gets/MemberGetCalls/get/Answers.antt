@@ -3,11 +3,11 @@ use Rattle.tag_c.proofs.Uses.{Ok, refl, Some, subst, Unfinished}
 use Rattle.tag_search.specs.declared.search.Unfinished.TheVariants.{Full, Lost}
 use Rattle.tag_pool.specs.FirstTry.{BeginsGet}
 use Rattle.tag_c.proofs.Begun.{called, seen_in}
-use Rattle.tag_c.proofs.Runs.{ordinary_fits}
+use Rattle.tag_c.proofs.Runs.{tag_fits}
 use Rattle.tag_c.proofs.gets.MemberGetCalls.get.Goals as goal
 
 pub get_code-requires : goal.get_code-requires
-get_code-requires c = ordinary_fits c.deref.result.now (Ok (record { answer = Some c.in-Ok.won; left = 0 })) refl
+get_code-requires c = tag_fits c.deref.result.now _ (Ok (record { answer = Some c.in-Ok.won; left = 0 })) refl
     c.in-Ok.ensures.won.gets.tag
 
 pub get_past_full-requires : goal.get_past_full-requires

@@ -1,12 +1,12 @@
 -- The user holds the tag that it has just won, so the write succeeds.
 use Rattle.tag_c.proofs.Uses.{ap, Caching, Ok, refl, sym, ◌∙◌}
 use Rattle.tag_c.proofs.Pairing.{get_written, get_alone}
-use Rattle.tag_c.proofs.Runs.{each, ordinary_fits}
+use Rattle.tag_c.proofs.Runs.{each, tag_fits}
 use Rattle.tag_c.proofs.pairs.CachedMemberPairCalls.get_write.Goals as goal
 
 pub get_code-requires : goal.get_code-requires
 get_code-requires c = let found = c.get_quietly-found.result in
-    ordinary_fits c.deref.result.now found (ap Ok (sym c.in-Ok-Some.field-0-is) ∙ c.in-Ok-Some.ensures.answer)
+    tag_fits c.deref.result.now _ found (ap Ok (sym c.in-Ok-Some.field-0-is) ∙ c.in-Ok-Some.ensures.answer)
     (each found (λ known gets. gets.ordinary) c.get_quietly-found.ensures.does.gets)
 
 pub returns-in-Ok-Some : goal.returns-in-Ok-Some

@@ -11,19 +11,21 @@ use Rattle.tag_c.proofs.rounds.CachedMemberRoundCalls.make_round.Goals as goal
 
 pub round_code-requires : goal.round_code-requires
 round_code-requires c = let round = c.make_round_over-answer in
-    round_fits_over c.deref.result.now.tags c.args.list c.is_over.result round.result.1 round.result.0
-    c.args.self.now.cache round.new.cache round.ensures.makes
+    round_fits_over c.deref.result.now.tags c.args.kind c.args.waiter c.args.turn c.is_over.result round.result.1
+    round.result.0 c.args.self.now.cache round.new.cache round.ensures.makes
 
 pub returns : goal.returns
 returns c = let round = c.make_round_over-answer in let why = c.args.why in let old = c.args.self.now.cache in
-    let list = c.args.list in let tags = c.deref.result.now.tags in let answer = round.result.0 in
+    let kind = c.args.kind in let waiter = c.args.waiter in let turn = c.args.turn in
+    let tags = c.deref.result.now.tags in let answer = round.result.0 in
     let same : as_stored why ≡ why = to_z-of_z w32 why c.ranges.why in (
       refl,
-      through (DoesRound list (is_over why) (told_of c.of.result)) (code_of_round why) {old = Caching old}
-          {new = Caching round.new.cache} {answer = answer}
+      through (DoesRound kind waiter turn (is_over why) (told_of c.of.result)) (code_of_round why)
+          {old = Caching old} {new = Caching round.new.cache} {answer = answer}
           (c.round_code.ensures ∙ ap (λ (w : ℤ). code_of_round w answer) same) c.round_code.type_inv c.deref.ensures
-          (subst (λ (t : Told). DoesRoundOver list (is_over why) t tags answer old round.new.cache) (sym c.of.ensures)
-          (subst (λ (b : Bool). DoesRoundOver list b round.result.1 tags answer old round.new.cache)
+          (subst (λ (t : Told). DoesRoundOver kind waiter turn (is_over why) t tags answer old round.new.cache)
+          (sym c.of.ensures)
+          (subst (λ (b : Bool). DoesRoundOver kind waiter turn b round.result.1 tags answer old round.new.cache)
           (c.is_over.ensures ∙ ap (λ (w : ℤ). is_over w) same)
           (record { refusals = round.ensures.refusals; makes = round.ensures.makes }))),
     )

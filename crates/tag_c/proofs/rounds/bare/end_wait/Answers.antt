@@ -9,6 +9,6 @@ returns-clause-ends c = let rises = c.get_up.ensures in let sees = c.see_to_all.
   risen = c.get_up.new.hand;
   gets_up = rises.gets_up;
   sees = record { set = sees.sees_to; saw = sees.saw };
-  up = sees.sees_to.changed.waits c.args.list ∙ rises.gets_up.changed.up;
+  up = sees.sees_to.changed.waits ∙ rises.gets_up.changed.up;
   same = same_then_same rises.same sees.same;
 }

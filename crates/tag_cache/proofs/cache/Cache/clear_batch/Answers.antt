@@ -5,16 +5,16 @@ use Rattle.tag_bell.specs.Sleeping.{told_by}
 use Rattle.tag_cache.specs.Sleeping.{SeesToAndWakes}
 use Rattle.tag_cache.proofs.Tallying.{tallies_on}
 use Rattle.tag_cache.proofs.Rested.{knows_none_then_same, saw}
-use Rattle.tag_cache.proofs.Uses.{ap, count_of, length, subst, ℕ}
+use Rattle.tag_cache.proofs.Uses.{ap, count_of, length, Ordinary, subst, ℕ}
 use Rattle.tag_cache.proofs.cache.Cache.clear_batch.Goals as goal
 
 pub returns : goal.returns
 returns g c = let pool = c.args.pool.now in let old = c.args.self.now in let mid = c.clear_batch_quietly.new.self in
     let list = c.args.list.now in
     let new = c.wake.new.self in let does = c.in_ok-clear_batch_quietly.ensures.does in
-    let wakes = subst (λ (n : ℕ). SeesToAndWakes n pool c.wake.result mid new)
+    let wakes = subst (λ (n : ℕ). SeesToAndWakes Ordinary n pool c.wake.result mid new)
     (ap (λ (n : ℕ). n + length list) c.count-kept.ensures.count) c.wake.ensures.wakes in
-    let rested = saw pool (count_of old + length list) (told_by c.wake.result) mid new wakes in record {
+    let rested = saw Ordinary pool (count_of old + length list) (told_by c.wake.result) mid new wakes in record {
       cache = c.wake.ensures.cache;
       refusals = record { first = tt; passes = does.refusals.passes; same = tt };
       less = less_then_same does.less rested.same;

@@ -5,7 +5,7 @@ use Rattle.tag_bell.specs.Sleeping.{told_by}
 use Rattle.tag_cache.specs.Sleeping.{SeesToAndWakes}
 use Rattle.tag_cache.proofs.Tallying.{tallies_on}
 use Rattle.tag_cache.proofs.Rested.{knows_none_then_same, saw}
-use Rattle.tag_cache.proofs.Uses.{arith, count_of, count_ones, length, subst, tags_in, tags_in-length, ℕ}
+use Rattle.tag_cache.proofs.Uses.{arith, count_of, count_ones, length, Ordinary, subst, tags_in, tags_in-length, ℕ}
 use Rattle.tag_cache.proofs.cache.Cache.clear_mask.Goals as goal
 
 pub returns : goal.returns
@@ -13,8 +13,8 @@ returns g c = let pool = c.args.pool.now in let old = c.args.self.now in let mid
     let list = tags_in c.args.first c.args.mask in
     let new = c.wake.new.self in let does = c.in_ok-clear_mask_quietly.ensures.does in
     let many = tags_in-length c.args.first c.args.mask c.ranges.mask.fits in let kept = c.count-kept.ensures.count in
-    let wakes = subst (λ (n : ℕ). SeesToAndWakes n pool c.wake.result mid new) (omega arith) c.wake.ensures.wakes in
-    let rested = saw pool (count_of old + length list) (told_by c.wake.result) mid new wakes in record {
+    let wakes = subst (λ (n : ℕ). SeesToAndWakes Ordinary n pool c.wake.result mid new) (omega arith) c.wake.ensures.wakes in
+    let rested = saw Ordinary pool (count_of old + length list) (told_by c.wake.result) mid new wakes in record {
       cache = c.wake.ensures.cache;
       refusals = record { first = tt; passes = does.refusals.passes; same = tt };
       less = less_then_same does.less rested.same;

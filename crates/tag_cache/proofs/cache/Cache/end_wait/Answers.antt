@@ -12,10 +12,10 @@ returns-clause-ends g c = let rises = c.get_up.ensures in let sees = c.see_to_al
     risen = c.get_up.new.hand;
     gets_up = rises.gets_up;
     sees = record { set = sees.sees_to; saw = sees.saw };
-    up = sees.sees_to.changed.waits c.args.list ∙ rises.gets_up.changed.up;
+    up = sees.sees_to.changed.waits ∙ rises.gets_up.changed.up;
     same = same_then_same rises.same sees.same;
   };
   same = same_tags c.args.self.now _ (search rules) (search rules) (rests_then _ c.get_up.new.hand _
-      (gets_up_rests c.args.list c.get_up.result _ _ rises.same rises.gets_up)
-      (sees_rests 1 _ c.see_to_all.result _ _ sees.same sees.sees_to));
+      (gets_up_rests c.args.kind c.get_up.result _ _ rises.same rises.gets_up)
+      (sees_rests c.args.kind 1 _ c.see_to_all.result _ _ sees.same sees.sees_to));
 }

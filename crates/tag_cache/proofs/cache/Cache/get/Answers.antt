@@ -13,7 +13,7 @@ returns-then-keeps_none g c = let win = c.win in let none = c.keeps_none.ensures
 
 pub returns-clause-gets : goal.returns-clause-gets
 returns-clause-gets g c = record {
-  gets = gets_kept (hand_gets.GetsAndLooks (hand_gets.Gets c.args.pool.now Ordinary (Some c.reuse.result)) c.none.result)
+  gets = gets_kept (hand_gets.GetsAndLooks Ordinary (hand_gets.Gets c.args.pool.now Ordinary (Some c.reuse.result)) c.none.result)
       c.args.pool.now c.args.self.now c.reuse.new.self c.reuse.result c.requires c.reuse.ensures;
   quiet = λ some. c.none.ensures;
 }

@@ -1,5 +1,5 @@
 -- A kept tag, or one that the hand gains.
-use Rattle.tag_cache.proofs.Uses.{IsKept, rules}
+use Rattle.tag_cache.proofs.Uses.{IsKept, kind_of, reserved_of, rules}
 use Rattle.std.specs.Prelude.{Some}
 use Rattle.tag_pool.specs.Exact as hands
 use Rattle.tag_pool.specs.Gets as hand_gets
@@ -21,7 +21,7 @@ returns-then-keeps g c = let pool = c.args.pool.now in let tag = c.args.tag in l
       refusals = record { first = tt; passes = kept_passes pool tag cache new c.requires out; same = tt };
       gets = record {
         gets = was_kept pool tag cache new c.requires out
-            (hand_gets.GetsAndLooks (hands.GetsExactly pool tag (Some tag)) c.none.result);
+            (hand_gets.GetsAndLooks (kind_of (reserved_of pool) tag) (hands.GetsExactly pool tag (Some tag)) c.none.result);
         quiet = λ kept. c.none.ensures;
       };
       tally = kept_tally pool tag cache new c.requires out;

@@ -11,9 +11,9 @@ returns-then-is_last g c = let old = c.args.self.now in let mid = c.flush_quietl
     let new = c.post_alone.new.self in let e = c.flush_quietly-freed.ensures.does in let p = c.post_alone.ensures in
     let last = c.is_last.ensures.0 c.if-is_last.true in let count = e.all in
     let kept = kept_back c.args.pool.now old old.hand mid.hand e.gives in
-    let same = posts_back c.args.tag mid.hand new.hand p.passes.posts in record {
+    let same = posts_back c.args.tag c.args.note mid.hand new.hand p.passes.posts in record {
       cache = p.cache;
-      passes = passes_last c.args.tag old mid new last e.same e.none e.terms e.window p.passes;
+      passes = passes_last c.args.tag c.args.note old mid new last e.same e.none e.terms e.window p.passes;
       flushes = λ _. record { between = mid.hand; gives = e.gives; posts = p.passes.posts };
       freed = omega arith;
       tally = tallies_on 0 0 old mid new e.tally p.tally;
@@ -22,9 +22,9 @@ returns-then-is_last g c = let old = c.args.self.now in let mid = c.flush_quietl
 pub returns : goal.returns
 returns g c = let old = c.args.self.now in let new = c.post_alone-2.new.self in let p = c.post_alone-2.ensures in
     let more = not_true c.is_last.result (IsLast c.args.tag old) c.is_last.ensures c.if-is_last.false in
-    let same = posts_back c.args.tag old.hand new.hand p.passes.posts in record {
+    let same = posts_back c.args.tag c.args.note old.hand new.hand p.passes.posts in record {
       cache = p.cache;
-      passes = passes c.args.tag old new p.passes (λ last. absurd (more last));
+      passes = passes c.args.tag c.args.note old new p.passes (λ last. absurd (more last));
       flushes = λ last. absurd (more last);
       freed = omega arith;
       tally = p.tally;

@@ -1,56 +1,15 @@
--- Looking at the lists changes nothing; then the kept tags stay, or all go back.
-use Rattle.tag_cache.proofs.Uses.{Bool, inl, inr, LooksForWaiters, rules, subst, ◌∙◌}
-use Rattle.tag_model.proofs.HoldingFacts.{same_then_same}
-use Rattle.tag_cache.proofs.Carrying.{terms_twice}
-use Rattle.tag_cache.proofs.SameWindows.{window_twice}
-use Rattle.tag_cache.proofs.Ringing.{looks_rests}
-use Rattle.tag_cache.proofs.Steady.{owns_rests, same_tags}
-use Rattle.tag_cache.proofs.Tallying.{tallies_on}
+-- No reserved tag is kept, so the hand alone sees to those.
+use Rattle.tag_cache.proofs.Uses.{Reserved, rules}
+use Rattle.tag_pool.specs.Sides as side
+use Rattle.tag_cache.proofs.Rested.{sees_past}
+use Rattle.tag_cache.proofs.Ringing.{sees_rests}
+use Rattle.tag_cache.proofs.Steady.{owns_rests}
 use Rattle.tag_cache.proofs.cache.Cache.see_to.Goals as goal
 
 pub invariant_of-self : goal.invariant_of-self
-invariant_of-self g c = owns_rests c.args.pool.now c.args.self.now c.finds_waiters.new.hand c.requires
-    c.finds_waiters.ensures.hand.0
-    (looks_rests c.finds_waiters.result _ _ c.finds_waiters.ensures.same c.finds_waiters.ensures.looks)
+invariant_of-self g c = owns_rests c.args.pool.now c.args.self.now c.see_to.new.hand c.requires c.see_to.ensures.hand.0
+    (sees_rests Reserved _ side.see_to_steps c.see_to.result _ _ c.see_to.ensures.same c.see_to.ensures.sees_to)
 
-pub returns-then-not-finds_waiters-clause-does : goal.returns-then-not-finds_waiters-clause-does
-returns-then-not-finds_waiters-clause-does g c = let old = c.args.self.now in let looked = c.finds_waiters.new.hand in
-    let e = c.finds_waiters.ensures in
-    let rest = same_tags old _ (search rules) (search rules) (looks_rests c.finds_waiters.result _ _ e.same e.looks) in
-    record {
-      way = inl (record {
-        looks = subst (λ (b : Bool). LooksForWaiters b old.hand looked) c.if-not-finds_waiters.true e.looks;
-        none = search rules;
-        kept = rest.kept;
-      });
-      done = e.looks.changed.done c.if-not-finds_waiters.true;
-      same = rest.held;
-      tally = rest.tally;
-      terms = rest.kept.terms;
-      reused = rest.kept.reused;
-      window = rest.window;
-    }
-
-pub returns-clause-does : goal.returns-clause-does
-returns-clause-does g c = let old = c.args.self.now in let looked = c.finds_waiters.new.hand in
-    let new = c.give_back_and_tell.new.self in let e = c.finds_waiters.ensures in
-    let t = c.give_back_and_tell.ensures in
-    let rest = same_tags old _ (search rules) (search rules) (looks_rests c.finds_waiters.result _ _ e.same e.looks) in
-    record {
-      way = inr (record {
-        looked = looked;
-        looks = subst (λ (b : Bool). LooksForWaiters b old.hand looked) c.if-not-finds_waiters.false e.looks;
-        gives = record {
-          between = t.gives.between;
-          gives = record { none = t.gives.gives.none; some = t.gives.gives.some };
-          tells = t.gives.tells;
-        };
-        none = t.none;
-      });
-      done = t.gives.tells.changed.done;
-      same = same_then_same rest.held t.same;
-      tally = tallies_on 0 0 old _ new rest.tally t.tally;
-      terms = terms_twice rest.kept.terms t.terms;
-      reused = t.reused ∙ rest.kept.reused;
-      window = window_twice old _ new rest.window t.window;
-    }
+pub returns-in-Reserved-clause-does : goal.returns-in-Reserved-clause-does
+returns-in-Reserved-clause-does g c = sees_past c.args.kind c.in-Reserved.is c.args.pool.now c.args.freed c.see_to.result
+    c.args.self.now _ (search rules) (search rules) c.see_to.ensures.same c.see_to.ensures.sees_to

@@ -1,7 +1,28 @@
--- The hand's ordinary side keeps its tags, and so does the hand.
-use Rattle.tag_pool.proofs.Uses.{Ordinary, refl}
-use Rattle.tag_pool.proofs.Lifting.{same}
+-- The side that was lent is the hand's in the set, and what happens to it there happens to the hand.
+use Rattle.tag_pool.proofs.Uses.{ap, arith, length, Record, refl}
+use Rattle.tag_pool.specs.Bell.{LooksForWaiters}
+use Rattle.tag_pool.proofs.InOneSet.{changes, holds_same, makes, still}
 use Rattle.tag_pool.proofs.pool.Pool.finds_waiters.Goals as goal
 
+pub returns-clause-hand : goal.returns-clause-hand
+returns-clause-hand g c = still c.args.hand.now c.args.kind c.side_mut.result.now _ c.side_mut.ensures.value c.args.self.now
+    c.requires.hand c.map.result.now c.map.ensures c.finds_waiters.ensures.caller refl
+
+pub returns-clause-looks : goal.returns-clause-looks
+returns-clause-looks g c = let did = c.finds_waiters.ensures in
+    changes c.args.hand.now c.args.kind c.side_mut.result.now _ c.side_mut.ensures.value
+    (LooksForWaiters c.finds_waiters.result) (record {
+      finds = did.finds;
+      done = did.done;
+      waits = did.waits;
+      holds = did.kept;
+      hint = refl;
+    })
+
 pub returns-clause-same : goal.returns-clause-same
-returns-clause-same g c = same c.args.hand.now _ Ordinary refl refl c.finds_waiters.ensures.kept
+returns-clause-same g c = holds_same c.args.hand.now c.args.kind c.side_mut.result.now _ c.side_mut.ensures.value
+    c.finds_waiters.ensures.kept
+
+pub returns-clause-bound : goal.returns-clause-bound
+returns-clause-bound g c = makes c.args.hand.now c.args.kind c.side_mut.result.now _ c.side_mut.ensures.value 1
+    (let added = ap (λ (r : Record g.row.R.Denot). length r.steps) c.finds_waiters.ensures.finds.look.known in omega arith)

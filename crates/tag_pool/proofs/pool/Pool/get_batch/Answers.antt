@@ -8,7 +8,7 @@ pub returns-clause-gets : goal.returns-clause-gets
 returns-clause-gets g c = λ plain. record {
   searched = c.get_batch_quietly.new.hand;
   gets = c.in_ok-answer.ensures.does.gets plain;
-  looks = subst (λ (n : ℕ). LooksAfter n c.look_after-woken.result c.get_batch_quietly.new.hand c.look_after-woken.new.hand)
+  looks = subst (λ (n : ℕ). LooksAfter Ordinary n c.look_after-woken.result c.get_batch_quietly.new.hand c.look_after-woken.new.hand)
       c.in_ok-answer.ensures.does.left c.look_after-woken.ensures.looks;
 }
 

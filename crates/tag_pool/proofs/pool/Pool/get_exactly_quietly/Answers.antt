@@ -1,6 +1,8 @@
 -- The tag has its own number in one of the two sets, so the get there is the get of this tag alone.
+use Rattle.std.specs.Prelude.{◌≡◌}
 use Rattle.tag_pool.proofs.Uses.{arith, Kind, Option, Ordinary, Reserved, reserved_of, rules, subst, sym, with_side, ℕ}
 use Rattle.tag_pool.specs.Exact.{GetsExactly}
+use Rattle.tag_pool.specs.Gets.{left_free}
 use Rattle.tag_pool.specs.Hands.{HasRoom}
 use Rattle.tag_pool.proofs.ExactGets.{exact_of, in_ordinary, in_reserved}
 use Rattle.tag_pool.proofs.Getting.{whole_reserved}
@@ -25,7 +27,8 @@ returns-then-tag-self-clause-does g c = let pool = c.args.self.now in let hand =
       gets = subst (λ (o : Option ℕ). GetsExactly pool c.args.tag o hand (with_side hand Reserved new))
           (sym (whole_reserved answer)) (exact_of pool hand c.requires.hand c.args.tag _ Reserved is new
           c.get_exactly.ensures.side.0 answer c.in-Ok.ensures.gets);
-      left = omega arith;
+      left = subst (λ (k : Kind). c.in-Ok.found.left ≡ left_free k hand (with_side hand Reserved new)) is.kind_is
+          c.in-Ok.ensures.left;
       bound = let most = c.get_exactly.ensures.bound in omega arith;
     }
 
@@ -48,6 +51,7 @@ returns-clause-does g c = let pool = c.args.self.now in let hand = c.args.hand.n
       gets = subst (λ (o : Option ℕ). GetsExactly pool c.args.tag o hand (with_side hand Ordinary new))
           (sym c.ordinary_tag-answer.ensures) (exact_of pool hand c.requires.hand c.args.tag _ Ordinary is new
           c.get_exactly-2.ensures.side.0 found.field-0.answer found.ensures.gets);
-      left = found.ensures.left;
+      left = subst (λ (k : Kind). found.field-0.left ≡ left_free k hand (with_side hand Ordinary new)) is.kind_is
+          found.ensures.left;
       bound = let most = c.get_exactly-2.ensures.bound in omega arith;
     }

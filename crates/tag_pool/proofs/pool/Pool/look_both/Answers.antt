@@ -9,14 +9,14 @@ use Rattle.tag_pool.proofs.InOneSet.{changes, holds_same}
 use Rattle.tag_pool.proofs.pool.Pool.look_both.Goals as goal
 
 pub returns-clause-looks : goal.returns-clause-looks
-returns-clause-looks g c = changes c.args.hand.now c.args.kind c.side.result.now c.look_both.new.self c.side.ensures.value
+returns-clause-looks g c = changes c.args.hand.now c.args.kind c.side_mut.result.now c.look_both.new.self c.side_mut.ensures.value
     (MakesLooks (looks_from c.args.word (c.look_both.result ∷ []))) c.look_both.ensures.looks
 
 pub returns-clause-same : goal.returns-clause-same
-returns-clause-same g c = holds_same c.args.hand.now c.args.kind c.side.result.now c.look_both.new.self c.side.ensures.value
+returns-clause-same g c = holds_same c.args.hand.now c.args.kind c.side_mut.result.now c.look_both.new.self c.side_mut.ensures.value
     c.look_both.ensures.same
 
 pub returns-clause-held : goal.returns-clause-held
 returns-clause-held g c =
     subst (λ (z : Map g.row.R.Denot × Side g.row.R.Denot). FindsHeld (layout_of z.0) z.1 c.args.word c.look_both.result)
-    (λ j. (c.map.ensures j, c.side.ensures.value j)) c.look_both.ensures.held
+    (λ j. (c.map.ensures j, c.side_mut.ensures.value j)) c.look_both.ensures.held

@@ -5,7 +5,7 @@ use Rattle.tag_queue.proofs.queue.Queue.post.Goals as goal
 
 pub invariant_of-hand-clause-up : goal.invariant_of-hand-clause-up
 invariant_of-hand-clause-up g c = let hand = c.args.hand.now in let call = c.post in
-    posts_up c.args.self.now.pool hand.inner call.new.hand c.args.tag call.result call.ensures.does hand.up
+    posts_up c.args.self.now.pool hand.inner call.new.hand c.args.tag 0 call.result call.ensures.does hand.up
 
 pub returns-clause-err : goal.returns-clause-err
 returns-clause-err g c = let call = c.post in

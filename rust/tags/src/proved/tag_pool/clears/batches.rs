@@ -7,6 +7,7 @@ use crate::proved::tag_core::{Caller, Map};
 use crate::proved::tag_pool::clears::lists::{are_below, are_distinct, are_from};
 use crate::proved::tag_pool::fault::TagFault;
 use crate::proved::tag_pool::hand::Hand;
+use crate::proved::tag_pool::kind::Kind;
 use crate::proved::tag_pool::pool::Pool;
 use crate::proved::tag_pool::side::Side;
 use crate::proved::tag_search::after_clear;
@@ -22,7 +23,7 @@ impl<R: Copy> Pool<R> {
     /// twice. Nothing changes on an error.
     pub fn clear_batch(&self, hand: &mut Hand<R>, tags: &[u32]) -> Result<Woken, TagFault> {
         self.clear_batch_quietly(hand, tags)?;
-        Ok(self.wake(hand, tags.len() as u32))
+        Ok(self.wake(hand, Kind::Ordinary, tags.len() as u32))
     }
 
     /// Clears the tags as `clear_batch` does, but tells nobody: the caller has to see to them. It is refused as
@@ -74,7 +75,7 @@ impl<R> Hand<R> {
 impl<R> Side<R> {
     /// Frees held tags of the set whose first tag is `first`, and moves the hint to the last of them, unless it is round
     /// robin. Successive tags of the list that lie in one word take one step.
-    fn give_list(&mut self, map: &Map<R>, first: u32, tags: &[u32]) {
+    pub(crate) fn give_list(&mut self, map: &Map<R>, first: u32, tags: &[u32]) {
         give_all(map, &mut self.caller, first, tags);
         after_clear(&mut self.hint, tags[tags.len() - 1] - first);
     }

@@ -6,6 +6,7 @@ use crate::proved::tag_bell::Woken;
 use crate::proved::tag_core::Map;
 use crate::proved::tag_pool::fault::TagFault;
 use crate::proved::tag_pool::hand::Hand;
+use crate::proved::tag_pool::kind::Kind;
 use crate::proved::tag_pool::pool::Pool;
 use crate::proved::tag_pool::side::Side;
 use crate::proved::tag_search::after_clear;
@@ -21,7 +22,7 @@ impl<R: Copy> Pool<R> {
     /// not hold a tag. Nothing changes on an error.
     pub fn clear_mask(&self, hand: &mut Hand<R>, first: u32, mask: u64) -> Result<Woken, TagFault> {
         self.clear_mask_quietly(hand, first, mask)?;
-        Ok(self.wake(hand, mask.count_ones()))
+        Ok(self.wake(hand, Kind::Ordinary, mask.count_ones()))
     }
 
     /// Clears the tags as `clear_mask` does, but tells nobody: the caller has to see to them. It is refused as `clear_mask`

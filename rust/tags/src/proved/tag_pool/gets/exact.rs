@@ -11,12 +11,12 @@ use crate::proved::tag_search::Found;
 impl<R: Copy> Pool<R> {
     /// Takes this tag if it is free, and no other, by at most 22 steps. `None` means that it was found taken at some moment of
     /// the call: a hand held it, it was posted, or a sweep of another hand was about to free it. A tag that is set aside
-    /// counts as free, and a reserved one is taken like an ordinary one. Then it tells those that wait as `get` does, whatever
-    /// it answers. The hint stays where it is. `NoSuchTag` means that the number is not below the total, `Spent` that the
-    /// hand's life in the tag's set is used up.
+    /// counts as free, and a reserved one is taken like an ordinary one. Then it tells those that wait for
+    /// a tag of its kind as `get` does, whatever it answers. The hint stays where it is. `NoSuchTag` means that the number
+    /// is not below the total, `Spent` that the hand's life in the tag's set is used up.
     pub fn get_exactly(&self, hand: &mut Hand<R>, tag: u32) -> Result<Got<Option<u32>>, TagFault> {
         let Found { answer, left } = self.get_exactly_quietly(hand, tag)?;
-        let woken = self.look_after(hand, left);
+        let woken = self.look_after(hand, self.kind(tag), left);
         Ok(Got { answer, woken })
     }
 
@@ -27,11 +27,7 @@ impl<R: Copy> Pool<R> {
             let Ok(found) = hand.reserved.get_exactly(&self.reserved, tag) else {
                 return Err(TagFault::Spent);
             };
-            // Nobody waits for a reserved tag, so nobody can sleep beside those that the sweeps freed.
-            return Ok(Found {
-                answer: found.answer,
-                left: 0,
-            });
+            return Ok(found);
         }
         let number = tag - self.reserved_count;
         let Ok(Found { answer, left }) = hand.ordinary.get_exactly(&self.ordinary, number) else {

@@ -1,10 +1,12 @@
 // Made of crates/tag_pool/src/gets/quietly.rt, where the contracts are, by rust/generate.
 
-//! Gets that tell nobody: each tells how many ordinary tags its sweeps freed and it did not take, and whoever calls it
+//! Gets that tell nobody: each tells how many tags of its set its sweeps freed and it did not take, and whoever calls it
 //! sees to those tags, whatever it answered.
 
+use crate::proved::tag_core::Spent;
 use crate::proved::tag_pool::fault::TagFault;
 use crate::proved::tag_pool::hand::Hand;
+use crate::proved::tag_pool::kind::Kind;
 use crate::proved::tag_pool::pool::Pool;
 use crate::proved::tag_search::{on_map, Found, Unfinished};
 
@@ -13,11 +15,40 @@ impl<R: Copy> Pool<R> {
     /// none. Whatever it answers, the caller sees to so many (`see_to`, `wake`), or knows that nobody waits.
     #[inline(always)]
     pub fn get_quietly(&self, hand: &mut Hand<R>) -> Result<Found<u32>, TagFault> {
-        let Ok(Found { answer, left }) = hand.ordinary.get(&self.ordinary) else {
+        let Ok(found) = self.get_in_quietly(hand, Kind::Ordinary) else {
             return Err(TagFault::Spent);
         };
-        let answer = self.ordinary_tag(answer);
+        Ok(found)
+    }
+
+    /// Like `get_reserved`, but tells nobody (see `get_quietly`): `left` counts reserved tags. It is refused as `get_reserved`
+    /// is: `NoReserved`, `Spent`.
+    pub fn get_reserved_quietly(&self, hand: &mut Hand<R>) -> Result<Found<u32>, TagFault> {
+        if self.reserved_count == 0 {
+            return Err(TagFault::NoReserved);
+        }
+        let Ok(found) = self.get_in_quietly(hand, Kind::Reserved) else {
+            return Err(TagFault::Spent);
+        };
+        Ok(found)
+    }
+
+    /// Takes a free tag of this kind, and tells nobody (see `get_quietly`): `left` counts tags of this kind. `Spent` means
+    /// that the hand's life in the set is used up; nothing changes then.
+    #[inline(always)]
+    pub fn get_in_quietly(&self, hand: &mut Hand<R>, kind: Kind) -> Result<Found<u32>, Spent> {
+        let Found { answer, left } = hand.side_mut(kind).get(self.map(kind))?;
+        let answer = self.tag_in(kind, answer);
         Ok(Found { answer, left })
+    }
+
+    /// Returns the tag of this kind with this number in its set, if there is one. The number is one of the set.
+    #[inline(always)]
+    fn tag_in(&self, kind: Kind, number: Option<u32>) -> Option<u32> {
+        match kind {
+            Kind::Ordinary => self.ordinary_tag(number),
+            Kind::Reserved => number,
+        }
     }
 
     /// Begins a get as `get_quietly` makes it: its first try is the whole of most gets, and left no tag free if it won one.

@@ -1,11 +1,13 @@
 // Made of crates/tag_pool/src/gets/rounds.rt, where the contracts are, by rust/generate.
 
-//! A wait for an ordinary tag by the bell, round by round. Whoever calls sleeps between two rounds as it likes, and may end
+//! A wait for a tag of a set by the bell, round by round. Whoever calls sleeps between two rounds as it likes, and may end
 //! the wait: a limit, a stop and a cancel each only end a sleep, and a sleep that ends for no reason is one round more.
 
-use crate::proved::tag_bell::{Told, Turn, SLEEPERS};
+use crate::proved::tag_bell::{Told, Turn};
+use crate::proved::tag_core::Waiter;
 use crate::proved::tag_pool::fault::TagFault;
 use crate::proved::tag_pool::hand::Hand;
+use crate::proved::tag_pool::kind::Kind;
 use crate::proved::tag_pool::pool::Pool;
 use crate::proved::tag_search::Hint;
 
@@ -23,16 +25,18 @@ pub enum Next {
 /// How a hand sleeps between two rounds of its wait.
 pub trait Sleeper<R> {
     /// Sleeps until the hand may have been told or its wait is to end: it may return at any time. Returns whether the wait
-    /// is to end. The hand may sleep: it is listed, has tried each tag in vain since, and has nothing to see to.
-    fn sleep(&mut self, pool: &Pool<R>, hand: &Hand<R>) -> bool;
+    /// is to end. The hand waits for a tag of this kind, and may sleep: it is listed, has tried each tag in vain since, and
+    /// has nothing to see to.
+    fn sleep(&mut self, pool: &Pool<R>, hand: &Hand<R>, kind: Kind) -> bool;
 }
 
 impl<R> Hand<R> {
-    /// Returns whether the hand can wait (`wait_on`): it may win one more tag, and its next get tries each ordinary tag, as
-    /// each get does that is not round robin, and each that follows one that found none. This makes no step.
-    pub fn can_wait(&self) -> bool {
-        let Hint { at, round_robin } = self.ordinary.hint;
-        self.ordinary.caller.room(1) && (!round_robin || at == 0)
+    /// Returns whether the hand can wait for a tag of this kind (`wait_on`): it may win one more, and its next get tries each,
+    /// as each get does that is not round robin, and each that follows one that found none. This makes no step.
+    pub fn can_wait(&self, kind: Kind) -> bool {
+        let side = self.side(kind);
+        let Hint { at, round_robin } = side.hint;
+        side.caller.room(1) && (!round_robin || at == 0)
     }
 }
 
@@ -46,53 +50,74 @@ impl<R: Copy> Pool<R> {
         sleeper: &mut S,
         hand: &mut Hand<R>,
     ) -> Result<(Option<u32>, Told), TagFault> {
-        self.check_blocking(hand)?;
-        if let Some(tag) = self.try_get(hand) {
-            return Ok((Some(tag), self.see_to_all(hand)));
-        }
-        Ok(self.sleep_until(sleeper, hand))
+        self.wait_for(sleeper, hand, Kind::Ordinary)
     }
 
-    /// Sleeps among the sleepers until the hand wins a tag or the sleeper ends the wait, after a get that found none.
-    fn sleep_until<S: Sleeper<R>>(&self, sleeper: &mut S, hand: &mut Hand<R>) -> (Option<u32>, Told) {
+    /// Takes a free reserved tag like `get_reserved`, and waits for one as `get_until` does for an ordinary tag.
+    /// `NoReserved` means that there are no reserved tags, `Spent` that the hand's life in the reserved set is used up.
+    pub fn get_reserved_until<S: Sleeper<R>>(
+        &self,
+        sleeper: &mut S,
+        hand: &mut Hand<R>,
+    ) -> Result<(Option<u32>, Told), TagFault> {
+        self.wait_for(sleeper, hand, Kind::Reserved)
+    }
+
+    /// Takes a free tag of this kind, and as long as it finds none waits until the sleeper ends the wait.
+    fn wait_for<S: Sleeper<R>>(
+        &self,
+        sleeper: &mut S,
+        hand: &mut Hand<R>,
+        kind: Kind,
+    ) -> Result<(Option<u32>, Told), TagFault> {
+        self.check_blocking(hand, kind)?;
+        if let Some(tag) = self.try_get(hand, kind) {
+            return Ok((Some(tag), self.see_to_all(hand, kind)));
+        }
+        Ok(self.sleep_until(sleeper, hand, kind))
+    }
+
+    /// Sleeps until the hand wins a tag or the sleeper ends the wait, after a get that found none.
+    fn sleep_until<S: Sleeper<R>>(&self, sleeper: &mut S, hand: &mut Hand<R>, kind: Kind) -> (Option<u32>, Told) {
         let mut is_over = false;
         let mut turn = Turn::Next;
         for _ in 0..u64::MAX {
-            match self.wait_on(hand, SLEEPERS, is_over, turn) {
+            match self.wait_on(hand, kind, Waiter::Sleeper, is_over, turn) {
                 (Next::Won(tag), told) => return (Some(tag), told),
                 (Next::Over, told) => return (None, told),
                 (Next::Sleep, _) => {}
             }
-            is_over = sleeper.sleep(self, hand);
+            is_over = sleeper.sleep(self, hand, kind);
             turn = Turn::Same;
         }
-        (None, self.give_up(hand, SLEEPERS))
+        (None, self.give_up(hand, kind))
     }
 
-    /// One round of a wait in a list: lists the hand and tries each tag, or ends the wait. If it answers `Sleep`, the hand
-    /// may sleep, and can wait again. Otherwise it waits no more and has nothing to see to, and those told are to be woken.
-    pub fn wait_on(&self, hand: &mut Hand<R>, list: u32, is_over: bool, turn: Turn) -> (Next, Told) {
+    /// One round of a wait for a tag of this kind: lists the hand as this waiter and tries each tag, or ends the wait. If it
+    /// answers `Sleep`, the hand may sleep, and can wait again. Otherwise it waits no more and has nothing to see to, and
+    /// those told are to be woken.
+    pub fn wait_on(&self, hand: &mut Hand<R>, kind: Kind, waiter: Waiter, is_over: bool, turn: Turn) -> (Next, Told) {
         if is_over {
-            return (Next::Over, self.give_up(hand, list));
+            return (Next::Over, self.give_up(hand, kind));
         }
-        match self.try_listed(hand, list, turn) {
+        match self.try_listed(hand, kind, waiter, turn) {
             (Some(tag), told) => (Next::Won(tag), told),
             (None, told) => (Next::Sleep, told),
         }
     }
 
     /// Lists the hand and tries each tag. If it wins one it ends the wait, and otherwise it may sleep.
-    pub(super) fn try_listed(&self, hand: &mut Hand<R>, list: u32, turn: Turn) -> (Option<u32>, Told) {
-        self.list_self(hand, list, turn);
-        let Some(tag) = self.try_get(hand) else {
+    pub(super) fn try_listed(&self, hand: &mut Hand<R>, kind: Kind, waiter: Waiter, turn: Turn) -> (Option<u32>, Told) {
+        self.list_self(hand, kind, waiter, turn);
+        let Some(tag) = self.try_get(hand, kind) else {
             return (None, Told::none());
         };
-        (Some(tag), self.give_up(hand, list))
+        (Some(tag), self.give_up(hand, kind))
     }
 
     /// Ends a wait: gets up, and then sees to all tags.
-    fn give_up(&self, hand: &mut Hand<R>, list: u32) -> Told {
-        self.get_up(hand, list);
-        self.see_to_all(hand)
+    fn give_up(&self, hand: &mut Hand<R>, kind: Kind) -> Told {
+        self.get_up(hand, kind);
+        self.see_to_all(hand, kind)
     }
 }

@@ -1,0 +1,9 @@
+pub mod Line
+pub mod Turns
+pub mod Hands
+pub mod Submitting
+pub mod Serving
+pub mod Waits
+pub mod Opening
+pub mod Gathering
+pub mod Laws

@@ -1,9 +1,0 @@
--- The turn is one of the table's words.
-use Rattle.tag_core.proofs.Uses.{arith, layout_of}
-use Rattle.tag_core.proofs.Stand.{turn_apart}
-use Rattle.tag_core.proofs.map.Map.peek_turn.Goals as goal
-
-pub peek-requires : goal.peek-requires
-peek-requires g c =
-    let m = c.args.self.now in let inside = (turn_apart (layout_of m) c.args.caller c.requires).in_table in
-    let is = c.turn_spot.ensures in let wide = m.wide.0 in omega arith
