@@ -35,6 +35,14 @@ impl List {
     }
 }
 
+/// About a microsecond. It is a function of its own, so that what stands around it does not change its speed.
+#[inline(never)]
+fn work(tag: u32) {
+    (0..600).for_each(|it| {
+        black_box(tag + it);
+    });
+}
+
 struct Run {
     hold: Duration,
     is_over: AtomicBool,
@@ -45,9 +53,7 @@ struct Run {
 impl Run {
     fn hold(&self, tag: u32) {
         if self.hold.is_zero() {
-            (0..600).for_each(|it| {
-                black_box(tag + it);
-            });
+            work(tag);
         } else {
             thread::sleep(self.hold);
         }
