@@ -1,7 +1,8 @@
 -- Sleepers that were told and are not up yet: each of them comes to every tag.
-use Rattle.std.specs.Prelude.{◌∷◌, ◌-◌, ◌≡◌, ◌≢◌, count_ones, min}
-use Rattle.tag_bell.proofs.Uses.{[], ap, arith, Bell, Berth, bit_or, Caller, dite, inl, inr, IsDoneWith, IsTold, List, Listed, Listener, LookAt, or_zero_l, Owes, OwesNothing, Record, record_of, refl, same_waiter, Sleeper, Spot, Step, subst, sym, Tell, TellsMost, Told, Up, Waiter, ℕ, ℕ_discrete, ◌∙◌, ⊎_elim}
+use Rattle.std.specs.Prelude.{◌∷◌, ◌-◌, ◌≡◌, ◌≢◌, ◌⊎◌, count_ones, min}
+use Rattle.tag_bell.proofs.Uses.{[], ap, arith, Bell, Berth, bit_or, Caller, dite, inl, inr, IsCallerOf, IsDoneWith, IsTold, List, Listed, Listener, LookAt, or_zero_l, Owes, OwesNothing, Record, record_of, refl, same_waiter, Shape, Sleeper, Spot, Step, subst, sym, Tell, TellsMost, Told, Up, Waiter, ℕ, ℕ_discrete, ◌∙◌, ⊎_elim}
 use Rattle.tag_core.proofs.OneBit.{count_ones-zero}
+use Rattle.tag_core.specs.declared.map.Map.{Map}
 use Rattle.tag_bell.specs.Callers.{layout_of}
 use Rattle.tag_bell.specs.Coming.{coming_bit, coming_in, room_of}
 use Rattle.tag_bell.specs.Lines.{GoesOn}
@@ -34,6 +35,19 @@ module _ {R : Type 0} where
       let some : coming_in own ≢ 0 =
       λ nobody. let no_ones = count_ones-zero in let same = ap count_ones nobody in absurd (omega arith) in
       ⊎_elim (coming_owes own _ e some) (coming_owes own _ e some) owes
+
+  -- how much room a map has is how much its caller has
+  pub room_is : (m : Map R) (caller : Caller R) → IsCallerOf m caller → (coming : ℕ)
+      → coming ≡ coming_in (record_of caller).steps → m.shape.layout.depth - count_ones coming ≡ room_of caller
+  room_is m caller own coming come = let depth : m.shape.layout.depth ≡ (layout_of caller).depth =
+      sym (ap (λ (k : Shape). k.layout.depth) own.1) in λ j. depth j - count_ones (come j)
+
+  -- nobody was told, as there is room for nobody, or the caller is done with each
+  pub tells_nobody : (most told : ℕ) (kind : Waiter) (caller : Caller R) → told ≡ 0
+      → (most ≡ 0) ⊎ ((e : ℕ) → IsDoneWith (same_waiter kind) (record_of caller).steps e)
+      → TellsMost most kind told caller
+  tells_nobody most told kind caller none why = let no_ones = ap count_ones none ∙ count_ones-zero in
+      record { few = omega arith; enough = ⊎_elim (λ no. inl (no_ones ∙ sym no)) (λ done. inr done) why }
 
   module _ (m : ℕ) (told : Waiter → ℕ) (a b : Caller R) (goes : GoesOn m told a b)
       (same : coming_in (record_of b).steps ≡ coming_in (record_of a).steps) where

@@ -1,7 +1,7 @@
 -- Parts of a round, one after another.
 use Rattle.std.specs.Prelude.{◌++◌, ◌+◌, ◌∷◌, ◌≡◌, ◌≤◌, length}
 use Rattle.std.proofs.lemmas.List.{append-nil}
-use Rattle.tag_bell.proofs.Uses.{[], Adds, ap, AreInTurn, arith, Bell, Berth, bit_or, Bool, Caller, cond, false, HoldsSame, IsInRound, length-append, List, Listener, LookAt, newly_told, OnlyAdds, record_of, refl, same_waiter, Sleeper, Step, subst, sym, Tell, Tells, TellsInTurn, TellsMost, told_in, true, Waiter, WaitsAsBefore, ℕ, ◌∙◌}
+use Rattle.tag_bell.proofs.Uses.{[], Adds, ap, AreInTurn, arith, Bell, Berth, bit_or, Bool, Caller, cond, false, HoldsSame, IsDoneWith, IsInRound, length-append, List, Listener, LookAt, newly_told, nobody, OnlyAdds, OwesNothing, record_of, refl, same_waiter, Sleeper, Step, subst, sym, Tell, Tells, TellsInTurn, TellsMost, told_in, true, Waiter, WaitsAsBefore, ℕ, ◌∙◌}
 use Rattle.tag_bell.specs.declared.told.Told.{Told}
 use Rattle.tag_bell.specs.Calls.{OwesNoMore}
 use Rattle.tag_bell.specs.Lines.{GoesOn, IsLine, nobody_of, those_of}
@@ -9,9 +9,9 @@ use Rattle.tag_bell.specs.Order.{MayPass}
 use Rattle.tag_bell.specs.Rounds.{IsRound}
 use Rattle.tag_bell.specs.Telling.{TellsSleepers}
 use Rattle.tag_bell.proofs.Choosing.{in_turn_both}
-use Rattle.tag_bell.proofs.Lines.{line_on, round_on, waits_on}
+use Rattle.tag_bell.proofs.Lines.{done_owes, line_on, round_on, waits_on}
 use Rattle.tag_bell.proofs.Rounds.{still}
-use Rattle.tag_bell.proofs.Rung.{added_after, owes_no_more, rung, steps_added, told-after, told-before, waits_same}
+use Rattle.tag_bell.proofs.Rung.{added_after, owes_no_more, owes_no_spot, rung, steps_added, told-after, told-before, waits_same}
 
 -- it holds the same after two calls that keep what it holds
 pub same_held : {R : Type 0} (a b c : Caller R) → HoldsSame a b → HoldsSame b c → HoldsSame a c
@@ -76,6 +76,27 @@ module _ {R : Type 0} where
         of_sleepers = s;
         of_listeners = l;
       }
+
+  -- in a round it has nothing to see to if it is done with each
+  pub done_all : (kind : Waiter) (caller : Caller R) → IsInRound (record_of caller).steps
+      → ((e : ℕ) → IsDoneWith (same_waiter kind) (record_of caller).steps e) → OwesNothing kind caller
+  done_all kind caller now done = owes_no_spot kind [] caller caller (record { known = refl; same_map = refl })
+      (λ spot e. done_owes (same_waiter kind) e (record_of caller).steps spot now (done e))
+
+  pub by_kind : (caller : Caller R) → OwesNothing Sleeper caller → OwesNothing Listener caller → (kind : Waiter)
+      → OwesNothing kind caller
+  by_kind caller s l Sleeper = s
+  by_kind caller s l Listener = l
+
+  -- a part by which nobody was told
+  pub goes_nobody : (m : ℕ) (a b : Caller R) → GoesOn m nobody_of a b → Tells m nobody a b
+  goes_nobody m a b goes = record {
+    steps = goes.steps;
+    only = goes.only;
+    few = goes.few;
+    sleepers = sym (goes.told_is Sleeper);
+    listeners = sym (goes.told_is Listener);
+  }
 
   -- what a part of a round keeps
   module _ (m : ℕ) (told : Waiter → ℕ) (a b : Caller R) (goes : GoesOn m told a b) where

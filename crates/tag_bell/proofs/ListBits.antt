@@ -36,3 +36,7 @@ bit_missing word mask fits within part = dite (ℕ_discrete (without mask word) 
         (λ (high : 64 ≤ i). let off = bit_at_above mask 64 i within high in omega arith)
         (λ (under : ¬ (64 ≤ i)). let rest = bit_minus mask word i fits (omega arith) in
         let off : bit_at (without mask word) i ≡ 0 = ap (λ (m : ℕ). bit_at m i) none ∙ bit_at-zero i in omega arith)
+
+-- none has no bit
+pub no_bit : (mask : ℕ) → mask ≡ 0 → (i : ℕ) → bit_at mask i ≢ 1
+no_bit mask none i on = let off : bit_at mask i ≡ 0 = ap (λ (m : ℕ). bit_at m i) none ∙ bit_at-zero i in omega arith

@@ -1,7 +1,8 @@
 -- Who is listed as a call found them, with their turns, and a part of a round.
 use Rattle.std.specs.Prelude.{◌<◌, ◌≡◌, ◌≢◌, ◌≤◌, slice_index}
-use Rattle.tag_bell.specs.Uses.{Berth, bit_at, Caller, cond, IsListed, IsListedAs, length, List, Listener, record_of, same_waiter, Sleeper, Step, Waiter, ℕ}
+use Rattle.tag_bell.specs.Uses.{Berth, bit_at, Caller, cond, IsListed, IsListedAs, length, List, Listed, Listener, record_of, same_waiter, Sleeper, Step, Waiter, ℕ}
 use Rattle.tag_core.specs.declared.berth.TheConstants.{TURNS}
+use Rattle.tag_core.specs.Waits.{bit_of}
 use Rattle.tag_bell.specs.Calls.{OnlyAdds, told_in}
 use Rattle.tag_bell.specs.Order.{FoundAs}
 use Rattle.tag_bell.specs.Rounds.{IsRound}
@@ -28,6 +29,11 @@ pub record IsNoted (waiter : Waiter) (number : ℕ) (berth : Berth) (old : ℕ) 
   pub rest : (e : ℕ) → e ≢ number → (bit_at new e ≡ bit_at old e) × (slice_index turns e ≡ slice_index was e)
   pub listed : bit_at new number ≡ 1 → IsListedAs waiter (slice_index turns number) berth
   pub other : bit_at new number ≢ 1 → ¬ IsListed (same_waiter waiter) berth
+
+-- the bit of this caller if its berth shows it listed as this waiter, else 0
+abbrev pub listed_bit : Waiter → ℕ → Berth → ℕ
+listed_bit kind whom (Listed waiter turn) = cond (same_waiter kind waiter) (bit_of whom) 0
+listed_bit kind whom found = 0
 
 -- these callers, for one kind of waiter, and nobody
 abbrev pub those_of : Waiter → ℕ → Waiter → ℕ

@@ -1,5 +1,5 @@
 -- Whom a call tells, in which order, and how many.
-use Rattle.std.specs.Prelude.{◌++◌, ◌∷◌, ◌≡◌, ◌≤◌, ◌⊎◌, min}
+use Rattle.std.specs.Prelude.{◌++◌, ◌∷◌, ◌≡◌, ◌≢◌, ◌≤◌, ◌⊎◌, min}
 use Rattle.tag_bell.specs.Uses.{[], Bell, bit_at, Bool, Caller, count_ones, IsListed, List, Listener, LookAll, LookAt, record_of, same_waiter, Sleeper, Step, Tell, Waiter, ℕ}
 use Rattle.tag_bell.specs.declared.told.Told.{Told}
 use Rattle.tag_bell.specs.Calls.{OnlyAdds, told_in}
@@ -24,6 +24,10 @@ IsDoneWith kinds (Bell (LookAt whom found) ∷ older) e = ((whom ≡ e) × ¬ Is
 IsDoneWith kinds (Bell (Tell whom waiter turn found) ∷ older) e =
     ((whom ≡ e) × FoundAs older e waiter turn) ⊎ IsDoneWith kinds older e
 IsDoneWith kinds (step ∷ older) e = IsDoneWith kinds older e
+
+-- it is done with each caller outside the mask
+abbrev pub IsDoneOutside : {R : Type 0} → Waiter → ℕ → Caller R → Type 0
+IsDoneOutside kind mask caller = (e : ℕ) → bit_at mask e ≢ 1 → IsDoneWith (same_waiter kind) (record_of caller).steps e
 
 -- each tell among these steps, which came after those, was in turn: it passed over nobody who waits as the same
 abbrev pub AreInTurn : {R : Type 0} → List (Step R) → List (Step R) → Type 0

@@ -22,7 +22,7 @@ pub fn settle<R>(map: &Map<R>, caller: &mut Caller<R>) -> Told
     requires caller { IsCallerOf map.now caller.old }
     ensures caller { IsCallerOf map.now caller.new }
     ensures done { (kind : WaiterIs) → OwesNothing kind caller.new }
-    ensures told { Tells (2 * words (layout_of map.now) + 2 * MAX_CALLERS + 2) result caller.old caller.new }
+    ensures told { Tells (2 * words (layout_of map.now) + 3 * MAX_CALLERS + 2) result caller.old caller.new }
     ensures turns { (result ≡ nobody) ⊎ TellsInTurn 1 result caller.old caller.new }
     ensures saw { (result ≡ nobody) ⊎ SawFree caller.old caller.new }
     ensures waits { WaitsAsBefore caller.old caller.new }
@@ -41,7 +41,7 @@ fn look_through<R>(map: &Map<R>, caller: &mut Caller<R>) -> Told
     requires caller { IsCallerOf map.now caller.old }
     ensures caller { IsCallerOf map.now caller.new }
     ensures done { (kind : WaiterIs) → OwesNothing kind caller.new }
-    ensures told { Tells (2 * words (layout_of map.now) + (2 * MAX_CALLERS + 1)) result caller.old caller.new }
+    ensures told { Tells (2 * words (layout_of map.now) + (3 * MAX_CALLERS + 1)) result caller.old caller.new }
     ensures turns { (result ≡ nobody) ⊎ TellsInTurn 1 result caller.old caller.new }
     ensures saw { (result ≡ nobody) ⊎ SawFree caller.old caller.new }
     ensures waits { WaitsAsBefore caller.old caller.new }

@@ -1,22 +1,21 @@
 //! How a caller that made tags free sees to them: it tells others that wait.
-ghost use Rattle.std.specs.Prelude.{◌≡◌, ◌≢◌, ℕ, ◌*◌, ◌+◌, ◌<◌, ◌≤◌, ⊤, count_ones, false, max, slice_index};
+ghost use Rattle.std.specs.Prelude.{◌≡◌, ◌≢◌, ℕ, ◌*◌, ◌+◌, ◌-◌, ◌<◌, ◌≤◌, ◌↔◌, ◌⊎◌, ⊤, count_ones, false, max, slice_index};
+ghost use Rattle.std.specs.Prelude.{IsTrue};
 ghost use Rattle.std.specs.Int.{bit_at};
 ghost use Rattle.tag_model.specs.declared.world.TheConstants.{MAX_CALLERS};
 ghost use Rattle.tag_core.specs.declared.berth.Waiter.{Waiter as WaiterIs};
-ghost use Rattle.tag_core.specs.declared.berth.Waiter.TheVariants.{Sleeper};
-ghost use Rattle.tag_core.specs.Berths.{same_waiter};
-ghost use Rattle.tag_core.specs.Callers.{IsCallerOf, record_of};
+ghost use Rattle.tag_core.specs.declared.berth.Waiter.TheVariants.{Listener, Sleeper};
+ghost use Rattle.tag_core.specs.Callers.{IsCallerOf, layout_of, record_of};
 ghost use Rattle.tag_core.specs.Holding.{HoldsSame};
 ghost use Rattle.tag_bell.specs.Callers.{WaitsAsBefore, OwesNothing};
 ghost use Rattle.tag_bell.specs.Calls.{FindsWaiters, Tells};
 ghost use Rattle.tag_bell.specs.Coming.{coming_in};
-ghost use Rattle.tag_bell.specs.Lines.{AreLines, GoesOn, IsLine, nobody_of, those_of};
-ghost use Rattle.tag_bell.specs.Telling.{IsDoneWith, IsInRound, TellsInTurn, TellsMost, TellsSleepers};
+ghost use Rattle.tag_bell.specs.Lines.{GoesOn, IsLine, those_of};
+ghost use Rattle.tag_bell.specs.Telling.{IsDoneOutside, IsInRound, TellsInTurn, TellsMost, TellsSleepers};
 
-use crate::found::{Found, ROOM};
+use crate::found::{Found, Masks, ROOM, bits_of, look_again, look_at_each};
 use crate::told::Told;
 use tag_core::{Caller, Map, Unroused, Waiter};
-use tag_model::MAX_CALLERS;
 
 /// Sees to all that the caller has to see to, after it made `freed` tags free: where somebody waits, it tells up to
 /// `freed` callers of each kind, and one at least, in the order of their turns; but no more sleepers than make, with
@@ -27,7 +26,7 @@ pub fn see_to<R>(map: &Map<R>, caller: &mut Caller<R>, freed: u32) -> Told
     requires caller { IsCallerOf map.now caller.old }
     ensures caller { IsCallerOf map.now caller.new }
     ensures done { (kind : WaiterIs) → OwesNothing kind caller.new }
-    ensures told { Tells (2 * MAX_CALLERS + 1) result caller.old caller.new }
+    ensures told { Tells (3 * MAX_CALLERS + 1) result caller.old caller.new }
     ensures turns { TellsInTurn (max freed 1) result caller.old caller.new }
     ensures waits { WaitsAsBefore caller.old caller.new }
     ensures kept { HoldsSame caller.old caller.new }
@@ -53,14 +52,45 @@ pub fn finds_waiters<R>(map: &Map<R>, caller: &mut Caller<R>) -> bool
     map.look_all(caller) != 0
 }
 
-/// Tells callers of each kind, after one look at each berth of those that were found waiting.
+/// Looks once at each berth of those that were found waiting, and tells callers of each kind, if any is to be told.
 #[inline(never)]
 fn tell_each<R>(map: &Map<R>, caller: &mut Caller<R>, freed: u32, waiting: u64) -> Told
     requires caller { IsCallerOf map.now caller.old }
     requires round { IsInRound (record_of caller.old).steps }
-    requires others { (e : ℕ) → bit_at waiting e ≢ 1 → (kind : WaiterIs)
-        → IsDoneWith (same_waiter kind) (record_of caller.old).steps e }
+    requires others { (kind : WaiterIs) → IsDoneOutside kind waiting caller.old }
     requires coming { coming_in (record_of caller.old).steps ≡ 0 }
+    ensures caller { IsCallerOf map.now caller.new }
+    ensures done { (kind : WaiterIs) → OwesNothing kind caller.new }
+    ensures told { Tells (3 * MAX_CALLERS) result caller.old caller.new }
+    ensures turns { TellsInTurn (max freed 1) result caller.old caller.new }
+    ensures waits { WaitsAsBefore caller.old caller.new }
+    ensures kept { HoldsSame caller.old caller.new }
+{
+    let masks = look_at_each(map, caller, waiting);
+    if has_nobody_to_tell(map, &masks) {
+        return Told::none();
+    }
+    tell_listed(map, caller, freed, &masks)
+}
+
+/// Returns whether nobody is to be told: no listener was found listed, and either no sleeper was, or as many come as
+/// there are tags.
+fn has_nobody_to_tell<R>(map: &Map<R>, masks: &Masks) -> bool
+    ensures { IsTrue result ↔ ((masks.now.listeners ≡ 0)
+        × ((masks.now.sleepers ≡ 0) ⊎ ((layout_of map.now).depth ≤ count_ones masks.now.coming))) }
+{
+    masks.listeners == 0 && (masks.sleepers == 0 || room_beside(map, masks.coming) == 0)
+}
+
+/// Looks once more at each berth of those that were found listed, and tells callers of each kind. Only these looks note
+/// turns: mostly the first ones find nobody to be told.
+#[inline(never)]
+fn tell_listed<R>(map: &Map<R>, caller: &mut Caller<R>, freed: u32, masks: &Masks) -> Told
+    requires caller { IsCallerOf map.now caller.old }
+    requires round { IsInRound (record_of caller.old).steps }
+    requires sleepers { IsDoneOutside Sleeper masks.now.sleepers caller.old }
+    requires listeners { IsDoneOutside Listener masks.now.listeners caller.old }
+    requires coming { masks.now.coming ≡ coming_in (record_of caller.old).steps }
     ensures caller { IsCallerOf map.now caller.new }
     ensures done { (kind : WaiterIs) → OwesNothing kind caller.new }
     ensures told { Tells (2 * MAX_CALLERS) result caller.old caller.new }
@@ -68,7 +98,11 @@ fn tell_each<R>(map: &Map<R>, caller: &mut Caller<R>, freed: u32, waiting: u64) 
     ensures waits { WaitsAsBefore caller.old caller.new }
     ensures kept { HoldsSame caller.old caller.new }
 {
-    let found = look_at_each(map, caller, waiting);
+    let mut found = Found {
+        masks: Masks::of_coming(masks.coming),
+        turns: [0; ROOM],
+    };
+    look_again(map, caller, masks.sleepers | masks.listeners, &mut found);
     let most = freed.max(1);
     let sleepers = tell_sleepers(map, caller, most, &found);
     let listeners = tell_in_turn(
@@ -76,7 +110,7 @@ fn tell_each<R>(map: &Map<R>, caller: &mut Caller<R>, freed: u32, waiting: u64) 
         caller,
         Waiter::Listener,
         most,
-        found.listeners,
+        found.masks.listeners,
         &found.turns,
     );
     Told {
@@ -85,58 +119,40 @@ fn tell_each<R>(map: &Map<R>, caller: &mut Caller<R>, freed: u32, waiting: u64) 
     }
 }
 
-/// Looks once at the berth of each caller that was found waiting. Returns those that it finds listed.
-fn look_at_each<R>(map: &Map<R>, caller: &mut Caller<R>, waiting: u64) -> Found
-    requires caller { IsCallerOf map.now caller.old }
-    requires round { IsInRound (record_of caller.old).steps }
-    requires others { (e : ℕ) → bit_at waiting e ≢ 1 → (kind : WaiterIs)
-        → IsDoneWith (same_waiter kind) (record_of caller.old).steps e }
-    requires coming { coming_in (record_of caller.old).steps ≡ 0 }
-    ensures caller { IsCallerOf map.now caller.new }
-    ensures lines { AreLines (λ e. ⊤) result.sleepers result.listeners result.turns (record_of caller.new).steps }
-    ensures coming { result.coming ≡ coming_in (record_of caller.new).steps }
-    ensures few { count_ones result.sleepers + count_ones result.listeners ≤ MAX_CALLERS }
-    ensures goes { GoesOn MAX_CALLERS nobody_of caller.old caller.new }
-    ensures kept { HoldsSame caller.old caller.new }
-{
-    let mut found = Found::nobody();
-    for number in 0..bits_of(waiting) {
-        if waiting >> number & 1 == 1 {
-            let berth = map.look_at(caller, number);
-            found.note(number, berth);
-        }
-    }
-    found
-}
-
 /// Tells up to `most` of the sleepers that were found listed, unless those that come, together with them, would be more
 /// than there are tags. A listener that was told may never learn of it, so for those nobody is left out.
 fn tell_sleepers<R>(map: &Map<R>, caller: &mut Caller<R>, most: u32, found: &Found) -> Unroused
     requires caller { IsCallerOf map.now caller.old }
     requires some { most ≢ 0 }
     requires round { IsInRound (record_of caller.old).steps }
-    requires line { IsLine Sleeper (λ e. ⊤) found.now.sleepers found.now.turns (record_of caller.old).steps }
-    requires coming { found.now.coming ≡ coming_in (record_of caller.old).steps }
+    requires line { IsLine Sleeper (λ e. ⊤) found.now.masks.sleepers found.now.turns (record_of caller.old).steps }
+    requires coming { found.now.masks.coming ≡ coming_in (record_of caller.old).steps }
     ensures caller { IsCallerOf map.now caller.new }
     ensures done { OwesNothing Sleeper caller.new }
     ensures most { TellsSleepers most result caller.new }
-    ensures goes { GoesOn (count_ones found.now.sleepers) (those_of Sleeper result) caller.old caller.new }
+    ensures goes { GoesOn (count_ones found.now.masks.sleepers) (those_of Sleeper result) caller.old caller.new }
     ensures kept { HoldsSame caller.old caller.new }
 {
-    let coming = found.coming.count_ones();
-    let tags = map.layout().depth();
-    if coming >= tags {
+    let room = most.min(room_beside(map, found.masks.coming));
+    if room == 0 {
         return Unroused::none();
     }
-    let room = most.min(tags - coming);
     tell_in_turn(
         map,
         caller,
         Waiter::Sleeper,
         room,
-        found.sleepers,
+        found.masks.sleepers,
         &found.turns,
     )
+}
+
+/// Returns how many sleepers can be told beside those that come: with these, as many as there are tags.
+fn room_beside<R>(map: &Map<R>, coming: u64) -> u32
+    ensures { result ≡ (layout_of map.now).depth - count_ones coming }
+{
+    let tags = map.layout().depth();
+    tags.saturating_sub(coming.count_ones())
 }
 
 /// Tells up to `most` of those that were found listed as this waiter, in the order of their turns. One that listed itself
@@ -173,14 +189,6 @@ fn tell_in_turn<R>(
         told.join(one);
     }
     told
-}
-
-/// Returns the number of bits of a mask up to its highest 1: no caller from there on is in it.
-fn bits_of(callers: u64) -> u32
-    ensures within { result ≤ MAX_CALLERS }
-    ensures above { (e : ℕ) → result ≤ e → bit_at callers e ≡ 0 }
-{
-    MAX_CALLERS - callers.leading_zeros()
 }
 
 /// Returns the one of these callers that has the lowest turn.

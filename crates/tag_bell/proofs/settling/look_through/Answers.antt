@@ -9,7 +9,7 @@ use Rattle.tag_bell.proofs.settling.look_through.Goals as goal
 pub returns-then-has_free-clause-told : goal.returns-then-has_free-clause-told
 returns-then-has_free-clause-told g c =
     let first = c.args.caller.now in let old = c.loop-word.caller in let new = c.has_free.new.caller in
-    let w = c.loop-word.word in let n = words (layout_of c.args.map.now) in let tells = 2 * MAX_CALLERS + 1 in
+    let w = c.loop-word.word in let n = words (layout_of c.args.map.now) in let tells = 3 * MAX_CALLERS + 1 in
     let end : c.words-word-end.result ≡ words (layout_of c.args.map.now) = c.words-word-end.ensures.value
     ∙ ap (λ (l : Layout). words l) c.layout.ensures in
     let low : w < words (layout_of c.args.map.now) = let t = c.loop-word-test.true in omega arith in

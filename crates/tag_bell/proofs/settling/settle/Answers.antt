@@ -8,8 +8,8 @@ use Rattle.tag_bell.proofs.settling.settle.Goals as goal
 
 pub returns-clause-told : goal.returns-clause-told
 returns-clause-told g c = let n = words (layout_of c.args.map.now) in let look = c.finds_waiters in
-    let tells = 2 * n + (2 * MAX_CALLERS + 1) in
-    tells_within (1 + tells) (2 * n + 2 * MAX_CALLERS + 2) c.look_through.result c.args.caller.now
+    let tells = 2 * n + (3 * MAX_CALLERS + 1) in
+    tells_within (1 + tells) (2 * n + 3 * MAX_CALLERS + 2) c.look_through.result c.args.caller.now
     c.look_through.new.caller (omega arith) (tells_after 1 tells c.look_through.result c.args.caller.now look.new.caller
     c.look_through.new.caller (looked_tells look.result c.args.caller.now look.new.caller look.ensures.finds)
     c.look_through.ensures.told)

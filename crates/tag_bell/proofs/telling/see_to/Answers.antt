@@ -1,9 +1,9 @@
 -- Where nobody waits, the look ends what the caller has to see to; else it comes before what is told.
-use Rattle.std.specs.Prelude.{◌*◌, ◌+◌, ◌∷◌, ◌≡◌, ◌≤◌}
-use Rattle.tag_bell.proofs.Uses.{[], Adds, ap, arith, Bell, bit_at, bit_at-lt, bit_at-zero, Caller, count_ones, inr, IsDoneWith, IsInRound, List, Listener, LookAll, max, MAX_CALLERS, min, nobody, OnlyAdds, record_of, refl, same_waiter, Sleeper, Step, subst, sym, Tells, Waiter, ℕ, ◌∙◌}
-use Rattle.tag_core.proofs.OneBit.{count_ones-zero}
-use Rattle.tag_bell.specs.Coming.{coming_in, room_of}
+use Rattle.std.specs.Prelude.{◌*◌, ◌+◌, ◌∷◌, ◌≡◌}
+use Rattle.tag_bell.proofs.Uses.{[], Adds, ap, arith, Bell, bit_at, bit_at-lt, bit_at-zero, Caller, inr, IsDoneWith, IsInRound, List, Listener, LookAll, max, MAX_CALLERS, nobody, OnlyAdds, record_of, refl, same_waiter, Sleeper, Step, subst, sym, Tells, Waiter, ℕ, ◌∙◌}
+use Rattle.tag_bell.specs.Coming.{coming_in}
 use Rattle.tag_bell.proofs.Choosing.{turn_after}
+use Rattle.tag_bell.proofs.Coming.{tells_nobody}
 use Rattle.tag_bell.proofs.Rung.{owes_no_spot, rung, steps_added, tells_after, tells_within}
 use Rattle.tag_bell.proofs.telling.see_to.Goals as goal
 
@@ -48,7 +48,7 @@ returns-then-waiting-eq0-clause-told g c = let look = c.look_all-waiting in reco
 }
 
 pub returns-then-waiting-eq0-clause-turns : goal.returns-then-waiting-eq0-clause-turns
-returns-then-waiting-eq0-clause-turns g c = let look = c.look_all-waiting in let most = max c.args.freed 1 in
+returns-then-waiting-eq0-clause-turns g c = let look = c.look_all-waiting in
     let done = λ (kind : Waiter) (e : ℕ). done_with look.result c.args.caller.now look.new.caller look.ensures.step kind e
     (nobody_there look.result c.if-waiting-eq0.true e) in record {
       first = Bell (LookAll look.result) ∷ [];
@@ -57,16 +57,10 @@ returns-then-waiting-eq0-clause-turns g c = let look = c.look_all-waiting in let
       tells_none = λ kind. refl;
       are = tt;
       in_turn = tt;
-      of_sleepers = record {
-        few = subst (λ (n : ℕ). count_ones n ≤ min most (room_of look.new.caller)) (sym c.none.ensures.0)
-            (let none = count_ones-zero in omega arith);
-        enough = inr (done Sleeper);
-      };
-      of_listeners = record {
-        few = subst (λ (n : ℕ). count_ones n ≤ most) (sym c.none.ensures.1)
-            (let none = count_ones-zero in omega arith);
-        enough = inr (done Listener);
-      };
+      of_sleepers = tells_nobody _ c.none.result.sleepers Sleeper look.new.caller c.none.ensures.0
+          (inr (done Sleeper));
+      of_listeners = tells_nobody _ c.none.result.listeners Listener look.new.caller c.none.ensures.1
+          (inr (done Listener));
     }
 
 pub tell_each-requires-clause-round : goal.tell_each-requires-clause-round
@@ -78,13 +72,13 @@ tell_each-requires-clause-coming g c = let look = c.look_all-waiting in
     ap coming_in (own look.result c.args.caller.now look.new.caller look.ensures.step)
 
 pub tell_each-requires-clause-others : goal.tell_each-requires-clause-others
-tell_each-requires-clause-others g c e off kind = let look = c.look_all-waiting in let low = bit_at-lt look.result e in
+tell_each-requires-clause-others g c kind e off = let look = c.look_all-waiting in let low = bit_at-lt look.result e in
     done_with look.result c.args.caller.now look.new.caller look.ensures.step kind e (omega arith)
 
 pub returns-clause-told : goal.returns-clause-told
 returns-clause-told g c = let look = c.look_all-waiting in let old = c.args.caller.now in
-    tells_within (1 + 2 * MAX_CALLERS) (2 * MAX_CALLERS + 1) c.tell_each.result old c.tell_each.new.caller (omega arith)
-    (tells_after 1 (2 * MAX_CALLERS) c.tell_each.result old look.new.caller c.tell_each.new.caller
+    tells_within (1 + 3 * MAX_CALLERS) (3 * MAX_CALLERS + 1) c.tell_each.result old c.tell_each.new.caller (omega arith)
+    (tells_after 1 (3 * MAX_CALLERS) c.tell_each.result old look.new.caller c.tell_each.new.caller
     (look_tells look.result old look.new.caller look.ensures.step) c.tell_each.ensures.told)
 
 pub returns-clause-turns : goal.returns-clause-turns

@@ -1,12 +1,10 @@
 -- Each is told in its turn, and one that was told ends all that the caller has to see to.
 use Rattle.std.specs.Prelude.{◌+◌, ◌≡◌, ◌≢◌, count_ones, slice_index}
 use Rattle.std.proofs.lemmas.Nat.{one_shl}
-use Rattle.tag_bell.proofs.Uses.{[], ap, arith, bit_at, bit_at-zero, bit_or, List, newly_told, record_of, refl, same_waiter, subst, sym, without, ℕ, ◌∙◌}
-use Rattle.tag_bell.proofs.Goes.{same_held}
-use Rattle.tag_bell.proofs.Lines.{done_owes}
+use Rattle.tag_bell.proofs.Uses.{ap, arith, bit_at, bit_at-zero, bit_or, List, newly_told, refl, subst, sym, without, ℕ, ◌∙◌}
+use Rattle.tag_bell.proofs.Goes.{done_all, same_held}
 use Rattle.tag_bell.proofs.OneTell.{tells_more, tells_none, TellsOn}
 use Rattle.tag_bell.proofs.Ones.{ones_less}
-use Rattle.tag_bell.proofs.Rung.{owes_no_spot}
 use Rattle.tag_bell.proofs.telling.tell_in_turn.Goals.{then-callers-ne0, else-callers-ne0}
 use Rattle.tag_bell.proofs.telling.tell_in_turn.Goals as goal
 
@@ -77,6 +75,5 @@ loop-left-smaller g c = let whom : ℕ = c.earliest-whom.result in let pick = c.
 pub returns-after-loop-left-clause-done : goal.returns-after-loop-left-clause-done
 returns-after-loop-left-clause-done g c = let inv = c.loop-left.invariant in let now = c.loop-left.caller in
     let off = λ (e : ℕ). ap (λ (n : ℕ). bit_at n e) c.loop-left-test.false ∙ bit_at-zero e in
-    owes_no_spot c.args.waiter [] now now (record { known = refl; same_map = refl })
-    (λ spot e. done_owes (same_waiter c.args.waiter) e (record_of now).steps spot inv.round
-    (inv.line.others e (λ on. let none : bit_at c.loop-left.left e ≡ 0 = off e in absurd (omega arith)) tt))
+    done_all c.args.waiter now inv.round
+    (λ e. inv.line.others e (λ on. let none : bit_at c.loop-left.left e ≡ 0 = off e in absurd (omega arith)) tt)

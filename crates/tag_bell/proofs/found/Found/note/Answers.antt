@@ -1,64 +1,47 @@
 -- Whoever is listed gets its bit and its turn.
-use Rattle.std.specs.Prelude.{◌%◌, ◌*◌, ◌+◌, ◌<◌, ◌^◌, ◌≡◌, count_ones, slice_index}
+use Rattle.std.specs.Prelude.{◌<◌, ◌≡◌, slice_index}
 use Rattle.std.proofs.Common.{length, set}
-use Rattle.std.proofs.lemmas.Nat.{one_shl}
-use Rattle.tag_bell.proofs.Uses.{ap, arith, Berth, bit_at, bit_or, IsListedAs, List, Listed, Listener, or_zero_r, refl, Sleeper, subst, sym, Told, Waiter, ℕ, ◌∙◌}
-use Rattle.tag_bell.specs.Coming.{coming_bit}
-use Rattle.tag_bell.specs.Lines.{IsNoted}
-use Rattle.tag_bell.proofs.Noting.{noted_on, stored_here, stored_rest}
-use Rattle.tag_bell.proofs.Ones.{ones_with}
+use Rattle.tag_bell.proofs.Uses.{arith, Berth, bit_at, bit_or, List, Listed, Listener, refl, Sleeper, subst, sym, Waiter, ℕ}
+use Rattle.tag_bell.proofs.Noting.{any_turn, few_marked, HasTurn, noted, stored_here, stored_rest}
+use Rattle.tag_bell.specs.Lines.{IsNoted, listed_bit}
 use Rattle.tag_bell.proofs.found.Found.note.Goals as goal
 
--- its bit and its turn, as the code computes them
-noted : (waiter own : Waiter) (number turn mask : ℕ) (was : List ℕ) (berth : Berth) → number < 64 → number < length was
-    → berth ≡ Listed own turn → own ≡ waiter
-    → IsNoted waiter number berth mask was (bit_or mask (1 * 2 ^ number % 2 ^ 64)) (set was number turn)
-noted waiter own number turn mask was berth low long is same =
-    subst (λ (bit : ℕ). IsNoted waiter number berth mask was (bit_or mask bit) (set was number turn))
-    (sym (one_shl number 64 low)) (noted_on waiter number berth mask was (set was number turn)
-    (stored_rest was number turn)
-    (subst (λ (b : Berth). IsListedAs waiter (slice_index (set was number turn) number) b) (sym is)
-    (same, stored_here was number turn long)))
+-- of one that is listed
+stored : (waiter own : Waiter) (number turn old new : ℕ) (was : List ℕ) (b : Berth)
+    → new ≡ bit_or old (listed_bit waiter number b) → bit_at old number ≡ 0 → number < length was → b ≡ Listed own turn
+    → IsNoted waiter number b old was new (set was number turn)
+stored waiter own number turn old new was b is clear low listed = noted waiter number b old new is was
+    (set was number turn) clear (stored_rest was number turn)
+    (subst (λ (x : Berth). HasTurn (slice_index (set was number turn) number) x) (sym listed)
+    (stored_here was number turn low))
 
-more : (mask number : ℕ) → number < 64 → bit_at mask number ≡ 0
-    → count_ones (bit_or mask (1 * 2 ^ number % 2 ^ 64)) ≡ count_ones mask + 1
-more mask number low clear = subst (λ (bit : ℕ). count_ones (bit_or mask bit) ≡ count_ones mask + 1)
-    (sym (one_shl number 64 low)) (ones_with mask number clear)
+pub returns-in-Listed-clause-sleepers : goal.returns-in-Listed-clause-sleepers
+returns-in-Listed-clause-sleepers c = let room = c.requires.room in let low = c.requires.within in
+    let masks = c.args.self.now.masks in stored Sleeper c.in-Listed.field-0 c.args.number c.in-Listed.turn
+    masks.sleepers c.note.new.self.sleepers c.args.self.now.turns c.args.berth c.note.ensures.sleepers
+    c.requires.first.0 (omega arith) c.in-Listed.is
 
-pub returns-in-Sleeper-clause-sleepers : goal.returns-in-Sleeper-clause-sleepers
-returns-in-Sleeper-clause-sleepers c = let long = c.requires.room in let low = c.requires.within in
-    noted Sleeper c.in-Listed.waiter c.args.number c.in-Listed.turn c.args.self.now.sleepers c.args.self.now.turns
-    c.args.berth low (omega arith) c.in-Listed.is c.in-Sleeper.is
+pub returns-in-Listed-clause-listeners : goal.returns-in-Listed-clause-listeners
+returns-in-Listed-clause-listeners c = let room = c.requires.room in let low = c.requires.within in
+    let masks = c.args.self.now.masks in stored Listener c.in-Listed.field-0 c.args.number c.in-Listed.turn
+    masks.listeners c.note.new.self.listeners c.args.self.now.turns c.args.berth c.note.ensures.listeners
+    c.requires.first.1 (omega arith) c.in-Listed.is
 
-pub returns-in-Sleeper-clause-few : goal.returns-in-Sleeper-clause-few
-returns-in-Sleeper-clause-few c =
-    let one = more c.args.self.now.sleepers c.args.number c.requires.within c.requires.first.0 in omega arith
+pub returns-in-Listed-clause-few : goal.returns-in-Listed-clause-few
+returns-in-Listed-clause-few c = let masks = c.args.self.now.masks in let more = c.note.new.self in
+    few_marked masks.sleepers masks.listeners more.sleepers more.listeners c.args.number c.args.berth c.requires.first
+    c.note.ensures.sleepers c.note.ensures.listeners
 
-pub returns-in-Listener-clause-listeners : goal.returns-in-Listener-clause-listeners
-returns-in-Listener-clause-listeners c = let long = c.requires.room in let low = c.requires.within in
-    noted Listener c.in-Listed.waiter c.args.number c.in-Listed.turn c.args.self.now.listeners c.args.self.now.turns
-    c.args.berth low (omega arith) c.in-Listed.is c.in-Listener.is
-
-pub returns-in-Listener-clause-few : goal.returns-in-Listener-clause-few
-returns-in-Listener-clause-few c =
-    let one = more c.args.self.now.listeners c.args.number c.requires.within c.requires.first.1 in omega arith
-
--- nobody comes by this berth
-none_met : (mask number : ℕ) (berth seen : Berth) → berth ≡ seen → coming_bit number seen ≡ 0
-    → mask ≡ bit_or mask (coming_bit number berth)
-none_met mask number berth seen is none = sym (ap (bit_or mask) (ap (coming_bit number) is ∙ none) ∙ or_zero_r mask)
-
-pub returns-in-Sleeper-clause-coming : goal.returns-in-Sleeper-clause-coming
-returns-in-Sleeper-clause-coming c =
-    none_met c.args.self.now.coming c.args.number c.args.berth _ c.in-Listed.is refl
-
-pub returns-in-Listener-clause-coming : goal.returns-in-Listener-clause-coming
-returns-in-Listener-clause-coming c =
-    none_met c.args.self.now.coming c.args.number c.args.berth _ c.in-Listed.is refl
-
-pub returns-in-Up-clause-coming : goal.returns-in-Up-clause-coming
-returns-in-Up-clause-coming c = none_met c.args.self.now.coming c.args.number c.args.berth _ c.in-Up.is refl
-
-pub returns-in-Listener-waiter-clause-coming : goal.returns-in-Listener-waiter-clause-coming
-returns-in-Listener-waiter-clause-coming c = none_met c.args.self.now.coming c.args.number c.args.berth _
-    (c.in-Told.is ∙ ap (λ (w : Waiter). Told w c.in-Told.field-1) c.in-Listener-waiter.is) refl
+pub returns-in_default : goal.returns-in_default
+returns-in_default c = let masks = c.args.self.now.masks in let more = c.note.new.self in
+    let turns = c.args.self.now.turns in
+    let has = any_turn (slice_index turns c.args.number) c.args.berth c.in_default.not-Listed in record {
+      room = c.requires.room;
+      sleepers = noted Sleeper c.args.number c.args.berth masks.sleepers more.sleepers c.note.ensures.sleepers
+          turns turns c.requires.first.0 (λ e ne. refl) has;
+      listeners = noted Listener c.args.number c.args.berth masks.listeners more.listeners c.note.ensures.listeners
+          turns turns c.requires.first.1 (λ e ne. refl) has;
+      coming = c.note.ensures.coming;
+      few = few_marked masks.sleepers masks.listeners more.sleepers more.listeners c.args.number c.args.berth
+          c.requires.first c.note.ensures.sleepers c.note.ensures.listeners;
+    }

@@ -1,6 +1,6 @@
 -- The leading zeros are all that is above it.
 use Rattle.tag_bell.proofs.Uses.{arith, bit_at_above, leading_length}
-use Rattle.tag_bell.proofs.telling.bits_of.Goals as goal
+use Rattle.tag_bell.proofs.found.bits_of.Goals as goal
 
 pub returns-clause-above : goal.returns-clause-above
 returns-clause-above c e high = let length = leading_length 64 c.args.callers c.ranges.callers.fits in
