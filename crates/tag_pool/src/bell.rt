@@ -73,7 +73,7 @@ impl<R: Copy> Pool<R> {
     /// Sees to all that the hand has to see to, after it made `freed` tags of this kind free: where somebody waits, it tells
     /// up to `freed` sleepers and as many listeners, and one of each at least, in the order of their turns; but no more
     /// sleepers than make, with those that were told and are not up yet, as many as the set has tags. Returns those told, who
-    /// are to be woken. Where nobody waits it makes one load, and otherwise at most 129 steps.
+    /// are to be woken. Where nobody waits it makes one load, and otherwise at most 193 steps.
     #[inline]
     pub fn see_to(&self, hand: &mut Hand<R>, kind: Kind, freed: u32) -> Told
         requires hand { IsHandOf self.now hand.old }

@@ -2,10 +2,9 @@
 
 //! How a caller that made tags free sees to them: it tells others that wait.
 
-use crate::proved::tag_bell::found::{Found, ROOM};
+use crate::proved::tag_bell::found::{bits_of, look_again, look_at_each, Found, Masks, ROOM};
 use crate::proved::tag_bell::told::Told;
 use crate::proved::tag_core::{Caller, Map, Unroused, Waiter};
-use crate::proved::tag_model::MAX_CALLERS;
 
 /// Sees to all that the caller has to see to, after it made `freed` tags free: where somebody waits, it tells up to
 /// `freed` callers of each kind, and one at least, in the order of their turns; but no more sleepers than make, with
@@ -27,38 +26,51 @@ pub fn finds_waiters<R>(map: &Map<R>, caller: &mut Caller<R>) -> bool {
     map.look_all(caller) != 0
 }
 
-/// Tells callers of each kind, after one look at each berth of those that were found waiting.
+/// Looks once at each berth of those that were found waiting, and tells callers of each kind, if any is to be told.
 #[inline(never)]
 fn tell_each<R>(map: &Map<R>, caller: &mut Caller<R>, freed: u32, waiting: u64) -> Told {
-    let found = look_at_each(map, caller, waiting);
-    let most = freed.max(1);
-    let sleepers = tell_sleepers(map, caller, most, &found);
-    let listeners = tell_in_turn(map, caller, Waiter::Listener, most, found.listeners, &found.turns);
-    Told { sleepers, listeners }
+    let masks = look_at_each(map, caller, waiting);
+    if has_nobody_to_tell(map, &masks) {
+        return Told::none();
+    }
+    tell_listed(map, caller, freed, &masks)
 }
 
-/// Looks once at the berth of each caller that was found waiting. Returns those that it finds listed.
-fn look_at_each<R>(map: &Map<R>, caller: &mut Caller<R>, waiting: u64) -> Found {
-    let mut found = Found::nobody();
-    for number in 0..bits_of(waiting) {
-        if waiting >> number & 1 == 1 {
-            let berth = map.look_at(caller, number);
-            found.note(number, berth);
-        }
-    }
-    found
+/// Returns whether nobody is to be told: no listener was found listed, and either no sleeper was, or as many come as
+/// there are tags.
+fn has_nobody_to_tell<R>(map: &Map<R>, masks: &Masks) -> bool {
+    masks.listeners == 0 && (masks.sleepers == 0 || room_beside(map, masks.coming) == 0)
+}
+
+/// Looks once more at each berth of those that were found listed, and tells callers of each kind. Only these looks note
+/// turns: mostly the first ones find nobody to be told.
+#[inline(never)]
+fn tell_listed<R>(map: &Map<R>, caller: &mut Caller<R>, freed: u32, masks: &Masks) -> Told {
+    let mut found = Found {
+        masks: Masks::of_coming(masks.coming),
+        turns: [0; ROOM],
+    };
+    look_again(map, caller, masks.sleepers | masks.listeners, &mut found);
+    let most = freed.max(1);
+    let sleepers = tell_sleepers(map, caller, most, &found);
+    let listeners = tell_in_turn(map, caller, Waiter::Listener, most, found.masks.listeners, &found.turns);
+    Told { sleepers, listeners }
 }
 
 /// Tells up to `most` of the sleepers that were found listed, unless those that come, together with them, would be more
 /// than there are tags. A listener that was told may never learn of it, so for those nobody is left out.
 fn tell_sleepers<R>(map: &Map<R>, caller: &mut Caller<R>, most: u32, found: &Found) -> Unroused {
-    let coming = found.coming.count_ones();
-    let tags = map.layout().depth();
-    if coming >= tags {
+    let room = most.min(room_beside(map, found.masks.coming));
+    if room == 0 {
         return Unroused::none();
     }
-    let room = most.min(tags - coming);
-    tell_in_turn(map, caller, Waiter::Sleeper, room, found.sleepers, &found.turns)
+    tell_in_turn(map, caller, Waiter::Sleeper, room, found.masks.sleepers, &found.turns)
+}
+
+/// Returns how many sleepers can be told beside those that come: with these, as many as there are tags.
+fn room_beside<R>(map: &Map<R>, coming: u64) -> u32 {
+    let tags = map.layout().depth();
+    tags.saturating_sub(coming.count_ones())
 }
 
 /// Tells up to `most` of those that were found listed as this waiter, in the order of their turns. One that listed itself
@@ -84,11 +96,6 @@ fn tell_in_turn<R>(
         told.join(one);
     }
     told
-}
-
-/// Returns the number of bits of a mask up to its highest 1: no caller from there on is in it.
-fn bits_of(callers: u64) -> u32 {
-    MAX_CALLERS - callers.leading_zeros()
 }
 
 /// Returns the one of these callers that has the lowest turn.
