@@ -2,13 +2,12 @@
  * Several tags posted or taken by one call: all of them or none. What a hand holds its own calls
  * alone change; so once it was found to hold all of them, none of the posts can be refused. Which
  * tags are posted others change, too; so a take that is refused posts again what it took before.
+ * The posts of a call are quiet, as what a hand has to see to is seen to once.
  *
  * Takes go in ascending order. So of several that overlap one gets its tags, if these were posted
  * and nothing else takes any: each that is refused was refused for one that took a higher tag.
  */
-#include "tags.h"
-
-#include <stdbool.h>
+#include "bell.h"
 
 /* Returns the lowest tag of a mask, and leaves it out. */
 static uint32_t next_of(uint32_t first, uint64_t *mask)
@@ -46,7 +45,18 @@ static bool holds_all(struct tags_hand *hand, uint32_t first, uint64_t mask)
 static void post_all(struct tags_hand *hand, uint32_t first, uint64_t mask)
 {
 	while (mask != 0)
-		tags_library_post(hand, next_of(first, &mask));
+		tags_library_post_quietly(hand, next_of(first, &mask));
+}
+
+/* A post may have given kept tags back, and what the hand still keeps goes back if anybody waits. */
+static int32_t see_to_kept(struct tags_hand *hand)
+{
+	struct tags_told told = { 0, 0 };
+
+	if (!tags_bell_of(hand->waits)->is_cached)
+		return TAGS_OK;
+	tags_library_see_to(hand, 0, &told);
+	return tags_library_ring(hand, TAGS_OK + TAGS_DETAIL_TOLD, told);
 }
 
 int32_t tags_library_post_mask(struct tags_hand *hand, uint32_t first, uint64_t mask)
@@ -58,7 +68,7 @@ int32_t tags_library_post_mask(struct tags_hand *hand, uint32_t first, uint64_t 
 	if (!holds_all(hand, first, mask))
 		return TAGS_NOT_HELD;
 	post_all(hand, first, mask);
-	return TAGS_OK;
+	return see_to_kept(hand);
 }
 
 static int32_t take(struct tags_hand *hand, uint32_t tag)
@@ -67,8 +77,8 @@ static int32_t take(struct tags_hand *hand, uint32_t tag)
 }
 
 /*
- * To post again a tag just taken gives no kept tags back: a take does not make it one that the
- * hand got, and only the last of those does that.
+ * To post again a tag just taken gives no kept tags back, so nothing is to be seen to: a take does not
+ * make it one that the hand got, and only the last of those does that.
  */
 int32_t tags_library_take_mask(struct tags_hand *hand, uint32_t first, uint64_t mask)
 {

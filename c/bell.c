@@ -18,10 +18,11 @@
  * needed between the library's answer and the sleep, and a sleep that ends for no reason is one
  * round more. A listener has a notice in its place, which one of those who tell it takes.
  *
- * And so that a call need not ask the library whether anybody waits, all who do are counted, from
- * before their first round to after the last one. Who makes tags free loads the count afterwards.
- * Both are sequentially consistent, as are the steps of the library, so if the count is 0, whoever
- * waits later finds the tags.
+ * A call of the library that makes tags free sees to them itself, and answers whom it told. C wakes
+ * them. It also looks for watchers, of whom the library does not know: they wait for tags to be back
+ * (drains.c), or want hands to keep nothing. They are counted before they look, and who gives tags
+ * back loads the count afterwards. Both are sequentially consistent, as are the steps of the library,
+ * so if the count is 0, whoever watches later finds the tags back.
  *
  * Coroutines and futures, of which a hand may have any number, wait behind their hand, in a queue of
  * their own language: while one of them waits, the hand is listed, or was told and one of them is
@@ -113,6 +114,29 @@ static int32_t make_round(struct tags_hand *hand, bool listens, int32_t why, str
 			 tags_library_wait_on(hand, why, again, told);
 }
 
+/*
+ * While anybody waits hands keep nothing. But a clear of an ordinary tag looks for nobody who waits for a
+ * reserved one, such as its own hand, which therefore counts as a watcher.
+ */
+static bool is_watcher(const struct tags_hand *hand)
+{
+	return hand->place->kind == TAGS_RESERVED && tags_bell_of(hand->waits)->is_cached;
+}
+
+static void count_wait(const struct tags_hand *hand)
+{
+	tags_add(&tags_bell_of(hand->waits)->waiting, 1);
+	if (is_watcher(hand))
+		tags_add(&hand->waits->watchers, 1);
+}
+
+static void uncount_wait(const struct tags_hand *hand)
+{
+	if (is_watcher(hand))
+		tags_subtract(&hand->waits->watchers, 1);
+	tags_subtract(&tags_bell_of(hand->waits)->waiting, 1);
+}
+
 int32_t tags_library_go_on(struct tags_hand *hand, bool listens, int32_t why, struct tags_told *due)
 {
 	struct tags_place *place = hand->place;
@@ -120,11 +144,11 @@ int32_t tags_library_go_on(struct tags_hand *hand, bool listens, int32_t why, st
 	int32_t tag;
 
 	if (!place->is_waiting)
-		tags_add(&hand->waits->waiting, 1);
+		count_wait(hand);
 	tag = make_round(hand, listens, why, &told);
 	place->is_waiting = tag == TAGS_NO_TAG;
 	if (!place->is_waiting)
-		tags_subtract(&hand->waits->waiting, 1);
+		uncount_wait(hand);
 	/* its sweeps may have freed others: drains.c */
 	if (tag >= 0)
 		tags_library_see_to_lists(hand);
@@ -212,71 +236,35 @@ static bool notify_listener(struct bell *bell, struct tags_place *place)
  * Who tells
  */
 
-static uint32_t count_tags(const struct bell *bell, enum tags_kind kind)
+/* Of what the library answered: adds those whom it told to @due, and returns it without the flag. */
+static int32_t take_told(int32_t answer, const struct tags_told *told, struct tags_told *due)
 {
-	return kind == TAGS_RESERVED ? bell->reserved : bell->depth;
+	if (!tags_detail_is_told(answer))
+		return answer;
+	add(due, told);
+	return answer - TAGS_DETAIL_TOLD;
 }
 
-static uint64_t smaller(uint64_t a, uint64_t b)
+/* A hand with a cache first gives back what it keeps, which is busy to a watcher. */
+static void see_to_watchers(struct tags_hand *hand, struct tags_told *due)
 {
-	return a < b ? a : b;
-}
+	TAGS_DETAIL_TO_FILL(told);
 
-static uint64_t larger(uint64_t a, uint64_t b)
-{
-	return a > b ? a : b;
-}
-
-/* Tells those who wait for a tag of this set. */
-static void tell(struct tags_hand *hand, enum tags_kind kind, uint64_t freed, struct tags_told *due)
-{
-	const struct bell *bell = tags_bell_of(hand->waits);
-	const uint32_t most = (uint32_t)smaller(freed, count_tags(bell, kind));
-	struct tags_told told = { 0, 0 };
-
-	if (kind == TAGS_RESERVED)
-		tags_library_see_to_reserved(hand, most, &told);
-	else
-		tags_library_see_to(hand, most, &told);
-	add(due, &told);
-}
-
-/*
- * In a pool with caches the hand first gives back what it keeps, which nobody else finds. Nobody need
- * be listed for that: drains never are, nor is a hand that was told and is about to try.
- */
-static uint64_t give_back_kept(struct tags_hand *hand)
-{
-	return tags_bell_of(hand->waits)->is_cached ? (uint64_t)tags_library_flush(hand) : 0;
-}
-
-/* A call on ordinary tags may also have given kept ones back itself. What is kept is never reserved. */
-static void tell_of(struct tags_hand *hand, enum tags_kind kind, uint64_t freed, struct tags_told *due)
-{
-	const uint64_t kept = give_back_kept(hand);
-
-	if (kind == TAGS_ORDINARY) {
-		tell(hand, TAGS_ORDINARY, larger(freed, kept), due);
+	if (tags_load(&hand->waits->watchers) == 0)
 		return;
-	}
-	tell(hand, TAGS_RESERVED, freed, due);
-	if (kept > 0)
-		tell(hand, TAGS_ORDINARY, kept, due);
-}
-
-/* A hand that keeps none and gave none back, as by a post, has nothing to see to. */
-void tags_library_see_of(struct tags_hand *hand, enum tags_kind kind, uint64_t freed,
-			 struct tags_told *due)
-{
-	if (freed == 0 && !tags_bell_of(hand->waits)->is_cached)
-		return;
-	tell_of(hand, kind, freed, due);
+	take_told(tags_library_flush(hand, &told), &told, due);
 	tags_library_tags_are_back(hand);
 }
 
-void tags_library_see(struct tags_hand *hand, uint64_t freed, struct tags_told *due)
+/* A call that was refused without the flag made no tag free. */
+int32_t tags_library_hear(struct tags_hand *hand, int32_t answer, const struct tags_told *told,
+			  struct tags_told *due)
 {
-	tags_library_see_of(hand, TAGS_ORDINARY, freed, due);
+	if (answer < 0)
+		return answer;
+	answer = take_told(answer, told, due);
+	see_to_watchers(hand, due);
+	return answer;
 }
 
 bool tags_library_wake(struct tags_waits *waits, const struct tags_told *due)
@@ -293,36 +281,33 @@ bool tags_library_wake(struct tags_waits *waits, const struct tags_told *due)
 }
 
 /* Whoever could not be notified may have waited for a tag of either set. */
+void tags_library_tell_others(struct tags_hand *hand, struct tags_told *due)
+{
+	struct tags_told told = { 0, 0 };
+
+	tags_library_see_to(hand, 1, due);
+	tags_library_see_to_reserved(hand, 1, &told);
+	add(due, &told);
+	see_to_watchers(hand, due);
+}
+
 void tags_library_wake_told(struct tags_hand *hand, struct tags_told *due)
 {
 	int saved = errno;
 
-	while (!tags_library_wake(hand->waits, due)) {
-		*due = (struct tags_told){ 0, 0 };
-		tell_of(hand, TAGS_ORDINARY, 1, due);
-		tell_of(hand, TAGS_RESERVED, 1, due);
-	}
+	while (!tags_library_wake(hand->waits, due))
+		tags_library_tell_others(hand, due);
 	errno = saved;
 }
 
-static void ring(struct tags_hand *hand, enum tags_kind kind, uint64_t freed)
+int32_t tags_library_ring(struct tags_hand *hand, int32_t answer, struct tags_told told)
 {
 	struct tags_told due = { 0, 0 };
 
-	if (tags_load(&hand->waits->waiting) == 0)
-		return;
-	tags_library_see_of(hand, kind, freed, &due);
-	tags_library_wake_told(hand, &due);
-}
-
-void tags_library_ring(struct tags_hand *hand, uint64_t freed)
-{
-	ring(hand, TAGS_ORDINARY, freed);
-}
-
-void tags_library_ring_for(struct tags_hand *hand, uint32_t tag, uint64_t freed)
-{
-	ring(hand, tags_kind_of(hand->waits, tag), freed);
+	answer = tags_library_hear(hand, answer, &told, &due);
+	if (tags_is_anybody_told(&due))
+		tags_library_wake_told(hand, &due);
+	return answer;
 }
 
 /*

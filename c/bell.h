@@ -100,24 +100,13 @@ struct tags_board;
 struct tags_queues;
 struct tags_queue;
 
-/* Hands that a call told of tags: bit i is 1 for the hand in place i. Proved in crates/tag_c. */
-struct tags_told {
-	uint64_t sleepers;
-	uint64_t listeners;
-};
-
 struct bell {
 	/* keeps @waits, which each clear loads, out of a cache line of what malloc() put before */
 	char apart[64];
 	struct tags_waits waits;
-	/* those who wait for tags to be back; 1 if a call that gives tags back is to tell one of them: drains.c */
-	uint32_t draining;
+	/* 1 if a call that gives tags back is to tell one of those who wait for all of them: drains.c */
 	uint32_t is_armed;
-	/*
-	 * Of those who wait for the tags of a list: how many do not rest; and how often they have
-	 * looked, since after each look each hand looks once.
-	 */
-	uint32_t listing;
+	/* how often those who wait for the tags of a list have looked, since after each look each hand looks once */
 	uint32_t looks;
 	/* the ordinary tags, the reserved ones, and whether hands keep tags */
 	uint32_t depth;
@@ -130,6 +119,8 @@ struct bell {
 	struct bell **queue_bells;
 	/* of the notices, and of the count of stops */
 	pthread_mutex_t lock;
+	/* how many wait, for reports alone: as it changes with each wait, it is away from @waits */
+	uint32_t waiting;
 	/* one for each hand that the pool can give out, by the hand's number */
 	uint32_t hands;
 	struct tags_place places[];
@@ -186,6 +177,11 @@ static inline void tags_pause(void)
 #endif
 }
 
+static inline bool tags_is_anybody_told(const struct tags_told *told)
+{
+	return (told->sleepers | told->listeners) != 0;
+}
+
 static inline struct bell *tags_bell_of(struct tags_waits *waits)
 {
 	return (struct bell *)(void *)((char *)waits - offsetof(struct bell, waits));
@@ -195,12 +191,6 @@ static inline struct bell *tags_bell_of(struct tags_waits *waits)
 static inline struct bell *tags_bell_in(const struct tags_pool *pool)
 {
 	return pool->waits && !pool->place ? tags_bell_of(pool->waits) : NULL;
-}
-
-/* The set that a tag is of: the first tags of a pool are reserved. */
-static inline enum tags_kind tags_kind_of(struct tags_waits *waits, uint32_t tag)
-{
-	return tag < tags_bell_of(waits)->reserved ? TAGS_RESERVED : TAGS_ORDINARY;
 }
 
 /* A hand is about to wait: from now on a stop ends its wait. One that waits already began before. */
@@ -244,6 +234,8 @@ int32_t tags_library_listen_on_reserved(struct tags_hand *hand, int32_t why, uin
 					struct tags_told *told);
 int32_t tags_library_see_to_reserved(struct tags_hand *hand, uint32_t freed,
 				     struct tags_told *told);
+/* A post that sees to nothing, which is left to its caller. */
+int32_t tags_library_post_quietly(struct tags_hand *hand, uint32_t tag);
 
 /* Whether a clock and a time are what they may be, and whether the time has passed. */
 bool tags_library_is_sound(const struct tags_limit *limit);
@@ -267,6 +259,8 @@ int32_t tags_library_go_on(struct tags_hand *hand, bool listens, int32_t why,
 			   struct tags_told *due);
 /* Wakes those whom the hand told; and if one of them can't be notified, tells others in its place. */
 void tags_library_wake_told(struct tags_hand *hand, struct tags_told *due);
+/* Fills in others of both sets that are told, in place of one that can't be notified. */
+void tags_library_tell_others(struct tags_hand *hand, struct tags_told *due);
 /* Ends a wait by an eventfd or a function. Returns whether there was one. */
 bool tags_library_cancel(struct tags_hand *hand);
 /*
@@ -334,6 +328,8 @@ bool tags_library_leave_out(struct tags_waiter *it, const struct tags_set *busy)
 void tags_library_look_for_lists(struct tags_hand *hand);
 /* The hand gave tags back: those who wait for that are told, if they are to be. */
 void tags_library_tags_are_back(struct tags_hand *hand);
+/* Looks for those who wait for the tags of lists, once after each look of theirs. */
+void tags_library_see_to_lists(struct tags_hand *hand);
 /* The drain that was to be told is not any more. Returns whether there was one. */
 bool tags_library_disarm(struct bell *bell);
 
@@ -353,15 +349,13 @@ void tags_library_flush_all(const struct tags_hands *hands);
 
 /*
  * tags_library_ring() in two parts, for hands behind a lock with which nobody may be woken: adds
- * those whom it tells to @due; and wakes them. The last one returns whether all could be notified.
- * If not, others of both sets are to be told. The second one is the first one for a set.
+ * those who were told to @due, looks for watchers, and returns the answer without the flag; and
+ * wakes them. The latter returns whether all could be notified. If not, others of both sets are to
+ * be told.
  */
-void tags_library_see(struct tags_hand *hand, uint64_t freed, struct tags_told *due);
-void tags_library_see_of(struct tags_hand *hand, enum tags_kind kind, uint64_t freed,
-			 struct tags_told *due);
+int32_t tags_library_hear(struct tags_hand *hand, int32_t answer, const struct tags_told *told,
+			  struct tags_told *due);
 bool tags_library_wake(struct tags_waits *waits, const struct tags_told *due);
-/* Looks for those who wait for the tags of lists, once after each look of theirs. */
-void tags_library_see_to_lists(struct tags_hand *hand);
 /* How many wait, as tags_waiting() tells. */
 uint32_t tags_library_count_waiting(struct tags_waits *waits);
 /* Ends all waits, and lets no other begin; lets them begin again. */

@@ -7,16 +7,16 @@
  * again. The pool is armed before the look, and disarmed after the tags are back, all by sequentially
  * consistent steps; so a tag that the look found busy is told of.
  *
- * Calls learn of it as they learn of others who wait, by the count that they load anyhow: a pool that
- * is armed counts as one. In a pool with caches each drain is counted all the while as well, as
- * hands may keep nothing then.
+ * Calls learn of it by the count of watchers, which they load anyhow: a pool that is armed counts as
+ * one. In a pool with caches each drain is counted all the while as well, as hands may keep nothing
+ * then.
  *
  * Whoever waits for the tags of a list may never find them free by itself, as their users may get
  * them again at once. So after each of its looks each hand looks for it, once, as soon as it gives
  * tags back. It counts its looks in the pool, each before it is made; and a hand that gave tags back
  * loads that count, by sequentially consistent steps. A hand that finds the count as it was has told
  * those who wait since it last changed, so they look after its tags are back. They are counted as
- * waiting, too, except while they rest.
+ * watchers, too, except while they rest.
  *
  * A sweep takes all tags that are set aside in a word, and frees those that its get does not keep: to a
  * look between the two they are busy. So a hand also looks after each get that may sweep. For a drain of
@@ -32,16 +32,16 @@ enum { FIRST_REST = 16000, LONGEST_REST = 1000000 };
 
 static void arm(struct bell *bell)
 {
-	tags_add(&bell->waits.waiting, 1);
+	tags_add(&bell->waits.watchers, 1);
 	if (tags_swap(&bell->is_armed, 1) == 1)
-		tags_subtract(&bell->waits.waiting, 1);
+		tags_subtract(&bell->waits.watchers, 1);
 }
 
 bool tags_library_disarm(struct bell *bell)
 {
 	if (tags_load(&bell->is_armed) == 0 || tags_swap(&bell->is_armed, 0) == 0)
 		return false;
-	tags_subtract(&bell->waits.waiting, 1);
+	tags_subtract(&bell->waits.watchers, 1);
 	return true;
 }
 
@@ -110,19 +110,6 @@ static int32_t look_for_all(struct tags_waiter *it)
 	return found > 0 ? (int32_t)TAGS_NOT_YET : found;
 }
 
-/* One that rests need not be told of anything. */
-static void count_list(const struct tags_waiter *it)
-{
-	tags_add(&it->bell->listing, 1);
-	tags_add(&it->bell->waits.waiting, 1);
-}
-
-static void uncount_list(const struct tags_waiter *it)
-{
-	tags_subtract(&it->bell->waits.waiting, 1);
-	tags_subtract(&it->bell->listing, 1);
-}
-
 static int32_t look_for_listed(struct tags_waiter *it)
 {
 	int32_t found;
@@ -130,9 +117,10 @@ static int32_t look_for_listed(struct tags_waiter *it)
 	/* whoever told it has looked for it, and may have left all tags out */
 	if (!tags_library_leave_out(it, it->left))
 		return TAGS_OK;
-	uncount_list(it);
+	/* one that rests need not be told of anything */
+	tags_subtract(&it->bell->waits.watchers, 1);
 	rest(it);
-	count_list(it);
+	tags_add(&it->bell->waits.watchers, 1);
 	tags_add(&it->bell->looks, 1);
 	found = find_listed(it);
 	return found > 0 ? (int32_t)TAGS_NOT_YET : found;
@@ -147,22 +135,24 @@ static void see_all_tags(void)
 		TAGS_DETAIL_SEES(tag);
 }
 
+/* As how many watchers a thread counts, beside an armed pool. */
+static uint32_t weight_of(const struct tags_waiter *it)
+{
+	return (uint32_t)it->bell->is_cached + (it->left != NULL);
+}
+
 static void begin_drain(const struct tags_waiter *it)
 {
-	tags_add(&it->bell->draining, 1);
-	tags_add(&it->bell->waits.waiting, it->bell->is_cached);
-	if (it->left)
-		count_list(it);
+	tags_add(&it->bell->waiting, 1);
+	tags_add(&it->bell->waits.watchers, weight_of(it));
 }
 
 static void end_drain(void *argument)
 {
 	const struct tags_waiter *it = argument;
 
-	if (it->left)
-		uncount_list(it);
-	tags_subtract(&it->bell->waits.waiting, it->bell->is_cached);
-	tags_subtract(&it->bell->draining, 1);
+	tags_subtract(&it->bell->waits.watchers, weight_of(it));
+	tags_subtract(&it->bell->waiting, 1);
 }
 
 static int32_t wait_for_tags(struct tags_pool *pool, struct tags_waiter *it)

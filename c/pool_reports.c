@@ -80,19 +80,14 @@ static uint32_t batch_of(const struct bell *bell)
 	return bell->waits.batch;
 }
 
-/*
- * Drains are counted by themselves, and not by how a call learns of them: drains.c. Who waits in a queue
- * does so in a bell of its own.
- */
+/* Who waits in a queue does so in a bell of its own. */
 static uint32_t waiting_of(const struct bell *bell)
 {
-	const uint32_t is_armed = tags_load(&bell->is_armed) + tags_load(&bell->listing);
-	const uint32_t uncounted = bell->is_cached ? 0 : tags_load(&bell->draining);
-	uint32_t waiting = tags_load(&bell->waits.waiting) + uncounted;
+	uint32_t waiting = tags_load(&bell->waiting);
 
 	for (uint32_t i = 0; i < bell->waits.queues; i++)
-		waiting += tags_load(&bell->queue_bells[i]->waits.waiting);
-	return waiting < is_armed ? 0 : waiting - is_armed;
+		waiting += tags_load(&bell->queue_bells[i]->waiting);
+	return waiting;
 }
 
 uint32_t tags_library_count_waiting(struct tags_waits *waits)

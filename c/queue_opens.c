@@ -41,11 +41,11 @@ static bool make_parts(struct tags_queue *queue, uint32_t hands, uint32_t total)
 /* Makes a token for each tag, which is in no queue yet. */
 static void post_tokens(struct tags_hand *in, uint32_t *tokens, uint32_t total)
 {
-	uint64_t unused;
+	TAGS_DETAIL_TO_FILL(unused);
 
 	for (uint32_t token = 0; token < total; token++) {
 		tags_library_get_exactly(in, token, &unused);
-		tags_library_post(in, token);
+		tags_library_post_quietly(in, token);
 		tokens[token] = token;
 	}
 }

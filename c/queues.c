@@ -109,10 +109,10 @@ static uint32_t pop(struct tags_queue *queue)
 /* Takes a posted token and gives it back. */
 static void free_token(struct tags_hand *in, uint32_t token)
 {
+	TAGS_DETAIL_TO_FILL(told);
+
 	tags_library_take(in, token);
-	tags_library_clear(in, token);
-	if (tags_load(&in->waits->waiting) > 0)
-		tags_library_ring(in, 1);
+	tags_detail_gave(in, tags_library_clear(in, token, &told), &told);
 }
 
 static uint32_t *mark_of(const struct tags_hand *hand, uint32_t tag)
@@ -120,11 +120,15 @@ static uint32_t *mark_of(const struct tags_hand *hand, uint32_t tag)
 	return &tags_bell_of(hand->waits)->queues->marks[tag];
 }
 
-/* Once the tag is in its place others may take it, and change which token it has. */
+/*
+ * Once the tag is in its place others may take it, and change which token it has. Whom the post told is
+ * woken last, as that may call a function of the program's.
+ */
 int32_t tags_library_submit(struct tags_hand *hand, uint32_t tag, uint32_t number)
 {
 	int32_t answer = tags_find_queue(hand, number);
 	struct tags_queue *queue;
+	TAGS_DETAIL_TO_FILL(told);
 	uint32_t token;
 
 	if (answer == TAGS_OK)
@@ -134,12 +138,10 @@ int32_t tags_library_submit(struct tags_hand *hand, uint32_t tag, uint32_t numbe
 	queue = tags_queue_of(hand, number);
 	token = queue->tokens[tag];
 	tags_store(mark_of(hand, tag), 1);
-	tags_library_post(hand, tag);
+	answer = tags_library_post(hand, tag, &told);
 	push(queue, tag);
 	free_token(tags_hand_in(queue, hand), token);
-	if (tags_load(&hand->waits->waiting) > 0)
-		tags_library_ring(hand, 0);
-	return TAGS_OK;
+	return tags_detail_gave(hand, answer, &told);
 }
 
 /*
@@ -148,12 +150,9 @@ int32_t tags_library_submit(struct tags_hand *hand, uint32_t tag, uint32_t numbe
 
 static int32_t get_token(struct tags_hand *in)
 {
-	uint64_t left = 0;
-	const int32_t token = tags_library_get(in, &left);
+	TAGS_DETAIL_TO_FILL(told);
 
-	if (left > 0)
-		tags_library_ring(in, left);
-	return token;
+	return tags_detail_got(in, tags_library_get(in, &told), &told);
 }
 
 int32_t tags_library_take_next(struct tags_hand *hand, struct tags_queue *queue, uint32_t token)
@@ -164,7 +163,7 @@ int32_t tags_library_take_next(struct tags_hand *hand, struct tags_queue *queue,
 		give_way(looks);
 	tags_store(mark_of(hand, tag), 0);
 	queue->tokens[tag] = token;
-	tags_library_post(tags_hand_in(queue, hand), token);
+	tags_library_post_quietly(tags_hand_in(queue, hand), token);
 	return (int32_t)tag;
 }
 
@@ -199,7 +198,7 @@ int32_t tags_library_take_unqueued(struct tags_hand *hand, uint32_t tag)
 		status = tags_library_take(hand, tag);
 	if (status != TAGS_OK || !is_marked(hand, tag))
 		return status;
-	tags_library_post(hand, tag);
+	tags_library_post_quietly(hand, tag);
 	return TAGS_NOT_POSTED;
 }
 

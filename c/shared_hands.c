@@ -53,25 +53,29 @@ void tags_library_wake_others(const struct tags_hands *hands, struct tags_told *
 	while (!tags_library_wake(hands->waits, due)) {
 		struct tags_locked *at = tags_library_enter(hands);
 
-		*due = (struct tags_told){ 0, 0 };
-		tags_library_see(&at->hand, 1, due);
-		tags_library_see_of(&at->hand, TAGS_RESERVED, 1, due);
+		tags_library_tell_others(&at->hand, due);
 		tags_unlock(&at->lock);
 	}
 	errno = saved;
 }
 
-/* Ends a call, which made so many tags of this set free. */
-static void leave(const struct tags_hands *hands, struct tags_locked *at, enum tags_kind kind,
-		  uint64_t freed)
+static void leave(const struct tags_hands *hands, struct tags_locked *at, struct tags_told *due)
+{
+	tags_unlock(&at->lock);
+	if (tags_is_anybody_told(due))
+		tags_library_wake_others(hands, due);
+}
+
+/* What a call answers that gives tags back, at its end. */
+static int32_t end_give(const struct tags_hands *hands, struct tags_locked *at, int32_t answer,
+			const struct tags_told *told)
 {
 	struct tags_told due = { 0, 0 };
 
-	if (freed > 0 && tags_load(&hands->waits->waiting) > 0)
-		tags_library_see_of(&at->hand, kind, freed, &due);
-	tags_unlock(&at->lock);
-	if ((due.sleepers | due.listeners) != 0)
-		tags_library_wake_others(hands, &due);
+	if (tags_detail_is_due(&at->hand, answer))
+		answer = tags_library_hear(&at->hand, answer, told, &due);
+	leave(hands, at, &due);
+	return answer;
 }
 
 /* Mostly the same hand got the tag before. */
@@ -94,6 +98,19 @@ static struct tags_locked *enter_holder(const struct tags_hands *hands, uint32_t
 	return at;
 }
 
+/* What a get answers, at its end. */
+static int32_t end_get(const struct tags_hands *hands, struct tags_locked *at, int32_t tag,
+		       const struct tags_told *told)
+{
+	struct tags_told due = { 0, 0 };
+
+	if (tags_detail_is_told(tag))
+		tag = tags_library_hear(&at->hand, tag, told, &due);
+	tags_library_note_holder(hands, at, tags_detail_won(tag));
+	leave(hands, at, &due);
+	return tag;
+}
+
 /*
  * Calls
  */
@@ -101,35 +118,27 @@ static struct tags_locked *enter_holder(const struct tags_hands *hands, uint32_t
 int32_t tags_hands_get(struct tags_hands *hands)
 {
 	struct tags_locked *at;
-	uint64_t left = 0;
-	int32_t tag;
+	TAGS_DETAIL_TO_FILL(told);
 
 	if (!hands)
 		return TAGS_NULL;
 	if (!hands->full)
 		return TAGS_BAD_HANDLE;
 	at = tags_library_enter(hands);
-	tag = tags_detail_won(tags_library_get(&at->hand, &left));
-	tags_library_note_holder(hands, at, tag);
-	leave(hands, at, TAGS_ORDINARY, left);
-	return tag;
+	return end_get(hands, at, tags_library_get(&at->hand, &told), &told);
 }
 
 int32_t tags_hands_get_reserved(struct tags_hands *hands)
 {
 	struct tags_locked *at;
-	uint64_t left = 0;
-	int32_t tag;
+	TAGS_DETAIL_TO_FILL(told);
 
 	if (!hands)
 		return TAGS_NULL;
 	if (!hands->full)
 		return TAGS_BAD_HANDLE;
 	at = tags_library_enter(hands);
-	tag = tags_detail_won(tags_library_get_reserved(&at->hand, &left));
-	tags_library_note_holder(hands, at, tag);
-	leave(hands, at, TAGS_RESERVED, left);
-	return tag;
+	return end_get(hands, at, tags_library_get_reserved(&at->hand, &told), &told);
 }
 
 /* Why a call for a tag is refused, if it is for what it was given. */
@@ -144,8 +153,9 @@ static int32_t check(const struct tags_hands *hands, uint32_t tag)
 
 int32_t tags_hands_clear(struct tags_hands *hands, uint32_t tag)
 {
-	int32_t status = check(hands, tag);
+	const int32_t status = check(hands, tag);
 	struct tags_locked *at;
+	TAGS_DETAIL_TO_FILL(told);
 
 	if (status != TAGS_OK)
 		return status;
@@ -153,9 +163,7 @@ int32_t tags_hands_clear(struct tags_hands *hands, uint32_t tag)
 	if (at->hand.has_notes)
 		tags_library_withdraw(&at->hand, tag);
 	tags_detail_lost(tag);
-	status = tags_library_clear(&at->hand, tag);
-	leave(hands, at, tags_kind_of(hands->waits, tag), status == TAGS_OK);
-	return status;
+	return end_give(hands, at, tags_library_clear(&at->hand, tag, &told), &told);
 }
 
 int32_t tags_hands_read(struct tags_hands *hands, uint32_t tag, uint64_t *value)
@@ -206,11 +214,10 @@ void tags_library_flush_all(const struct tags_hands *hands)
 {
 	for (uint32_t i = 0; i < hands->count; i++) {
 		struct tags_locked *at = &hands->shared->hands[i];
-		int32_t freed;
+		TAGS_DETAIL_TO_FILL(told);
 
 		tags_lock(&at->lock);
-		freed = tags_library_flush(&at->hand);
-		leave(hands, at, TAGS_ORDINARY, freed > 0 ? (uint64_t)freed : 0);
+		end_give(hands, at, tags_library_flush(&at->hand, &told), &told);
 	}
 }
 

@@ -17,8 +17,8 @@
 
 /* What a pool and its hands know of waiters. */
 struct tags_waits {
-	/* how many wait, including those that were told and have not got up */
-	uint32_t waiting;
+	/* those for whom a call that gives tags back does more than the library: 0 if there are none */
+	uint32_t watchers;
 	/* how often waits were stopped or resumed: odd while they are stopped */
 	uint32_t stops;
 	/* the most tags that tags_get_batch() returns; only a resize changes it */
@@ -26,6 +26,15 @@ struct tags_waits {
 	/* how many queues the pool has */
 	uint32_t queues;
 };
+
+/* Hands that a call told of tags: bit i is 1 for the hand in place i. Proved in crates/tag_c. */
+struct tags_told {
+	uint64_t sleepers;
+	uint64_t listeners;
+};
+
+/* What an export adds to its answer, be it a refusal, if it filled in whom it told. */
+#define TAGS_DETAIL_TOLD (INT32_C(1) << 30)
 
 /* A tag that was found busy, and its note, if it has one. */
 struct tags_found {
@@ -36,9 +45,11 @@ struct tags_found {
 
 /*
  * The exports of the library. They do not check for NULL, as the calls below do; that costs nothing
- * if the compiler sees that a pointer is not NULL. A get fills in @left, whatever it returns: how
- * many tags of the set that it gets from it made free and did not take. A flush returns how many
- * tags it gave back.
+ * if the compiler sees that a pointer is not NULL. Those that make tags free see to them: they look
+ * whether anybody waits for one, and tell. They fill in @told, and add TAGS_DETAIL_TOLD to their
+ * answer: a get if it made tags of its set free that it did not take, even if it told nobody of
+ * them, and the others if they told anybody. Otherwise @told keeps what it had. A flush returns how
+ * many tags it gave back.
  */
 int32_t tags_library_open_cached(struct tags_pool *pool, const struct tags_options *options,
 				 uint32_t cache, uint32_t keeping);
@@ -46,23 +57,27 @@ int32_t tags_library_join(struct tags_pool *pool, struct tags_hand *hand, uint32
 int32_t tags_library_leave(struct tags_hand *hand);
 int32_t tags_library_resize(struct tags_pool *pool, uint32_t total);
 int32_t tags_library_close(struct tags_pool *pool, struct tags_sums *sums);
-int32_t tags_library_get(struct tags_hand *hand, uint64_t *left);
-int32_t tags_library_get_reserved(struct tags_hand *hand, uint64_t *left);
-int32_t tags_library_get_shallow(struct tags_hand *hand, uint32_t depth, uint64_t *left);
-int32_t tags_library_get_exactly(struct tags_hand *hand, uint32_t tag, uint64_t *left);
+int32_t tags_library_get(struct tags_hand *hand, struct tags_told *told);
+int32_t tags_library_get_reserved(struct tags_hand *hand, struct tags_told *told);
+int32_t tags_library_get_shallow(struct tags_hand *hand, uint32_t depth,
+				 struct tags_told *told);
+int32_t tags_library_get_exactly(struct tags_hand *hand, uint32_t tag, struct tags_told *told);
 int32_t tags_library_get_batch(struct tags_hand *hand, uint32_t n, uint64_t *won,
-			       uint64_t *left);
+			       struct tags_told *told);
 int32_t tags_library_get_many(struct tags_hand *hand, uint32_t *tags, size_t count,
-			      uint64_t *left);
-int32_t tags_library_clear(struct tags_hand *hand, uint32_t tag);
-int32_t tags_library_clear_batch(struct tags_hand *hand, const uint32_t *tags, size_t count);
-int32_t tags_library_clear_mask(struct tags_hand *hand, uint32_t first, uint64_t mask);
-int32_t tags_library_flush(struct tags_hand *hand);
-int32_t tags_library_get_write(struct tags_hand *hand, uint64_t value, uint64_t *left);
-int32_t tags_library_read_clear(struct tags_hand *hand, uint32_t tag, uint64_t *value);
+			      struct tags_told *told);
+int32_t tags_library_clear(struct tags_hand *hand, uint32_t tag, struct tags_told *told);
+int32_t tags_library_clear_batch(struct tags_hand *hand, const uint32_t *tags, size_t count,
+				 struct tags_told *told);
+int32_t tags_library_clear_mask(struct tags_hand *hand, uint32_t first, uint64_t mask,
+				struct tags_told *told);
+int32_t tags_library_flush(struct tags_hand *hand, struct tags_told *told);
+int32_t tags_library_get_write(struct tags_hand *hand, uint64_t value, struct tags_told *told);
+int32_t tags_library_read_clear(struct tags_hand *hand, uint32_t tag, uint64_t *value,
+				struct tags_told *told);
 int32_t tags_library_read(struct tags_hand *hand, uint32_t tag, uint64_t *value);
 int32_t tags_library_write(struct tags_hand *hand, uint32_t tag, uint64_t value, uint64_t *former);
-int32_t tags_library_post(struct tags_hand *hand, uint32_t tag);
+int32_t tags_library_post(struct tags_hand *hand, uint32_t tag, struct tags_told *told);
 int32_t tags_library_take(struct tags_hand *hand, uint32_t tag);
 int32_t tags_library_holds(struct tags_hand *hand, uint32_t tag);
 int32_t tags_library_busy(struct tags_hand *hand, uint64_t *into, size_t words);
@@ -71,12 +86,11 @@ int32_t tags_library_pool_busy(struct tags_pool *pool, uint64_t *into, size_t wo
 int32_t tags_library_pool_show(struct tags_pool *pool, uint32_t kind, struct tags_sizes *sizes);
 
 /*
- * What the calls below use of the C files. The first one tells hands that wait for an ordinary tag of
- * @freed ordinary tags that this hand gave back or made free, and the second one those that wait for
- * a tag of the set that @tag is of. If any hand waits, they give back the tags that this hand keeps.
+ * What the calls below use of the C files. The first one ends a call of the library that made tags
+ * free: it wakes those who were told, and looks for watchers, to whom it gives what this hand keeps.
+ * It returns the answer without the flag. @told is passed as it is, so that no call keeps its address.
  */
-void tags_library_ring(struct tags_hand *hand, uint64_t freed);
-void tags_library_ring_for(struct tags_hand *hand, uint32_t tag, uint64_t freed);
+int32_t tags_library_ring(struct tags_hand *hand, int32_t answer, struct tags_told told);
 int32_t tags_library_wait(struct tags_hand *hand);
 int32_t tags_library_get_timed(struct tags_hand *hand, int32_t clock,
 			       const struct timespec *deadline);
@@ -175,13 +189,13 @@ void __msan_unpoison(const volatile void *start, size_t size);
 #endif
 
 /*
- * Declares what the library fills in first of all, so that it needs no value before. But the memory
- * sanitizer can't see that.
+ * Declares whom the library tells, which needs no value before: if it is not filled in, nobody looks at
+ * it. But the memory sanitizer can't see that.
  */
-#if defined TAGS_LIBRARY || defined TAGS_DETAIL_MEMORY_SANITIZED
-#define TAGS_DETAIL_TO_FILL(type, name) type name = 0
+#ifdef TAGS_DETAIL_MEMORY_SANITIZED
+#define TAGS_DETAIL_TO_FILL(told) struct tags_told told = { 0, 0 }
 #else
-#define TAGS_DETAIL_TO_FILL(type, name) type name
+#define TAGS_DETAIL_TO_FILL(told) struct tags_told told
 #endif
 
 /*
@@ -235,7 +249,7 @@ static inline int32_t tags_detail_filled(int32_t status, const void *start, size
 }
 
 /* The same at the end of a call. */
-static inline int32_t tags_detail_told(struct tags_hand *hand, int32_t status, const void *start,
+static inline int32_t tags_detail_reported(struct tags_hand *hand, int32_t status, const void *start,
 				       size_t size)
 {
 	return tags_detail_end(hand, tags_detail_filled(status, start, size));
@@ -292,54 +306,37 @@ static inline void tags_detail_lost_mask(uint32_t first, uint64_t mask)
 }
 
 /*
- * A call that makes tags free looks afterwards whether any hand waits, by the loads below. They
- * are sequentially consistent, as is each step of the library on its tags. They end a call.
+ * After a call of the library that made tags free. Mostly nobody is to be woken, which each of these
+ * finds without a call.
  */
 
-/* After a get that returned @tag, and freed @left ordinary tags that it did not take. */
-static inline int32_t tags_detail_swept(struct tags_hand *hand, int32_t tag, uint64_t left)
+static inline int tags_detail_is_told(int32_t answer)
 {
-	if (left > 0)
-		tags_library_ring(hand, left);
-	return tags_detail_end(hand, tags_detail_won(tag));
+	return answer >= TAGS_DETAIL_TOLD / 2;
 }
 
-/* The same after a get from the set that the tag @of is of. */
-static inline int32_t tags_detail_swept_for(struct tags_hand *hand, int32_t tag, uint64_t left,
-					    uint32_t of)
+/*
+ * Whether a call that gives tags back goes on out of line: it was refused or told somebody, or there
+ * are watchers. The load is sequentially consistent, as is each step of the library on its tags.
+ */
+static inline int tags_detail_is_due(const struct tags_hand *hand, int32_t answer)
 {
-	if (left > 0)
-		tags_library_ring_for(hand, of, left);
-	return tags_detail_end(hand, tags_detail_won(tag));
+	return TAGS_DETAIL_AS(uint32_t, answer) >= TAGS_DETAIL_TOLD / 2 ||
+	       __atomic_load_n(&hand->waits->watchers, __ATOMIC_SEQ_CST) > 0;
 }
 
-/* After a clear of a tag, of whichever set it is: that matters only if somebody waits. */
-static inline int32_t tags_detail_cleared(struct tags_hand *hand, int32_t status, uint32_t tag)
+/* What a get answers. Its sweeps may have made tags free. */
+static inline int32_t tags_detail_got(struct tags_hand *hand, int32_t answer,
+				      const struct tags_told *told)
 {
-	if (status >= 0 && __atomic_load_n(&hand->waits->waiting, __ATOMIC_SEQ_CST) > 0)
-		tags_library_ring_for(hand, tag, 1);
-	return tags_detail_end(hand, status);
+	return tags_detail_is_told(answer) ? tags_library_ring(hand, answer, *told) : answer;
 }
 
-/* After a call that gave @freed ordinary tags back, and may have kept others or given kept ones back. */
-static inline int32_t tags_detail_gave(struct tags_hand *hand, int32_t status, uint64_t freed)
+/* What a call answers that gives tags back. */
+static inline int32_t tags_detail_gave(struct tags_hand *hand, int32_t answer,
+				       const struct tags_told *told)
 {
-	if (status >= 0 && __atomic_load_n(&hand->waits->waiting, __ATOMIC_SEQ_CST) > 0)
-		tags_library_ring(hand, freed);
-	return tags_detail_end(hand, status);
-}
-
-/* The same for the tags of a mask, which are counted only if somebody waits. */
-static inline int32_t tags_detail_gave_mask(struct tags_hand *hand, int32_t status, uint64_t mask)
-{
-	uint64_t freed = 0;
-
-	if (status < 0 || __atomic_load_n(&hand->waits->waiting, __ATOMIC_SEQ_CST) == 0)
-		return tags_detail_end(hand, status);
-	for (; mask; mask &= mask - 1)
-		freed++;
-	tags_library_ring(hand, freed);
-	return tags_detail_end(hand, status);
+	return tags_detail_is_due(hand, answer) ? tags_library_ring(hand, answer, *told) : answer;
 }
 
 static inline int32_t tags_detail_must(int32_t status, const char *call)
@@ -385,61 +382,59 @@ TAGS_DETAIL_CALL int32_t tags_leave(struct tags_hand *hand)
 
 TAGS_DETAIL_CALL int32_t tags_get(struct tags_hand *hand)
 {
-	TAGS_DETAIL_TO_FILL(uint64_t, left);
+	TAGS_DETAIL_TO_FILL(told);
 	int32_t tag;
 
 	if (!tags_detail_begin(hand))
 		return TAGS_NULL;
-	tag = tags_library_get(hand, &left);
-	return tags_detail_swept(hand, tag, left);
+	tag = tags_detail_got(hand, tags_library_get(hand, &told), &told);
+	return tags_detail_end(hand, tags_detail_won(tag));
 }
 
 TAGS_DETAIL_CALL int32_t tags_get_reserved(struct tags_hand *hand)
 {
-	TAGS_DETAIL_TO_FILL(uint64_t, left);
+	TAGS_DETAIL_TO_FILL(told);
 	int32_t tag;
 
 	if (!tags_detail_begin(hand))
 		return TAGS_NULL;
-	tag = tags_library_get_reserved(hand, &left);
-	/* tag 0 is reserved if any tag is */
-	return tags_detail_swept_for(hand, tag, left, 0);
+	tag = tags_detail_got(hand, tags_library_get_reserved(hand, &told), &told);
+	return tags_detail_end(hand, tags_detail_won(tag));
 }
 
 TAGS_DETAIL_CALL int32_t tags_get_shallow(struct tags_hand *hand, uint32_t depth)
 {
-	TAGS_DETAIL_TO_FILL(uint64_t, left);
+	TAGS_DETAIL_TO_FILL(told);
 	int32_t tag;
 
 	if (!tags_detail_begin(hand))
 		return TAGS_NULL;
-	tag = tags_library_get_shallow(hand, depth, &left);
-	return tags_detail_swept(hand, tag, left);
+	tag = tags_detail_got(hand, tags_library_get_shallow(hand, depth, &told), &told);
+	return tags_detail_end(hand, tags_detail_won(tag));
 }
 
 TAGS_DETAIL_CALL int32_t tags_get_exactly(struct tags_hand *hand, uint32_t tag)
 {
-	TAGS_DETAIL_TO_FILL(uint64_t, left);
+	TAGS_DETAIL_TO_FILL(told);
 	int32_t won;
 
 	if (!tags_detail_begin(hand))
 		return TAGS_NULL;
-	won = tags_library_get_exactly(hand, tag, &left);
-	return tags_detail_swept_for(hand, won, left, tag);
+	won = tags_detail_got(hand, tags_library_get_exactly(hand, tag, &told), &told);
+	return tags_detail_end(hand, tags_detail_won(won));
 }
 
 TAGS_DETAIL_CALL int32_t tags_get_batch(struct tags_hand *hand, uint32_t n, uint64_t *won)
 {
-	TAGS_DETAIL_TO_FILL(uint64_t, left);
+	TAGS_DETAIL_TO_FILL(told);
 	int32_t first;
 
 	if (!won || !tags_detail_begin(hand))
 		return TAGS_NULL;
 	if (hand->waits && n > hand->waits->batch)
 		n = hand->waits->batch;
-	first = tags_detail_filled(tags_library_get_batch(hand, n, won, &left), won, sizeof(*won));
-	if (left > 0)
-		tags_library_ring(hand, left);
+	first = tags_detail_got(hand, tags_library_get_batch(hand, n, won, &told), &told);
+	tags_detail_filled(first, won, sizeof(*won));
 #if defined TAGS_DETAIL_SANITIZED || defined TAGS_LIBRARY
 	for (int32_t i = 0; first >= 0 && i < 64; i++)
 		if (*won >> i & 1)
@@ -450,15 +445,13 @@ TAGS_DETAIL_CALL int32_t tags_get_batch(struct tags_hand *hand, uint32_t n, uint
 
 TAGS_DETAIL_CALL int32_t tags_get_many(struct tags_hand *hand, uint32_t *tags, size_t count)
 {
-	TAGS_DETAIL_TO_FILL(uint64_t, left);
+	TAGS_DETAIL_TO_FILL(told);
 	int32_t status;
 
 	if (!tags || !tags_detail_begin(hand))
 		return TAGS_NULL;
-	status = tags_detail_filled(tags_library_get_many(hand, tags, count, &left), tags,
-				    count * sizeof(*tags));
-	if (left > 0)
-		tags_library_ring(hand, left);
+	status = tags_detail_got(hand, tags_library_get_many(hand, tags, count, &told), &told);
+	tags_detail_filled(status, tags, count * sizeof(*tags));
 #if defined TAGS_DETAIL_SANITIZED || defined TAGS_LIBRARY
 	for (size_t i = 0; status >= 0 && i < count; i++)
 		TAGS_DETAIL_SEES(tags[i]);
@@ -468,76 +461,90 @@ TAGS_DETAIL_CALL int32_t tags_get_many(struct tags_hand *hand, uint32_t *tags, s
 
 TAGS_DETAIL_CALL int32_t tags_clear(struct tags_hand *hand, uint32_t tag)
 {
+	TAGS_DETAIL_TO_FILL(told);
+	int32_t answer;
+
 	if (!tags_detail_begin(hand))
 		return TAGS_NULL;
 	if (hand->has_notes)
 		tags_library_withdraw(hand, tag);
 	tags_detail_lost(tag);
-	return tags_detail_cleared(hand, tags_library_clear(hand, tag), tag);
+	answer = tags_library_clear(hand, tag, &told);
+	return tags_detail_end(hand, tags_detail_gave(hand, answer, &told));
 }
 
 TAGS_DETAIL_CALL int32_t tags_clear_batch(struct tags_hand *hand, const uint32_t *tags,
 					  size_t count)
 {
+	TAGS_DETAIL_TO_FILL(told);
+	int32_t answer;
+
 	if (!tags || !tags_detail_begin(hand))
 		return TAGS_NULL;
 	if (hand->has_notes)
 		tags_library_withdraw_all(hand, tags, count);
 	tags_detail_lost_all(tags, count);
-	return tags_detail_gave(hand, tags_library_clear_batch(hand, tags, count), count);
+	answer = tags_library_clear_batch(hand, tags, count, &told);
+	return tags_detail_end(hand, tags_detail_gave(hand, answer, &told));
 }
 
 TAGS_DETAIL_CALL int32_t tags_clear_mask(struct tags_hand *hand, uint32_t first, uint64_t mask)
 {
+	TAGS_DETAIL_TO_FILL(told);
+	int32_t answer;
+
 	if (!tags_detail_begin(hand))
 		return TAGS_NULL;
 	if (hand->has_notes)
 		tags_library_withdraw_mask(hand, first, mask);
 	tags_detail_lost_mask(first, mask);
-	return tags_detail_gave_mask(hand, tags_library_clear_mask(hand, first, mask), mask);
+	answer = tags_library_clear_mask(hand, first, mask, &told);
+	return tags_detail_end(hand, tags_detail_gave(hand, answer, &told));
 }
 
 TAGS_DETAIL_CALL int32_t tags_flush(struct tags_hand *hand)
 {
+	TAGS_DETAIL_TO_FILL(told);
 	int32_t freed;
 
 	if (!tags_detail_begin(hand))
 		return TAGS_NULL;
-	freed = tags_library_flush(hand);
-	if (freed < 0)
-		return tags_detail_end(hand, freed);
-	return tags_detail_gave(hand, TAGS_OK, TAGS_DETAIL_AS(uint64_t, freed));
+	freed = tags_detail_gave(hand, tags_library_flush(hand, &told), &told);
+	if (freed > 0)
+		freed = TAGS_OK;
+	return tags_detail_end(hand, freed);
 }
 
 TAGS_DETAIL_CALL int32_t tags_get_write(struct tags_hand *hand, uint64_t value)
 {
-	TAGS_DETAIL_TO_FILL(uint64_t, left);
+	TAGS_DETAIL_TO_FILL(told);
 	int32_t tag;
 
 	if (!tags_detail_begin(hand))
 		return TAGS_NULL;
-	tag = tags_library_get_write(hand, value, &left);
-	return tags_detail_swept(hand, tag, left);
+	tag = tags_detail_got(hand, tags_library_get_write(hand, value, &told), &told);
+	return tags_detail_end(hand, tags_detail_won(tag));
 }
 
 TAGS_DETAIL_CALL int32_t tags_read_clear(struct tags_hand *hand, uint32_t tag, uint64_t *value)
 {
+	TAGS_DETAIL_TO_FILL(told);
+	int32_t answer;
+
 	if (!value || !tags_detail_begin(hand))
 		return TAGS_NULL;
 	if (hand->has_notes)
 		tags_library_withdraw(hand, tag);
 	tags_detail_lost(tag);
-	return tags_detail_cleared(hand,
-				   tags_detail_filled(tags_library_read_clear(hand, tag, value),
-						      value, sizeof(*value)),
-				   tag);
+	answer = tags_library_read_clear(hand, tag, value, &told);
+	return tags_detail_reported(hand, tags_detail_gave(hand, answer, &told), value, sizeof(*value));
 }
 
 TAGS_DETAIL_CALL int32_t tags_read(struct tags_hand *hand, uint32_t tag, uint64_t *value)
 {
 	if (!value || !tags_detail_begin(hand))
 		return TAGS_NULL;
-	return tags_detail_told(hand, tags_library_read(hand, tag, value), value, sizeof(*value));
+	return tags_detail_reported(hand, tags_library_read(hand, tag, value), value, sizeof(*value));
 }
 
 TAGS_DETAIL_CALL int32_t tags_write(struct tags_hand *hand, uint32_t tag, uint64_t value,
@@ -549,16 +556,20 @@ TAGS_DETAIL_CALL int32_t tags_write(struct tags_hand *hand, uint32_t tag, uint64
 		return TAGS_NULL;
 	if (!former)
 		former = &unused;
-	return tags_detail_told(hand, tags_library_write(hand, tag, value, former), former,
+	return tags_detail_reported(hand, tags_library_write(hand, tag, value, former), former,
 				sizeof(*former));
 }
 
 TAGS_DETAIL_CALL int32_t tags_post(struct tags_hand *hand, uint32_t tag)
 {
+	TAGS_DETAIL_TO_FILL(told);
+	int32_t answer;
+
 	if (!tags_detail_begin(hand))
 		return TAGS_NULL;
 	tags_detail_lost(tag);
-	return tags_detail_gave(hand, tags_library_post(hand, tag), 0);
+	answer = tags_library_post(hand, tag, &told);
+	return tags_detail_end(hand, tags_detail_gave(hand, answer, &told));
 }
 
 TAGS_DETAIL_CALL int32_t tags_take(struct tags_hand *hand, uint32_t tag)
@@ -579,7 +590,7 @@ TAGS_DETAIL_CALL int32_t tags_post_mask(struct tags_hand *hand, uint32_t first, 
 	if (!tags_detail_begin(hand))
 		return TAGS_NULL;
 	tags_detail_lost_mask(first, mask);
-	return tags_detail_gave(hand, tags_library_post_mask(hand, first, mask), 0);
+	return tags_detail_end(hand, tags_library_post_mask(hand, first, mask));
 }
 
 TAGS_DETAIL_CALL int32_t tags_take_mask(struct tags_hand *hand, uint32_t first, uint64_t mask)
@@ -608,7 +619,7 @@ TAGS_DETAIL_CALL int32_t tags_busy(struct tags_hand *hand, uint64_t *into, size_
 {
 	if (!into || !tags_detail_begin(hand))
 		return TAGS_NULL;
-	return tags_detail_told(hand, tags_library_busy(hand, into, words), into,
+	return tags_detail_reported(hand, tags_library_busy(hand, into, words), into,
 				words * sizeof(*into));
 }
 
@@ -616,7 +627,7 @@ TAGS_DETAIL_CALL int32_t tags_show(struct tags_hand *hand, uint32_t kind, struct
 {
 	if (!sizes || !tags_detail_begin(hand))
 		return TAGS_NULL;
-	return tags_detail_told(hand, tags_library_show(hand, kind, sizes), sizes, sizeof(*sizes));
+	return tags_detail_reported(hand, tags_library_show(hand, kind, sizes), sizes, sizeof(*sizes));
 }
 
 TAGS_DETAIL_CALL int32_t tags_waiting(struct tags_hand *hand)

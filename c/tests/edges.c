@@ -39,14 +39,9 @@ static uint64_t told(int event)
 	return read(event, &count, sizeof(count)) == sizeof(count) ? count : 0;
 }
 
-static uint32_t count_waiting(void)
+static void await_waiting(int32_t count)
 {
-	return __atomic_load_n(&pool.waits->waiting, __ATOMIC_SEQ_CST);
-}
-
-static void await_waiting(uint32_t count)
-{
-	while (count_waiting() != count)
+	while (tags_pool_waiting(&pool) != count)
 		nap(20);
 }
 
@@ -92,7 +87,7 @@ static void tear_down(uint32_t others)
 		clear_all(&hands[i]);
 		CHECK(tags_leave(&hands[i]) == TAGS_OK);
 	}
-	CHECK(count_waiting() == 0);
+	CHECK(tags_pool_waiting(&pool) == 0);
 	CHECK(tags_resize(&pool, 5) == TAGS_OK);
 	CHECK(tags_close(&pool, &sums) == TAGS_OK && sums.got == sums.back);
 	for (uint32_t i = 0; i < others && i < MOST; i++)
@@ -159,7 +154,7 @@ static void cancel_a_sleeper(void)
 		nap(2000);
 		pthread_cancel(id);
 		CHECK(pthread_join(id, &result) == 0 && result == PTHREAD_CANCELED);
-		CHECK(count_waiting() == 0 && tags_waiting(&hands[0]) == 0);
+		CHECK(tags_pool_waiting(&pool) == 0 && tags_waiting(&hands[0]) == 0);
 		CHECK(tags_cancel(&hands[i]) == TAGS_NOT_WAITING);
 		CHECK(tags_get_async(&hands[i], events[0]) == TAGS_NO_TAG);
 		CHECK(tags_cancel(&hands[i]) == TAGS_OK);
@@ -201,8 +196,8 @@ static void leave_while_waiting(void)
 {
 	set_up(1, 2);
 	CHECK(tags_get_async(&hands[1], events[0]) == TAGS_NO_TAG);
-	CHECK(tags_get_async(&hands[2], events[1]) == TAGS_NO_TAG && count_waiting() == 2);
-	CHECK(tags_leave(&hands[1]) == TAGS_OK && count_waiting() == 1);
+	CHECK(tags_get_async(&hands[2], events[1]) == TAGS_NO_TAG && tags_pool_waiting(&pool) == 2);
+	CHECK(tags_leave(&hands[1]) == TAGS_OK && tags_pool_waiting(&pool) == 1);
 	CHECK(tags_join(&pool, &hands[1], 0) == TAGS_OK);
 	CHECK(tags_cancel(&hands[1]) == TAGS_NOT_WAITING);
 	CHECK(tags_get_timed(&hands[1], CLOCK_MONOTONIC, &(struct timespec){ 0, 0 }) == TAGS_TIMED_OUT);
@@ -277,7 +272,7 @@ static void tell_as_many(void)
 	/* the eight who were told, each of whom gets one */
 	for (int i = MOST; i >= 1; i--)
 		CHECK(tags_get_async(&hands[i], one) >= 0);
-	CHECK(told(one) == 0 && count_waiting() == 0);
+	CHECK(told(one) == 0 && tags_pool_waiting(&pool) == 0);
 	close(one);
 	tear_down(MOST);
 }
@@ -377,7 +372,7 @@ static void stop_each_wait(void)
 	CHECK(told(events[4]) == 2 && tags_get_async(&hands[5], events[4]) == TAGS_STOPPED);
 	CHECK(tags_cancel(&hands[5]) == TAGS_NOT_WAITING);
 	/* hand 6 has not repeated its call */
-	CHECK(count_waiting() == 1);
+	CHECK(tags_pool_waiting(&pool) == 1);
 	/* tags still go back, and whoever does not wait may take one */
 	CHECK(tags_clear(&hands[0], 0) >= 0 && tags_get(&hands[1]) == 0);
 	CHECK(tags_clear(&hands[1], 0) >= 0);

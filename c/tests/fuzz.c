@@ -227,16 +227,6 @@ static void compare_events(uint32_t pool)
 	memset(&models[pool].pool->told[EVENTS], 0, sizeof(told[pool]));
 }
 
-/* How many tags a mask has. */
-static uint32_t count_in(uint64_t mask)
-{
-	uint32_t count = 0;
-
-	for (; mask; mask &= mask - 1)
-		count++;
-	return count;
-}
-
 /*
  * Pools and hands
  */
@@ -426,7 +416,7 @@ static void try_clear_batch(void)
 	if (seldom(20))
 		n = seldom(2) ? TAGS_MAX_BATCH + 1 : SIZE_MAX / 8;
 	compare("clear_batch", tags_clear_batch(&handles[at].hand, tags, n),
-		model_gave(&models[at], model_clear_batch(&models[at], tags, n), (uint32_t)n));
+		model_gave(&models[at], model_clear_batch(&models[at], tags, n)));
 }
 
 /* A mask of some of the tags that the hand holds, and now and then of one that it may not hold. */
@@ -449,7 +439,7 @@ static void try_clear_mask(void)
 	uint64_t mask = mask_held(at, first);
 
 	compare("clear_mask", tags_clear_mask(&handles[at].hand, first, mask),
-		model_gave(&models[at], model_clear_mask(&models[at], first, mask), count_in(mask)));
+		model_gave(&models[at], model_clear_mask(&models[at], first, mask)));
 }
 
 /*
@@ -496,7 +486,7 @@ static void try_post(void)
 	uint32_t tag = any_tag(at);
 
 	compare("post", tags_post(&handles[at].hand, tag),
-		model_gave(&models[at], model_post(&models[at], tag), 0));
+		model_gave(&models[at], model_post(&models[at], tag)));
 }
 
 static void try_take(void)
@@ -516,7 +506,7 @@ static void try_post_mask(void)
 	uint64_t mask = mask_held(at, first);
 
 	compare("post_mask", tags_post_mask(&handles[at].hand, first, mask),
-		model_gave(&models[at], model_post_mask(&models[at], first, mask), 0));
+		model_gave(&models[at], model_post_mask(&models[at], first, mask)));
 }
 
 /* A mask of some of the posted tags, and now and then of one that may not be posted. */

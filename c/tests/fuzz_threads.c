@@ -337,7 +337,7 @@ static void resize(uint32_t at)
 
 	pool->total = RESERVED + 1 + below(&threads[0], at == 0 ? 4 : TAGS - RESERVED - 1);
 	CHECK(tags_resize(&pool->pool, pool->total) == TAGS_OK);
-	CHECK(pool->pool.waits->waiting == 0);
+	CHECK(tags_pool_waiting(&pool->pool) == 0);
 }
 
 int main(int argc, char **argv)

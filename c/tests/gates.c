@@ -377,7 +377,7 @@ static void limits_of_drains(void)
 	nap(2000);
 	pthread_cancel(id);
 	pthread_join(id, &result);
-	CHECK(result == PTHREAD_CANCELED && pool.waits->waiting == 0);
+	CHECK(result == PTHREAD_CANCELED && pool.waits->watchers == 0 && tags_pool_waiting(&pool) == 0);
 	/* a stop ends no drain */
 	CHECK(tags_stop(&pool) == TAGS_OK);
 	CHECK(pthread_create(&id, NULL, drain, &answer) == 0);
@@ -385,7 +385,7 @@ static void limits_of_drains(void)
 	TAGS_MUST(tags_take(&other, (uint32_t)tag));
 	TAGS_MUST(tags_clear(&other, (uint32_t)tag));
 	pthread_join(id, NULL);
-	CHECK(answer == TAGS_OK && pool.waits->waiting == 0);
+	CHECK(answer == TAGS_OK && pool.waits->watchers == 0 && tags_pool_waiting(&pool) == 0);
 	leave(&hand);
 	leave(&other);
 	close_pool();

@@ -187,8 +187,8 @@ static void tell(const struct setting *setting, uint32_t count)
 		return;
 	fprintf(stderr, "hung: %" PRIu32 " tags, shift %" PRId32 ", cache %" PRIu32 ", flags %" PRIu32 "\n",
 		setting->tags, setting->shift, setting->cache, setting->flags);
-	fprintf(stderr, "%" PRIu32 " busy, mask %" PRIx64 ", %" PRIu32 " set aside; %" PRIu32 " wait\n",
-		sizes.busy, busy, sizes.cleared, watcher.waits->waiting);
+	fprintf(stderr, "%" PRIu32 " busy, mask %" PRIx64 ", %" PRIu32 " set aside; %" PRId32 " wait\n",
+		sizes.busy, busy, sizes.cleared, tags_waiting(&watcher));
 	for (uint32_t i = 0; i < count; i++)
 		fprintf(stderr, "thread %" PRIu32 ", way %d: %s\n", i, threads[i].way, threads[i].doing);
 }
@@ -272,7 +272,7 @@ static void run(const struct setting *setting, long ms)
 	pthread_barrier_destroy(&meeting);
 	if (setting->sharers)
 		MUST(tags_clear_mask(&watcher, 0, 3) == TAGS_OK);
-	MUST(watcher.waits->waiting == 0 && tags_leave(&watcher) == TAGS_OK);
+	MUST(tags_waiting(&watcher) == 0 && tags_leave(&watcher) == TAGS_OK);
 	MUST(tags_close(&pool, &sums) == TAGS_OK && sums.got == sums.back);
 }
 

@@ -78,6 +78,8 @@ struct pool {
 	/* hands that no thread has, or NOBODY; the last one goes out first */
 	int berth[TAGS_MAX_HANDS];
 	struct tags_sums sums;
+	/* how many ordinary tags went back by a call that has not seen to them yet */
+	uint32_t given;
 	bool is_stopped;
 	/* the waits that have begun, and how often each eventfd and each argument was notified */
 	uint64_t turns;
@@ -205,9 +207,9 @@ int32_t model_swept(struct model *hand, int32_t answer);
 /* The same of a get of a reserved tag; and of a get from the set that @tag is of. */
 int32_t model_swept_reserved(struct model *hand, int32_t answer);
 int32_t model_swept_for(struct model *hand, int32_t answer, uint32_t tag);
-/* After a call that gave this many ordinary tags back, unless it was refused. Returns @answer. */
-int32_t model_gave(struct model *hand, int32_t answer, uint32_t freed);
-/* After a clear of a tag, unless it was refused. Returns @answer. */
+/* After a call that gave ordinary tags back, or kept them, those who wait are told, unless it was refused. Returns @answer. */
+int32_t model_gave(struct model *hand, int32_t answer);
+/* The same after a clear of a tag, of whichever set it is. */
 int32_t model_cleared(struct model *hand, int32_t answer, uint32_t tag);
 /* A flush, which tells those who wait. */
 int32_t model_flush_and_tell(struct model *hand);

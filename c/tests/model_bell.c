@@ -55,41 +55,46 @@ static uint32_t most_of(uint32_t a, uint32_t b)
 	return a > b ? a : b;
 }
 
-static bool is_anybody_waiting(const struct pool *pool)
+static bool is_anybody_waiting(const struct pool *pool, enum tags_kind kind)
 {
 	for (uint32_t i = 0; i < pool->hands; i++)
-		if (pool->member[i].bell != IDLE)
+		if (pool->member[i].bell != IDLE && pool->member[i].kind == kind)
 			return true;
 	return false;
 }
 
-/* If anybody waits, all kept tags go back. Returns how many these were. */
-static uint32_t give_back_kept(struct model *hand)
+/* Whoever has tags to see to tells one hand at least. If anybody waits for an ordinary one, all kept tags go back. */
+static void see_to_ordinary(struct model *hand, uint32_t freed)
 {
-	uint32_t kept;
+	const uint32_t kept = (uint32_t)__builtin_popcountll(member_of(hand)->kept);
 
-	if (hand->pool->cache == 0)
-		return 0;
-	kept = (uint32_t)__builtin_popcountll(member_of(hand)->kept);
+	if (!is_anybody_waiting(hand->pool, TAGS_ORDINARY))
+		return;
 	model_flush(hand);
-	return kept;
+	tell(hand->pool, TAGS_ORDINARY, most_of(most_of(freed, kept), 1));
 }
 
-/* Whoever has tags to see to tells one hand at least. */
-static void ring(struct model *hand, enum tags_kind kind, uint32_t freed)
+/* What a hand keeps is ordinary, and is seen to as well. */
+static void see_to(struct model *hand, enum tags_kind kind, uint32_t freed)
 {
-	struct pool *pool = hand->pool;
-	uint32_t kept;
+	if (kind == TAGS_RESERVED) {
+		tell(hand->pool, TAGS_RESERVED, most_of(freed, 1));
+		freed = 0;
+	}
+	if (kind == TAGS_ORDINARY || hand->pool->cache > 0)
+		see_to_ordinary(hand, freed);
+	hand->pool->given = 0;
+}
 
-	if (!is_anybody_waiting(pool) || (freed == 0 && pool->cache == 0))
+/* While anybody waits for a reserved tag, hands keep nothing, either. */
+static void flush_for_reserved(struct model *hand)
+{
+	const uint32_t kept = (uint32_t)__builtin_popcountll(member_of(hand)->kept);
+
+	if (hand->pool->cache == 0 || !is_anybody_waiting(hand->pool, TAGS_RESERVED))
 		return;
-	kept = give_back_kept(hand);
-	freed = least_of(freed, pool->set[kind].depth);
-	if (kind == TAGS_ORDINARY)
-		freed = most_of(freed, kept);
-	else if (kept > 0)
-		tell(pool, TAGS_ORDINARY, kept);
-	tell(pool, kind, most_of(freed, 1));
+	model_flush(hand);
+	see_to(hand, TAGS_ORDINARY, kept);
 }
 
 /* How many tags of the latest sweep the hand holds. */
@@ -117,8 +122,10 @@ uint32_t model_left(struct model *hand, enum tags_kind kind)
 
 static int32_t left_free(struct model *hand, enum tags_kind kind, int32_t answer, uint32_t left)
 {
-	if (left > 0)
-		ring(hand, kind, left);
+	if (left > 0) {
+		see_to(hand, kind, left);
+		flush_for_reserved(hand);
+	}
 	return answer;
 }
 
@@ -147,27 +154,27 @@ int32_t model_swept_for(struct model *hand, int32_t answer, uint32_t tag)
 	return is_hand(hand) ? swept(hand, kind_of(hand, tag), answer) : answer;
 }
 
-int32_t model_gave(struct model *hand, int32_t answer, uint32_t freed)
+int32_t model_gave(struct model *hand, int32_t answer)
 {
-	if (answer >= 0)
-		ring(hand, TAGS_ORDINARY, freed);
+	if (answer >= 0 && (hand->pool->given > 0 || hand->pool->cache > 0)) {
+		see_to(hand, TAGS_ORDINARY, hand->pool->given);
+		flush_for_reserved(hand);
+	}
 	return answer;
 }
 
 int32_t model_cleared(struct model *hand, int32_t answer, uint32_t tag)
 {
-	if (answer >= 0)
-		ring(hand, kind_of(hand, tag), 1);
+	if (answer >= 0) {
+		see_to(hand, kind_of(hand, tag), hand->pool->given);
+		flush_for_reserved(hand);
+	}
 	return answer;
 }
 
 int32_t model_flush_and_tell(struct model *hand)
 {
-	uint32_t kept = 0;
-
-	if (is_hand(hand))
-		kept = (uint32_t)__builtin_popcountll(member_of(hand)->kept);
-	return model_gave(hand, model_flush(hand), kept);
+	return model_gave(hand, model_flush(hand));
 }
 
 int32_t model_stop(struct model *handle)

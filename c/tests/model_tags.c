@@ -30,6 +30,7 @@ static void give(struct model *hand, uint32_t tag, enum place place)
 	set->place[tag - set->first] = place;
 	hand->pool->sums.held--;
 	hand->pool->sums.back++;
+	hand->pool->given += kind_of(hand, tag) == TAGS_ORDINARY;
 	if (!set->round_robin)
 		member_of(hand)->hint[kind_of(hand, tag)] = tag - set->first;
 }
@@ -218,6 +219,9 @@ int32_t model_post_mask(struct model *hand, uint32_t first, uint64_t mask)
 		status = find_held(hand, tags[i]);
 	for (size_t i = 0; status == TAGS_OK && i < n; i++)
 		model_post(hand, tags[i]);
+	/* these posts do not say what they gave back */
+	if (status == TAGS_OK)
+		hand->pool->given = 0;
 	return status;
 }
 

@@ -209,7 +209,7 @@ static void close_pool(void)
 
 	for (uint32_t i = 0; i < count; i++)
 		want(tags_leave(&workers[i].hand) == TAGS_OK, "a leave", i);
-	want(pool.waits->waiting == 0, "waiting", pool.waits->waiting);
+	want(tags_pool_waiting(&pool) == 0, "waiting", tags_pool_waiting(&pool));
 	resized = tags_resize(&pool, 1 + count);
 	want(resized == TAGS_OK, "a resize", resized);
 	want(tags_close(&pool, &sums) == TAGS_OK, "a close", 0);

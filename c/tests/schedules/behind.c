@@ -26,7 +26,7 @@ static void remove_at(struct queue *queue, int at)
 static void count_less(struct lender *lender)
 {
 	if (lender->queue.length > 0)
-		tags_subtract(&lender->hand->waits->waiting, 1);
+		tags_subtract(&tags_bell_of(lender->hand->waits)->waiting, 1);
 }
 
 bool queue_join(struct lender *lender, int me)
@@ -39,7 +39,7 @@ bool queue_join(struct lender *lender, int me)
 	queue->waiting[queue->length++] = me;
 	queue->waker[me] = &world->event[me];
 	if (!is_first)
-		tags_add(&lender->hand->waits->waiting, 1);
+		tags_add(&tags_bell_of(lender->hand->waits)->waiting, 1);
 	unlock(queue);
 	return is_first;
 }

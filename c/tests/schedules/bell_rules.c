@@ -146,8 +146,10 @@ void check_bell(void)
 	if (!is_locked_by(&bell->lock, -1))
 		return;
 	waiters = (uint32_t)__builtin_popcountll(listed());
-	if (bell->waits.waiting < waiters || bell->waits.waiting > 2 * world->threads)
-		fault("%u are listed, and %u are counted", waiters, bell->waits.waiting);
+	if (bell->waiting < waiters || bell->waiting > 2 * world->threads)
+		fault("%u are listed, and %u are counted", waiters, bell->waiting);
+	if (bell->waits.watchers > 3 * world->threads + 1)
+		fault("%u watchers are counted", bell->waits.watchers);
 }
 
 /*
@@ -317,13 +319,24 @@ static void check_none_coming(const struct tags_pool *in, uint32_t kind)
 		fault("%u sleepers were told, and nobody is on the way", count_coming(in, kind));
 }
 
+/* Beside caches: those who wait for a reserved tag, and for tags to be back, are watchers as long as they wait. */
+static uint32_t count_beside_caches(uint32_t drains, uint32_t lists)
+{
+	uint32_t n = drains + lists;
+
+	for (uint32_t i = 0; i < bell->hands; i++)
+		n += bell->places[i].is_waiting && bell->places[i].kind == TAGS_RESERVED;
+	return bell->is_cached ? n : 0;
+}
+
 void check_quiet_bell(uint32_t asleep, uint32_t drains, uint32_t lists)
 {
 	const uint32_t is_armed = drains > 0;
-	uint32_t waiting, in_berths;
+	uint32_t waiting, watchers, in_berths;
 
 	find_bell();
-	waiting = asleep + count_broken() + is_armed + (bell->is_cached ? drains + lists : 0) + lists;
+	waiting = asleep + count_broken() + drains + lists;
+	watchers = is_armed + lists + count_beside_caches(drains, lists);
 	in_berths = count_sleepers() + count_beside();
 	for (uint32_t kind = 0; kind < SETS; kind++) {
 		in_berths += count_listeners(kind);
@@ -336,8 +349,10 @@ void check_quiet_bell(uint32_t asleep, uint32_t drains, uint32_t lists)
 	if (asleep > 0 && bell->waits.stops % 2)
 		fault("%u wait though the pool was stopped", asleep);
 	check_stops(bell);
-	if (waiting != bell->waits.waiting)
-		fault("%u wait, not %u", waiting, bell->waits.waiting);
+	if (waiting != bell->waiting)
+		fault("%u wait, not %u", waiting, bell->waiting);
+	if (watchers != bell->waits.watchers)
+		fault("%u are watchers, not %u", watchers, bell->waits.watchers);
 	if (asleep != in_berths)
 		fault("%u wait, and %u are listed", asleep, in_berths);
 }
@@ -408,8 +423,8 @@ void check_quiet_queue(uint32_t number, uint32_t asleep)
 
 	find_bell();
 	it = bell->queue_bells[number];
-	if (it->waits.waiting != asleep || check_listed(&bell->queues->each[number], it) != asleep)
-		fault("%u wait in queue %u, not %u", asleep, number, it->waits.waiting);
+	if (it->waiting != asleep || check_listed(&bell->queues->each[number], it) != asleep)
+		fault("%u wait in queue %u, not %u", asleep, number, it->waiting);
 	check_none_coming(&bell->queues->each[number].pool, TAGS_ORDINARY);
 	if (it->waits.stops % 2 != bell->waits.stops % 2)
 		fault("queue %u is %sstopped, unlike the pool", number, it->waits.stops % 2 ? "" : "not ");
@@ -497,9 +512,8 @@ void check_quiet_gate(uint32_t hirers, uint32_t drains, uint32_t lists, uint32_t
 		check_turn(sharers);
 	check_left();
 	check_lookers(lists);
-	if (bell->draining != drains + lists || bell->listing != lists || bell->is_armed != (drains > 0))
-		fault("%u drain the pool, not %u, and one of them is %sto be told", drains + lists,
-		      bell->draining, bell->is_armed ? "" : "not ");
+	if (bell->is_armed != (drains > 0))
+		fault("%u drain the pool, and one of them is %sto be told", drains, bell->is_armed ? "" : "not ");
 	if (hirers > 0 && count_hands() < bell->hands)
 		fault("%u wait for a hand beside one that is vacant", hirers);
 	if (hirers > 0 && bell->waits.stops % 2)
@@ -516,7 +530,7 @@ static void check_left_bell(const struct bell *it)
 	for (uint32_t i = 0; i < it->hands; i++)
 		if (!is_idle(&it->places[i]))
 			fault("the last hand in place %u left a wait there", i);
-	if (it->waits.waiting || it->draining || it->is_armed || it->listing)
+	if (it->waiting || it->waits.watchers || it->is_armed)
 		fault("somebody waits after the last leave");
 }
 
@@ -566,10 +580,10 @@ void check_idle_place(uint32_t thread)
  * Caches: a hand that finds somebody waiting after a clear keeps nothing until its next clear
  */
 
-/* Those who wait for sure. The explorer's own look is no access of the program. */
-static uint64_t waiters(void)
+/* Those who wait at the gate for sure. The explorer's own look is no access of the program. */
+static uint64_t find_drains(void)
 {
-	uint64_t found = listed();
+	uint64_t found = 0;
 
 	for (uint32_t i = 0; i < world->threads; i++)
 		if (drains(i) && is_at_gate(&world->thread[i]))
@@ -577,10 +591,15 @@ static uint64_t waiters(void)
 	return found;
 }
 
+/* A clear looks for those who wait for an ordinary tag, and then for watchers. */
 void before_load(const volatile void *address)
 {
-	if (current >= 0 && find_bell() && address == &bell->waits.waiting && world->notes.clears[current])
-		world->notes.listed[current] = bell->waits.waiting > 0 ? waiters() : 0;
+	if (current < 0 || !find_bell() || !world->notes.clears[current])
+		return;
+	if (map_waiters && address == map_waiters(pool->object))
+		world->notes.listed[current] = listed_for(TAGS_ORDINARY);
+	if (address == &bell->waits.watchers && bell->waits.watchers > 0)
+		world->notes.listed[current] |= find_drains();
 }
 
 /*
@@ -591,12 +610,11 @@ static const struct {
 	size_t at;
 	const char *name;
 } words[] = {
-	{ offsetof(struct bell, waits.waiting), "waiting" },
+	{ offsetof(struct bell, waits.watchers), "watchers" },
 	{ offsetof(struct bell, waits.stops), "stops" },
-	{ offsetof(struct bell, draining), "draining" },
 	{ offsetof(struct bell, is_armed), "is_armed" },
-	{ offsetof(struct bell, listing), "listing" },
 	{ offsetof(struct bell, looks), "looks" },
+	{ offsetof(struct bell, waiting), "waiting" },
 	{ offsetof(struct bell, lock), "the lock" },
 }, fields[] = {
 	{ offsetof(struct tags_place, lock), "lock" },

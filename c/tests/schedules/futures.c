@@ -74,28 +74,29 @@ static void take_back(struct lender *lender, const struct tags_told *due)
 {
 	if (lender->is_shared)
 		pthread_mutex_unlock(&lender->lock);
-	if (due->sleepers | due->listeners)
+	if (tags_is_anybody_told(due))
 		tags_library_wake(lender->hand->waits, due);
 }
 
 /* Gives a tag back, and notes whom that has told. */
 static void give(struct tags_hand *hand, int32_t tag, struct tags_told *due)
 {
-	if (CALL(tags_library_clear(hand, (uint32_t)tag)) < 0)
+	struct tags_told told;
+	const int32_t answer = CALL(tags_library_clear(hand, (uint32_t)tag, &told));
+
+	if (tags_library_hear(hand, answer, &told, due) != TAGS_OK)
 		fault("a clear was refused");
-	if (tags_load(&hand->waits->waiting) > 0)
-		tags_library_see(hand, 1, due);
 }
 
 static int32_t find(struct lender *lender)
 {
 	struct tags_told due = { 0, 0 };
 	struct tags_hand *hand = lend(lender);
-	uint64_t left = 0;
-	int32_t tag = CALL(tags_library_get(hand, &left));
+	struct tags_told told;
+	int32_t tag = CALL(tags_library_get(hand, &told));
 
-	if (left > 0 && tags_load(&hand->waits->waiting) > 0)
-		tags_library_see(hand, left, &due);
+	if (tags_detail_is_told(tag))
+		tag = tags_library_hear(hand, tag, &told, &due);
 	take_back(lender, &due);
 	return tag;
 }

@@ -82,8 +82,7 @@ static bool give_both(int me, int32_t tag, int32_t other)
 	}
 	drop_tag(tag);
 	drop_tag(other);
-	if (CALL(tags_clear_batch(hands[me], both, 2)) < 0)
-		fault("a clear was refused");
+	EXPECT(TAGS_OK, tags_clear_batch(hands[me], both, 2));
 	return true;
 }
 
@@ -122,8 +121,7 @@ static bool give_batch(int me, int32_t first, uint64_t won)
 	for (int i = 0; i < MAX_TAGS; i++)
 		if (won >> i & 1)
 			drop_tag(first + i);
-	if (CALL(tags_clear_mask(hands[me], (uint32_t)first, won)) < 0)
-		fault("a clear was refused");
+	EXPECT(TAGS_OK, tags_clear_mask(hands[me], (uint32_t)first, won));
 	return true;
 }
 
@@ -153,6 +151,5 @@ void heir(int me)
 	tag = CALL(tags_get_blocking(hands[0]));
 	take_tag(me, tag);
 	drop_tag(tag);
-	if (CALL(tags_clear(hands[0], (uint32_t)tag)) < 0)
-		fault("a clear was refused");
+	EXPECT(TAGS_OK, tags_clear(hands[0], (uint32_t)tag));
 }

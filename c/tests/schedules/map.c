@@ -8,7 +8,8 @@
  *           words once each. A pass is a load, and a claim for each clear bit until one is won. A
  *           sweep is a load of the cleared set, a swap of it, and a subtraction from the word; that
  *           of a plain get in its first word keeps the least tag and subtracts the others, if any
- *  a clear  sets the tag aside in one step; with a cache it keeps the tag, which is none
+ *  a clear  sets the tag aside in one step; with a cache it keeps the tag, which is none. Then it looks at all who wait for a
+ *           tag of its set, and if anybody does, tells; so does each call that gives tags back, and a get that left tags free
  *  a round  of a new wait takes a turn, joins all who wait and lists the hand in its berth, by a step
  *           each; another one looks at the hand's berth and lists it there again with its turn. Then
  *           it gets. If it wins a tag or the wait is over, the hand gets up from its berth and then
@@ -21,8 +22,8 @@
  *           whose berth has changed meanwhile is passed over. With a cache all kept tags go back
  *           after a first look at all who wait, before the second one
  *
- *  a post   is one step, after which the hand has the tag no more; so is a take, which finds the hand that posted the
- *           tag, or none
+ *  a post   is one step, after which the hand has the tag no more; with a cache it then looks and tells as a clear does. So
+ *           is a take, which finds the hand that posted the tag, or none
  *
  * The two sets of tags are made alike, each with words, berths and turns of its own. What is kept is
  * ordinary.
@@ -50,6 +51,8 @@ struct member {
 	uint64_t held;
 	uint64_t kept;
 	uint64_t posted;
+	/* of the held ones those that it got, and did not take */
+	uint64_t lent;
 	/* what its latest sweep freed */
 	uint64_t swept;
 	uint32_t number;
@@ -262,6 +265,359 @@ int32_t tags_library_close(struct tags_pool *pool, struct tags_sums *sums)
 }
 
 /*
+ * Those who wait: the steps of tag_core
+ */
+
+static uint64_t berth_of(enum standing standing, enum waiter waiter, uint64_t turn)
+{
+	return turn * 8 + waiter + standing;
+}
+
+static bool is_as(uint64_t berth, enum standing standing, enum waiter waiter)
+{
+	return berth % 8 == berth_of(standing, waiter, 0);
+}
+
+/* The hands whose berths are so. */
+static uint64_t find(const struct set *set, enum standing standing, enum waiter waiter)
+{
+	uint64_t found = 0;
+
+	for (uint32_t i = 0; i < HANDS; i++)
+		found |= (uint64_t)is_as(set->berth[i], standing, waiter) << i;
+	return found;
+}
+
+uint64_t map_listed(const void *object, uint32_t kind, bool listens)
+{
+	return find(&((const struct map *)object)->set[kind], LISTED, listens ? LISTENER : SLEEPER);
+}
+
+uint64_t map_coming(const void *object, uint32_t kind)
+{
+	return find(&((const struct map *)object)->set[kind], TOLD, SLEEPER);
+}
+
+const void *map_waiters(const void *object)
+{
+	return &((const struct map *)object)->set[TAGS_ORDINARY].waiters;
+}
+
+uint64_t map_turn(const void *object, uint32_t kind, uint32_t number)
+{
+	const uint64_t berth = ((const struct map *)object)->set[kind].berth[number];
+
+	return berth == UP ? 0 : berth / 8 + 1;
+}
+
+static uint64_t bit_of(const struct member *member)
+{
+	return UINT64_C(1) << member->number;
+}
+
+static void join_waiters(const struct member *member, struct set *set)
+{
+	stop(&set->waiters, "joins all who wait");
+	set->waiters |= bit_of(member);
+}
+
+static void leave_waiters(const struct member *member, struct set *set)
+{
+	stop(&set->waiters, "leaves all who wait");
+	set->waiters &= ~bit_of(member);
+}
+
+static uint64_t look_at_waiters(const struct set *set)
+{
+	stop(&set->waiters, "looks at all who wait");
+	before_load(&set->waiters);
+	tell_step("map:   they are %lx", (unsigned long)set->waiters);
+	return set->waiters;
+}
+
+static uint64_t take_turn(struct set *set)
+{
+	stop(&set->clock, "takes a turn");
+	return set->clock++;
+}
+
+static void enlist(const struct member *member, struct set *set, enum waiter waiter, uint64_t turn)
+{
+	uint64_t *berth = &set->berth[member->number];
+
+	stop(berth, waiter == SLEEPER ? "lists itself as a sleeper" : "lists itself as a listener");
+	*berth = berth_of(LISTED, waiter, turn);
+}
+
+static uint64_t look_at_berth(const struct set *set, uint32_t number)
+{
+	stop(&set->berth[number], "looks at a berth");
+	tell_step("map:   that of hand %u is %lx", number, (unsigned long)set->berth[number]);
+	return set->berth[number];
+}
+
+/* Tells a hand that is listed as this waiter with this turn. Returns whether it was. */
+static bool tell(struct set *set, uint32_t number, enum waiter waiter, uint64_t turn)
+{
+	uint64_t *berth = &set->berth[number];
+	bool is_listed;
+
+	stop(berth, "tells");
+	is_listed = *berth == berth_of(LISTED, waiter, turn);
+	if (is_listed)
+		*berth = berth_of(TOLD, waiter, turn);
+	tell_step("map:   hand %u %s", number, is_listed ? "is told" : "is not listed so any more");
+	return is_listed;
+}
+
+static void get_up(const struct member *member, struct set *set)
+{
+	stop(&set->berth[member->number], "gets up");
+	set->berth[member->number] = UP;
+}
+
+/* One that waits keeps its turn. */
+static void list_self(const struct member *member, struct set *set, enum waiter waiter, bool again)
+{
+	const uint64_t berth = again ? look_at_berth(set, member->number) : UP;
+	uint64_t turn = berth / 8;
+
+	if (berth == UP) {
+		turn = take_turn(set);
+		join_waiters(member, set);
+	}
+	enlist(member, set, waiter, turn);
+}
+
+/* As which waiter it is listed makes no difference. */
+int32_t tags_library_is_told(struct tags_hand *hand, uint32_t listens)
+{
+	const struct member *member = member_of(hand);
+
+	(void)listens;
+	return look_at_berth(&member->map->set[TAGS_ORDINARY], member->number) % 4 != LISTED;
+}
+
+int32_t tags_library_number(struct tags_hand *hand)
+{
+	return (int32_t)member_of(hand)->number;
+}
+
+/*
+ * What a hand keeps
+ */
+
+uint64_t map_keeps(const void *object)
+{
+	return object ? ((const struct member *)object)->kept : 0;
+}
+
+/* Gives ordinary tags back by one step for each word. */
+static void give(struct member *member, uint64_t tags)
+{
+	struct set *set = &member->map->set[TAGS_ORDINARY];
+
+	for (uint32_t word = 0; word < set->words; word++) {
+		uint64_t bits = bits_in(set, word, tags) & bits_of(set, word);
+
+		if (!bits)
+			continue;
+		stop(&set->word[word], "gives tags back");
+		set->word[word] &= ~bits;
+	}
+	member->map->back += count(tags);
+}
+
+static void flush(struct member *member)
+{
+	uint64_t kept = member->kept;
+
+	member->kept = 0;
+	if (kept)
+		give(member, kept);
+}
+
+/*
+ * Telling them: what tag_bell does by these steps
+ */
+
+/* What was found at the berths of those who wait: who is listed, with which turns, and how many sleepers were told. */
+struct found {
+	uint64_t sleepers, listeners;
+	uint64_t turns[HANDS];
+	uint32_t coming;
+};
+
+/* Adds what it finds at the berths of these to those that were found coming before. */
+static struct found look_at_each(const struct set *set, uint64_t waiters, uint32_t coming)
+{
+	struct found found = { .coming = coming };
+
+	for (uint32_t i = 0; i < HANDS; i++) {
+		const uint64_t berth = waiters >> i & 1 ? look_at_berth(set, i) : UP;
+
+		found.sleepers |= (uint64_t)is_as(berth, LISTED, SLEEPER) << i;
+		found.listeners |= (uint64_t)is_as(berth, LISTED, LISTENER) << i;
+		found.turns[i] = berth / 8;
+		found.coming += is_as(berth, TOLD, SLEEPER);
+	}
+	return found;
+}
+
+/* The one of these that has the lowest turn. */
+static uint32_t earliest(uint64_t hands, const uint64_t *turns)
+{
+	uint32_t first = (uint32_t)__builtin_ctzll(hands);
+
+	for (uint32_t i = 0; i < HANDS; i++)
+		if (hands >> i & 1 && turns[i] < turns[first])
+			first = i;
+	return first;
+}
+
+/* Tells so many of those that were found listed as this waiter. Returns those told. */
+static uint64_t tell_in_turn(struct set *set, enum waiter waiter, uint32_t most, uint64_t listed, const uint64_t *turns)
+{
+	uint64_t told = 0;
+
+	while (listed && count(told) < most) {
+		const uint32_t number = earliest(listed, turns);
+
+		listed &= ~(UINT64_C(1) << number);
+		if (tell(set, number, waiter, turns[number]))
+			told |= UINT64_C(1) << number;
+	}
+	return told;
+}
+
+static bool has_nobody_to_tell(const struct set *set, const struct found *found)
+{
+	return !found->listeners && (!found->sleepers || found->coming >= set->depth);
+}
+
+/* No more than come, with those that were told before, to as many tags as there are. */
+static uint64_t tell_sleepers(struct set *set, uint32_t most, const struct found *found)
+{
+	if (found->coming >= set->depth)
+		return 0;
+	if (most > set->depth - found->coming)
+		most = set->depth - found->coming;
+	return tell_in_turn(set, SLEEPER, most, found->sleepers, found->turns);
+}
+
+static const struct tags_told NOBODY = { 0, 0 };
+
+static struct tags_told see_to(struct set *set, uint32_t freed)
+{
+	const uint64_t waiters = look_at_waiters(set);
+	const uint32_t most = freed > 0 ? freed : 1;
+	struct tags_told told;
+	struct found found;
+
+	if (!waiters)
+		return NOBODY;
+	found = look_at_each(set, waiters, 0);
+	if (has_nobody_to_tell(set, &found))
+		return NOBODY;
+	/* the library notes no turns before */
+	found = look_at_each(set, found.sleepers | found.listeners, found.coming);
+	told.sleepers = tell_sleepers(set, most, &found);
+	told.listeners = tell_in_turn(set, LISTENER, most, found.listeners, found.turns);
+	return told;
+}
+
+/* Of ordinary tags, and of those that the hand keeps: all of these go back if anybody waits for one. */
+static struct tags_told see_with_kept(struct member *member, uint32_t freed)
+{
+	struct set *set = &member->map->set[TAGS_ORDINARY];
+	const uint32_t kept = count(member->kept);
+
+	if (!look_at_waiters(set))
+		return NOBODY;
+	flush(member);
+	return see_to(set, freed > kept ? freed : kept);
+}
+
+/* What is kept is ordinary, and is seen to as well. */
+static struct tags_told see_to_kind(struct member *member, enum tags_kind kind, uint32_t freed)
+{
+	struct map *map = member->map;
+	struct tags_told told, more;
+
+	if (map->cache == 0)
+		return look_at_waiters(&map->set[kind]) ? see_to(&map->set[kind], freed) : NOBODY;
+	if (kind == TAGS_ORDINARY)
+		return see_with_kept(member, freed);
+	told = see_to(&map->set[TAGS_RESERVED], freed);
+	more = see_with_kept(member, 0);
+	return (struct tags_told){ told.sleepers | more.sleepers, told.listeners | more.listeners };
+}
+
+int32_t tags_library_see_to(struct tags_hand *hand, uint32_t freed, struct tags_told *told)
+{
+	struct member *member = member_of(hand);
+
+	*told = member->map->cache > 0 ? see_with_kept(member, freed) : see_to(&member->map->set[TAGS_ORDINARY], freed);
+	return 0;
+}
+
+int32_t tags_library_see_to_reserved(struct tags_hand *hand, uint32_t freed, struct tags_told *told)
+{
+	*told = see_to(&member_of(hand)->map->set[TAGS_RESERVED], freed);
+	return 0;
+}
+
+static bool is_any_free(const struct set *set, uint32_t word)
+{
+	uint64_t taken, aside;
+
+	stop(&set->word[word], "looks for a free tag");
+	taken = set->word[word];
+	stop(&set->aside[word], "looks for one in the cleared set");
+	aside = set->aside[word];
+	return aside != 0 || (taken & bits_of(set, word)) != bits_of(set, word);
+}
+
+static struct tags_told see_to_all(struct set *set)
+{
+	if (look_at_waiters(set))
+		for (uint32_t word = 0; word < set->words; word++)
+			if (is_any_free(set, word))
+				return see_to(set, 1);
+	return NOBODY;
+}
+
+/*
+ * What calls answer that make tags free
+ */
+
+/* Whoever looks at it though the answer has no flag wakes hands that are not there. */
+static void spoil(struct tags_told *told)
+{
+	*told = (struct tags_told){ ~UINT64_C(0), ~UINT64_C(0) };
+}
+
+/* After a get: the flag tells that it left tags free. */
+static int32_t look_after(struct member *member, enum tags_kind kind, uint64_t left, int32_t answer, struct tags_told *told)
+{
+	if (left == 0)
+		return answer;
+	*told = see_to_kind(member, kind, (uint32_t)left);
+	return answer + TAGS_DETAIL_TOLD;
+}
+
+/* After a call that gave so many tags back: the flag tells that anybody was told. */
+static int32_t tell_of(struct member *member, enum tags_kind kind, uint32_t freed, int32_t answer, struct tags_told *told)
+{
+	const struct tags_told whom = see_to_kind(member, kind, freed);
+
+	if (!whom.sleepers && !whom.listeners)
+		return answer;
+	*told = whom;
+	return answer + TAGS_DETAIL_TOLD;
+}
+
+/*
  * Gets
  */
 
@@ -403,6 +759,7 @@ static void win(struct member *member, uint64_t tags, uint64_t *left)
 	*left = *left > own ? *left - own : 0;
 	member->swept = 0;
 	member->held |= tags;
+	member->lent |= tags;
 	member->map->got += count(tags);
 	tell_step("map:   won %lx, left free %lu", (unsigned long)tags, (unsigned long)*left);
 }
@@ -429,6 +786,7 @@ static int32_t get_kept(struct member *member)
 
 	member->kept &= member->kept - 1;
 	member->held |= UINT64_C(1) << tag;
+	member->lent |= UINT64_C(1) << tag;
 	return tag;
 }
 
@@ -453,54 +811,60 @@ static struct member *begin(struct member *member)
 	return member;
 }
 
-static int32_t get_alone(struct tags_hand *hand, enum tags_kind kind, uint64_t *left)
+static int32_t get_alone(struct tags_hand *hand, enum tags_kind kind, struct tags_told *told)
 {
 	struct member *member = begin(member_of(hand));
-	const int32_t tag = is_spent(member) ? (int32_t)TAGS_SPENT : get(member, kind, left);
+	int32_t tag = TAGS_SPENT;
+	uint64_t left = 0;
 
+	spoil(told);
+	if (!is_spent(member))
+		tag = get(member, kind, &left);
+	tag = look_after(member, kind, left, tag, told);
 	member->is_in_call = false;
 	return tag;
 }
 
-int32_t tags_library_get(struct tags_hand *hand, uint64_t *left)
+int32_t tags_library_get(struct tags_hand *hand, struct tags_told *told)
 {
-	return get_alone(hand, TAGS_ORDINARY, left);
+	return get_alone(hand, TAGS_ORDINARY, told);
 }
 
-int32_t tags_library_get_reserved(struct tags_hand *hand, uint64_t *left)
+int32_t tags_library_get_reserved(struct tags_hand *hand, struct tags_told *told)
 {
-	*left = 0;
 	if (member_of(hand)->map->set[TAGS_RESERVED].depth == 0)
 		return TAGS_NO_RESERVED;
-	return get_alone(hand, TAGS_RESERVED, left);
+	return get_alone(hand, TAGS_RESERVED, told);
 }
 
 /* In one step. */
-int32_t tags_library_get_exactly(struct tags_hand *hand, uint32_t tag, uint64_t *left)
+int32_t tags_library_get_exactly(struct tags_hand *hand, uint32_t tag, struct tags_told *told)
 {
 	struct member *member = member_of(hand);
 	struct set *set = set_of(member->map, tag);
 	uint32_t word = (tag - set->first) / set->width;
 	uint64_t bit = UINT64_C(1) << ((tag - set->first) % set->width);
+	uint64_t left = 0;
 
-	*left = 0;
+	spoil(told);
 	stop(&set->word[word], "gets a tag that is named");
 	if (set->word[word] & bit)
 		return TAGS_NO_TAG;
 	set->word[word] |= bit;
-	win(member, UINT64_C(1) << tag, left);
+	win(member, UINT64_C(1) << tag, &left);
 	return (int32_t)tag;
 }
 
-int32_t tags_library_get_shallow(struct tags_hand *hand, uint32_t depth, uint64_t *left)
+int32_t tags_library_get_shallow(struct tags_hand *hand, uint32_t depth, struct tags_told *told)
 {
 	struct member *member = member_of(hand);
+	uint64_t left = 0;
 	int32_t tag;
 
-	*left = 0;
-	tag = search(member, &member->map->set[TAGS_ORDINARY], 0, depth, false, left);
-	win(member, tag < 0 ? 0 : UINT64_C(1) << tag, left);
-	return tag;
+	spoil(told);
+	tag = search(member, &member->map->set[TAGS_ORDINARY], 0, depth, false, &left);
+	win(member, tag < 0 ? 0 : UINT64_C(1) << tag, &left);
+	return look_after(member, TAGS_ORDINARY, left, tag, told);
 }
 
 /* Claims the run of places that begins at the first free one. Returns what was won of it. */
@@ -522,13 +886,12 @@ static uint64_t claim_run(struct set *set, uint32_t word, uint64_t run, int *pla
 	return run & ~found;
 }
 
-int32_t tags_library_get_batch(struct tags_hand *hand, uint32_t n, uint64_t *won, uint64_t *left)
+/* Returns the first tag of what it won. */
+static int32_t get_run(struct member *member, uint32_t n, uint64_t *won, uint64_t *left)
 {
-	struct member *member = member_of(hand);
 	struct set *set = &member->map->set[TAGS_ORDINARY];
 	int place = 0;
 
-	*left = 0;
 	for (uint32_t word = 0; word < set->words; word++) {
 		uint64_t tags;
 
@@ -544,39 +907,19 @@ int32_t tags_library_get_batch(struct tags_hand *hand, uint32_t n, uint64_t *won
 	return TAGS_NO_TAG;
 }
 
+int32_t tags_library_get_batch(struct tags_hand *hand, uint32_t n, uint64_t *won, struct tags_told *told)
+{
+	uint64_t left = 0;
+	int32_t first;
+
+	spoil(told);
+	first = get_run(member_of(hand), n, won, &left);
+	return look_after(member_of(hand), TAGS_ORDINARY, left, first, told);
+}
+
 /*
  * Gives
  */
-
-uint64_t map_keeps(const void *object)
-{
-	return object ? ((const struct member *)object)->kept : 0;
-}
-
-/* Gives ordinary tags back by one step for each word. */
-static void give(struct member *member, uint64_t tags)
-{
-	struct set *set = &member->map->set[TAGS_ORDINARY];
-
-	for (uint32_t word = 0; word < set->words; word++) {
-		uint64_t bits = bits_in(set, word, tags) & bits_of(set, word);
-
-		if (!bits)
-			continue;
-		stop(&set->word[word], "gives tags back");
-		set->word[word] &= ~bits;
-	}
-	member->map->back += count(tags);
-}
-
-static void flush(struct member *member)
-{
-	uint64_t kept = member->kept;
-
-	member->kept = 0;
-	if (kept)
-		give(member, kept);
-}
 
 static void set_aside(struct member *member, uint32_t tag)
 {
@@ -593,31 +936,48 @@ static bool is_ordinary(const struct map *map, uint32_t tag)
 	return tag >= map->set[TAGS_ORDINARY].first;
 }
 
-/* The ordinary tags that a hand holds. */
-static uint64_t held_ordinary(const struct member *member)
+/* Whether a hand that gives these tags up has no ordinary one left, for which it would keep others. */
+static bool are_last(const struct member *member, uint64_t tags)
 {
-	return member->held & ~UINT64_C(0) << member->map->set[TAGS_ORDINARY].first;
+	const uint64_t ordinary = ~UINT64_C(0) << member->map->set[TAGS_ORDINARY].first;
+
+	return member->map->keeps_while_holding && !(member->lent & ordinary & ~tags);
+}
+
+/* The hand gives these tags up. All kept ones go back with the last. */
+static void release(struct member *member, uint64_t tags)
+{
+	if (are_last(member, tags))
+		flush(member);
+	member->held &= ~tags;
+	member->lent &= ~tags;
 }
 
 /* Keeps the tag of this bit if it may be kept. Otherwise all kept tags go back. */
 static bool keep(struct member *member, uint64_t bit)
 {
-	struct map *map = member->map;
-	bool may_keep = !map->keeps_while_holding || held_ordinary(member) != bit;
+	const bool may_keep = !are_last(member, bit);
 
-	if (!may_keep || count(member->kept) == map->cache)
+	if (!may_keep || count(member->kept) == member->map->cache)
 		flush(member);
 	if (may_keep)
 		member->kept |= bit;
 	return may_keep;
 }
 
-int32_t tags_library_clear(struct tags_hand *hand, uint32_t tag)
+static enum tags_kind kind_of(const struct map *map, uint32_t tag)
+{
+	return is_ordinary(map, tag) ? TAGS_ORDINARY : TAGS_RESERVED;
+}
+
+int32_t tags_library_clear(struct tags_hand *hand, uint32_t tag, struct tags_told *told)
 {
 	struct member *member = member_of(hand);
 	uint64_t bit = UINT64_C(1) << tag;
+	int32_t answer;
 	bool is_kept;
 
+	spoil(told);
 	if (tag >= total_of(member->map))
 		return TAGS_NO_SUCH_TAG;
 	if (!(member->held & bit))
@@ -625,10 +985,12 @@ int32_t tags_library_clear(struct tags_hand *hand, uint32_t tag)
 	begin(member);
 	is_kept = member->map->cache > 0 && is_ordinary(member->map, tag) && keep(member, bit);
 	member->held &= ~bit;
+	member->lent &= ~bit;
 	if (!is_kept)
 		set_aside(member, tag);
+	answer = tell_of(member, kind_of(member->map, tag), 1, TAGS_OK, told);
 	member->is_in_call = false;
-	return 0;
+	return answer;
 }
 
 /* No other thread sees this. */
@@ -639,40 +1001,55 @@ int32_t tags_library_holds(struct tags_hand *hand, uint32_t tag)
 	return (member_of(hand)->held >> tag & 1) != 0;
 }
 
-int32_t tags_library_clear_mask(struct tags_hand *hand, uint32_t first, uint64_t mask)
+int32_t tags_library_clear_mask(struct tags_hand *hand, uint32_t first, uint64_t mask, struct tags_told *told)
 {
 	struct member *member = member_of(hand);
 	uint64_t tags = mask << first;
 
+	spoil(told);
 	if (!mask)
 		return TAGS_BAD_COUNT;
 	if ((member->held & tags) != tags)
 		return TAGS_NOT_HELD;
-	member->held &= ~tags;
+	release(member, tags);
 	give(member, tags);
-	return 0;
+	return tell_of(member, TAGS_ORDINARY, count(tags), TAGS_OK, told);
 }
 
-int32_t tags_library_clear_batch(struct tags_hand *hand, const uint32_t *tags, size_t count_)
+int32_t tags_library_clear_batch(struct tags_hand *hand, const uint32_t *tags, size_t count_, struct tags_told *told)
 {
 	uint64_t mask = 0;
 
 	for (size_t i = 0; i < count_; i++)
 		mask |= UINT64_C(1) << tags[i];
-	return tags_library_clear_mask(hand, 0, mask);
+	return tags_library_clear_mask(hand, 0, mask, told);
 }
 
-int32_t tags_library_post(struct tags_hand *hand, uint32_t tag)
+int32_t tags_library_post_quietly(struct tags_hand *hand, uint32_t tag)
 {
 	struct member *member = member_of(hand);
 	uint64_t bit = UINT64_C(1) << tag;
 
 	if (!(member->held & bit))
 		return TAGS_NOT_HELD;
+	if (member->lent & bit)
+		release(member, bit);
 	stop(member, "posts a tag");
 	member->held &= ~bit;
 	member->posted |= bit;
 	return TAGS_OK;
+}
+
+/* A post makes no tag free, but what a hand keeps is seen to. */
+int32_t tags_library_post(struct tags_hand *hand, uint32_t tag, struct tags_told *told)
+{
+	struct member *member = member_of(hand);
+	const int32_t status = tags_library_post_quietly(hand, tag);
+
+	spoil(told);
+	if (status != TAGS_OK || member->map->cache == 0)
+		return status;
+	return tell_of(member, TAGS_ORDINARY, 0, status, told);
 }
 
 int32_t tags_library_take(struct tags_hand *hand, uint32_t tag)
@@ -726,265 +1103,16 @@ int32_t tags_library_read(struct tags_hand *hand, uint32_t tag, uint64_t *value)
 	return TAGS_OK;
 }
 
-int32_t tags_library_flush(struct tags_hand *hand)
+int32_t tags_library_flush(struct tags_hand *hand, struct tags_told *told)
 {
 	struct member *member = member_of(hand);
-	uint32_t kept = count(member->kept);
+	const uint32_t kept = count(member->kept);
 
-	flush(member);
-	return (int32_t)kept;
-}
-
-/*
- * Those who wait: the steps of tag_core
- */
-
-static uint64_t berth_of(enum standing standing, enum waiter waiter, uint64_t turn)
-{
-	return turn * 8 + waiter + standing;
-}
-
-static bool is_as(uint64_t berth, enum standing standing, enum waiter waiter)
-{
-	return berth % 8 == berth_of(standing, waiter, 0);
-}
-
-/* The hands whose berths are so. */
-static uint64_t find(const struct set *set, enum standing standing, enum waiter waiter)
-{
-	uint64_t found = 0;
-
-	for (uint32_t i = 0; i < HANDS; i++)
-		found |= (uint64_t)is_as(set->berth[i], standing, waiter) << i;
-	return found;
-}
-
-uint64_t map_listed(const void *object, uint32_t kind, bool listens)
-{
-	return find(&((const struct map *)object)->set[kind], LISTED, listens ? LISTENER : SLEEPER);
-}
-
-uint64_t map_coming(const void *object, uint32_t kind)
-{
-	return find(&((const struct map *)object)->set[kind], TOLD, SLEEPER);
-}
-
-uint64_t map_turn(const void *object, uint32_t kind, uint32_t number)
-{
-	const uint64_t berth = ((const struct map *)object)->set[kind].berth[number];
-
-	return berth == UP ? 0 : berth / 8 + 1;
-}
-
-static uint64_t bit_of(const struct member *member)
-{
-	return UINT64_C(1) << member->number;
-}
-
-static void join_waiters(const struct member *member, struct set *set)
-{
-	stop(&set->waiters, "joins all who wait");
-	set->waiters |= bit_of(member);
-}
-
-static void leave_waiters(const struct member *member, struct set *set)
-{
-	stop(&set->waiters, "leaves all who wait");
-	set->waiters &= ~bit_of(member);
-}
-
-static uint64_t look_at_waiters(const struct set *set)
-{
-	stop(&set->waiters, "looks at all who wait");
-	tell_step("map:   they are %lx", (unsigned long)set->waiters);
-	return set->waiters;
-}
-
-static uint64_t take_turn(struct set *set)
-{
-	stop(&set->clock, "takes a turn");
-	return set->clock++;
-}
-
-static void enlist(const struct member *member, struct set *set, enum waiter waiter, uint64_t turn)
-{
-	uint64_t *berth = &set->berth[member->number];
-
-	stop(berth, waiter == SLEEPER ? "lists itself as a sleeper" : "lists itself as a listener");
-	*berth = berth_of(LISTED, waiter, turn);
-}
-
-static uint64_t look_at_berth(const struct set *set, uint32_t number)
-{
-	stop(&set->berth[number], "looks at a berth");
-	tell_step("map:   that of hand %u is %lx", number, (unsigned long)set->berth[number]);
-	return set->berth[number];
-}
-
-/* Tells a hand that is listed as this waiter with this turn. Returns whether it was. */
-static bool tell(struct set *set, uint32_t number, enum waiter waiter, uint64_t turn)
-{
-	uint64_t *berth = &set->berth[number];
-	bool is_listed;
-
-	stop(berth, "tells");
-	is_listed = *berth == berth_of(LISTED, waiter, turn);
-	if (is_listed)
-		*berth = berth_of(TOLD, waiter, turn);
-	tell_step("map:   hand %u %s", number, is_listed ? "is told" : "is not listed so any more");
-	return is_listed;
-}
-
-static void get_up(const struct member *member, struct set *set)
-{
-	stop(&set->berth[member->number], "gets up");
-	set->berth[member->number] = UP;
-}
-
-/* One that waits keeps its turn. */
-static void list_self(const struct member *member, struct set *set, enum waiter waiter, bool again)
-{
-	const uint64_t berth = again ? look_at_berth(set, member->number) : UP;
-	uint64_t turn = berth / 8;
-
-	if (berth == UP) {
-		turn = take_turn(set);
-		join_waiters(member, set);
-	}
-	enlist(member, set, waiter, turn);
-}
-
-/* As which waiter it is listed makes no difference. */
-int32_t tags_library_is_told(struct tags_hand *hand, uint32_t listens)
-{
-	const struct member *member = member_of(hand);
-
-	(void)listens;
-	return look_at_berth(&member->map->set[TAGS_ORDINARY], member->number) % 4 != LISTED;
-}
-
-int32_t tags_library_number(struct tags_hand *hand)
-{
-	return (int32_t)member_of(hand)->number;
-}
-
-/*
- * Telling them: what tag_bell does by these steps
- */
-
-/* What was found at the berths of those who wait: who is listed, with which turns, and how many sleepers were told. */
-struct found {
-	uint64_t sleepers, listeners;
-	uint64_t turns[HANDS];
-	uint32_t coming;
-};
-
-static struct found look_at_each(const struct set *set, uint64_t waiters)
-{
-	struct found found = { 0 };
-
-	for (uint32_t i = 0; i < HANDS; i++) {
-		const uint64_t berth = waiters >> i & 1 ? look_at_berth(set, i) : UP;
-
-		found.sleepers |= (uint64_t)is_as(berth, LISTED, SLEEPER) << i;
-		found.listeners |= (uint64_t)is_as(berth, LISTED, LISTENER) << i;
-		found.turns[i] = berth / 8;
-		found.coming += is_as(berth, TOLD, SLEEPER);
-	}
-	return found;
-}
-
-/* The one of these that has the lowest turn. */
-static uint32_t earliest(uint64_t hands, const uint64_t *turns)
-{
-	uint32_t first = (uint32_t)__builtin_ctzll(hands);
-
-	for (uint32_t i = 0; i < HANDS; i++)
-		if (hands >> i & 1 && turns[i] < turns[first])
-			first = i;
-	return first;
-}
-
-/* Tells so many of those that were found listed as this waiter. Returns those told. */
-static uint64_t tell_in_turn(struct set *set, enum waiter waiter, uint32_t most, uint64_t listed, const uint64_t *turns)
-{
-	uint64_t told = 0;
-
-	while (listed && count(told) < most) {
-		const uint32_t number = earliest(listed, turns);
-
-		listed &= ~(UINT64_C(1) << number);
-		if (tell(set, number, waiter, turns[number]))
-			told |= UINT64_C(1) << number;
-	}
-	return told;
-}
-
-/* No more than come, with those that were told before, to as many tags as there are. */
-static uint64_t tell_sleepers(struct set *set, uint32_t most, const struct found *found)
-{
-	if (found->coming >= set->depth)
+	spoil(told);
+	if (member->map->cache == 0)
 		return 0;
-	if (most > set->depth - found->coming)
-		most = set->depth - found->coming;
-	return tell_in_turn(set, SLEEPER, most, found->sleepers, found->turns);
-}
-
-static struct tags_told see_to(struct set *set, uint32_t freed)
-{
-	const uint64_t waiters = look_at_waiters(set);
-	const uint32_t most = freed > 0 ? freed : 1;
-	struct tags_told told = { 0, 0 };
-	struct found found;
-
-	if (!waiters)
-		return told;
-	found = look_at_each(set, waiters);
-	told.sleepers = tell_sleepers(set, most, &found);
-	told.listeners = tell_in_turn(set, LISTENER, most, found.listeners, found.turns);
-	return told;
-}
-
-int32_t tags_library_see_to(struct tags_hand *hand, uint32_t freed, struct tags_told *told)
-{
-	struct member *member = member_of(hand);
-	struct set *set = &member->map->set[TAGS_ORDINARY];
-	uint32_t kept = count(member->kept);
-
-	*told = (struct tags_told){ 0, 0 };
-	if (member->map->cache > 0) {
-		if (!look_at_waiters(set))
-			return 0;
-		flush(member);
-	}
-	*told = see_to(set, freed > kept ? freed : kept);
-	return 0;
-}
-
-int32_t tags_library_see_to_reserved(struct tags_hand *hand, uint32_t freed, struct tags_told *told)
-{
-	*told = see_to(&member_of(hand)->map->set[TAGS_RESERVED], freed);
-	return 0;
-}
-
-static bool is_any_free(const struct set *set, uint32_t word)
-{
-	uint64_t taken, aside;
-
-	stop(&set->word[word], "looks for a free tag");
-	taken = set->word[word];
-	stop(&set->aside[word], "looks for one in the cleared set");
-	aside = set->aside[word];
-	return aside != 0 || (taken & bits_of(set, word)) != bits_of(set, word);
-}
-
-static struct tags_told see_to_all(struct set *set)
-{
-	if (look_at_waiters(set))
-		for (uint32_t word = 0; word < set->words; word++)
-			if (is_any_free(set, word))
-				return see_to(set, 1);
-	return (struct tags_told){ 0, 0 };
+	flush(member);
+	return tell_of(member, TAGS_ORDINARY, kept, (int32_t)kept, told);
 }
 
 /*
@@ -1009,7 +1137,7 @@ static int32_t make_round(struct tags_hand *hand, enum tags_kind kind, enum wait
 	uint64_t left;
 	int32_t tag;
 
-	*told = (struct tags_told){ 0, 0 };
+	*told = NOBODY;
 	if (again != member->is_waiting)
 		fault(again ? "a wait goes on that did not begin" : "a wait begins anew");
 	if (again && member->waits_for != kind)

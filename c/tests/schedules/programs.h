@@ -51,6 +51,7 @@ void keeper(int me);
 void taker(int me);
 void mask_poster(int me);
 void mask_taker(int me);
+void mask_keeper(int me);
 void reserver(int me);
 void all_reserver(int me);
 
@@ -65,6 +66,8 @@ void reserved_breaker(int me);
 void crosser(int me);
 void holder_of_both(int me);
 void reserved_keeper(int me);
+void keeping_reserver(int me);
+void reserved_giver(int me);
 void shared_reserver(int me);
 
 /* lives.c: joins, leaves, and what happens to a whole pool */
@@ -111,9 +114,11 @@ bool borrows(uint32_t thread);
 void submitter(int me);
 void sleeping_submitter(int me);
 void submitter_to_all(int me);
+void keeping_submitter(int me);
 void submitting_goer(int me);
 void relay(int me);
 void past_taker(int me);
+void past_keeper(int me);
 void next_poster(int me);
 void posted_submitter(int me);
 void next_sleeper(int me);

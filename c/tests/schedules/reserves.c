@@ -148,6 +148,44 @@ void reserved_keeper(int me)
 	reserved_sleeper(me);
 }
 
+/* Gives an ordinary tag back, which it may keep for ever, and then a reserved one. */
+void keeping_reserver(int me)
+{
+	const int32_t tag = CALL(tags_get(hands[me]));
+	const int32_t reserved = CALL(tags_get_reserved(hands[me]));
+
+	if (tag >= 0) {
+		take_tag(me, tag);
+		clear_tag(me, tag);
+	}
+	if (reserved >= 0) {
+		take_tag(me, reserved);
+		clear_tag(me, reserved);
+	}
+}
+
+/* Gives an ordinary tag back while it waits for a reserved one by an eventfd. */
+void reserved_giver(int me)
+{
+	const int32_t other = CALL(tags_get(hands[me]));
+	int32_t tag;
+
+	reserve(me);
+	if (other >= 0)
+		take_tag(me, other);
+	open_event(me);
+	tag = CALL(tags_get_reserved_async(hands[me], me));
+	if (other >= 0)
+		clear_tag(me, other);
+	while (tag == TAGS_NO_TAG) {
+		wait_event(me);
+		tag = CALL(tags_get_reserved_async(hands[me], me));
+	}
+	close_event(me);
+	if (use_reserved(me, tag))
+		end_program(me);
+}
+
 /* Takes reserved tags by hands that threads share, and never waits. */
 void shared_reserver(int me)
 {

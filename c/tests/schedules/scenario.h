@@ -164,7 +164,7 @@ void check_closed_bell(void);
 void check_idle_place(uint32_t thread);
 /* Whether the word tells that a hand is in a call: it is written by whoever uses the hand. */
 bool is_of_hand(const volatile void *address);
-/* Called before each atomic load. */
+/* Called before each atomic load, and before each look of the model at all who wait. */
 void before_load(const volatile void *address);
 /* Whether this thread has the bell's lock, or that of a hand or of the futures behind it. */
 bool has_lock(int thread);
@@ -180,10 +180,12 @@ int32_t tags_library_is_told(struct tags_hand *hand, uint32_t listens);
 enum { SETS = 2 };
 
 /*
- * map.c alone: the tags that a hand keeps, and of a set of tags the hands that are listed as sleepers or as listeners, the
- * sleepers that were told and are not up yet, and the turn of a hand that waits, 0 if it does not
+ * map.c alone: the tags that a hand keeps, where all stand who wait for an ordinary tag; and of a set of tags the hands that
+ * are listed as sleepers or as listeners, the sleepers that were told and are not up yet, and the turn of a hand that waits,
+ * 0 if it does not
  */
 __attribute__((weak)) uint64_t map_keeps(const void *object);
+__attribute__((weak)) const void *map_waiters(const void *object);
 __attribute__((weak)) uint64_t map_listed(const void *object, uint32_t kind, bool listens);
 __attribute__((weak)) uint64_t map_coming(const void *object, uint32_t kind);
 __attribute__((weak)) uint64_t map_turn(const void *object, uint32_t kind, uint32_t number);

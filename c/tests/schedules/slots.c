@@ -85,8 +85,7 @@ void taker(int me)
 	if (holds_for_ever())
 		return;
 	drop_tag((int32_t)tag);
-	if (CALL(tags_read_clear(hands[me], tag, &value)) < 0)
-		fault("a clear was refused");
+	EXPECT(TAGS_OK, tags_read_clear(hands[me], tag, &value));
 	if (value != value_of(0))
 		fault("the slot of tag %u has %lx", tag, (unsigned long)value);
 	end_program(me);
@@ -143,6 +142,44 @@ void mask_taker(int me)
 {
 	wait_event(HANDED - me);
 	take_two(me);
+}
+
+/* Gives tags 1 and 2 back, which it has taken, or holds them for ever. */
+static void give_two(int me)
+{
+	take_tag(me, 1);
+	take_tag(me, 2);
+	if (holds_for_ever())
+		return;
+	clear_tag(me, 1);
+	clear_tag(me, 2);
+	end_program(me);
+}
+
+/*
+ * Gets three tags, keeps one of them, and posts by a mask the two others, or one, beside which it holds
+ * the other. Then it would take both, which is refused unless both are posted.
+ */
+void mask_keeper(int me)
+{
+	uint64_t posted;
+
+	for (int32_t tag = 0; tag < 3; tag++) {
+		const int32_t got = CALL(tags_get(hands[me]));
+
+		if (got == TAGS_NO_TAG)
+			return;
+		take_tag(me, got);
+	}
+	clear_tag(me, 0);
+	posted = choose(2) ? 2 : 6;
+	for (int32_t tag = 1; tag < 3; tag++)
+		drop_tag(tag);
+	EXPECT(TAGS_OK, tags_post_mask(hands[me], 0, posted));
+	EXPECT(posted == 6 ? TAGS_OK : TAGS_NOT_POSTED, tags_take_mask(hands[me], 0, 6));
+	if (posted == 2)
+		EXPECT(TAGS_OK, tags_take(hands[me], 1));
+	give_two(me);
 }
 
 /* Takes reserved tags, which nobody waits for, and never waits. */

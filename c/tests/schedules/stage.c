@@ -138,8 +138,7 @@ void clear_tag(int me, int32_t tag)
 {
 	world->notes.clears[me] = scenario->cache > 0;
 	drop_tag(tag);
-	if (CALL(tags_clear(hands[me], (uint32_t)tag)) < 0)
-		fault("a clear was refused");
+	EXPECT(TAGS_OK, tags_clear(hands[me], (uint32_t)tag));
 	world->notes.clears[me] = false;
 }
 
@@ -179,8 +178,8 @@ void end_program(int me)
 {
 	if (scenario->cache && scenario->forever && choose(2))
 		return;
-	if (scenario->cache && CALL(tags_flush(hands[me])) < 0)
-		fault("a flush was refused");
+	if (scenario->cache)
+		EXPECT(TAGS_OK, tags_flush(hands[me]));
 }
 
 /*

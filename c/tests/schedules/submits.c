@@ -206,6 +206,24 @@ void submitter_to_all(int me)
 	}
 }
 
+/* Gives a tag back, which it may keep, and submits another one. */
+void keeping_submitter(int me)
+{
+	const int32_t tag = CALL(tags_get(hands[me]));
+	int32_t other;
+
+	if (tag < 0)
+		return;
+	take_tag(me, tag);
+	other = CALL(tags_get(hands[me]));
+	if (other >= 0)
+		take_tag(me, other);
+	clear_tag(me, tag);
+	if (other >= 0)
+		submit(me, other, 0);
+	end_program(me);
+}
+
 /* Submits a tag and leaves. */
 void submitting_goer(int me)
 {
@@ -238,6 +256,19 @@ void past_taker(int me)
 			EXPECT(TAGS_NOT_POSTED, tags_take_mask(hands[me], 0, both));
 		EXPECT(0, tags_holds(hands[me], 0));
 	}
+}
+
+/* Gives a tag back, which it may keep, and is refused the other one, though it is in a queue. */
+void past_keeper(int me)
+{
+	const int32_t tag = CALL(tags_get(hands[me]));
+
+	if (tag < 0)
+		return;
+	take_tag(me, tag);
+	clear_tag(me, tag);
+	EXPECT(TAGS_NOT_POSTED, tags_take(hands[me], 1 - (uint32_t)tag));
+	end_program(me);
 }
 
 /* The event by which a thread tells another one of the tag in notes.handed. */

@@ -1,7 +1,7 @@
 -- The number of an answer is returned in 32 bits, and the caller changed as the answer says.
 use Rattle.std.specs.Prelude.{◌<◌, ◌≡◌}
 use Rattle.tag_c.proofs.Uses.{code_of_done, Err, Holder, mag, of_z, Ok, Pool, PoolState, refl, Result, subst, TagFault, Through, to_z, w32, ℕ, ℤ, ◌∙◌}
-use Rattle.tag_c.specs.Codes.{done_of}
+use Rattle.tag_c.specs.Codes.{counted}
 use Rattle.std.proofs.lemmas.Int.{to_z-of_z}
 
 -- a number as it is stored in 32 bits
@@ -20,7 +20,7 @@ pub through : {A : Type 0} (does : Pool ℕ → A → Holder → Holder → Type
 through does number {code} {state} {shared} {old} {new} {answer} is small at did =
     (answer, stored code small ∙ is, subst (λ (s : PoolState). does s.tags answer old new) at did)
 
--- an answer has the same number without its value
-pub done_code : {A : Type 0} (answer : Result A TagFault) → code_of_done (done_of answer) ≡ code_of_done answer
-done_code (Ok x) = refl
-done_code (Err fault) = refl
+-- an answer has the same number whatever it counts
+pub done_code : {A : Type 0} (n : ℕ) (answer : Result A TagFault) → code_of_done (counted n answer) ≡ code_of_done answer
+done_code n (Ok x) = refl
+done_code n (Err fault) = refl

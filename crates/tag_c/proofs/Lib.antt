@@ -1,15 +1,20 @@
 mod Uses
 pub mod Calling
+pub mod Clearing
 pub mod Collected
 pub mod Flags
 pub mod Going
 pub mod Joining
+pub mod Looking
 pub mod Owners
 pub mod Pairing
+pub mod Passing
+pub mod Reading
 pub mod Refusing
 pub mod Resizing
 pub mod Runs
 pub mod Sent
+pub mod Endings
 pub mod Unfilled
 pub mod Words
 pub mod Begun

@@ -83,7 +83,7 @@ abbrev pub code_of_done : {A : Type 0} → Result A TagFault → ℤ
 code_of_done (Ok done) = pos 0
 code_of_done (Err fault) = code_of_fault fault
 
--- the same answer without its value
-abbrev pub done_of : {A : Type 0} → Result A TagFault → Result ⊤ TagFault
-done_of (Ok x) = Ok tt
-done_of (Err fault) = Err fault
+-- the same answer with this number
+abbrev pub counted : {A : Type 0} → ℕ → Result A TagFault → Result ℕ TagFault
+counted n (Ok done) = Ok n
+counted n (Err fault) = Err fault

@@ -16,3 +16,4 @@ pub mod Held
 pub mod Lending
 pub mod Left
 pub mod Begun
+pub mod Telling

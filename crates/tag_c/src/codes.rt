@@ -1,30 +1,24 @@
 //! Turns the answers of `tag_pool` into the numbers that C sees. An error becomes its negative status of tags.h.
-ghost use Rattle.std.specs.Prelude.{◌≡◌, ◌≤◌, IfOk, IfSome, pos, min};
+ghost use Rattle.std.specs.Prelude.{◌≡◌, ◌≤◌, ◌<ℤ◌, IfOk, IfSome, pos, min};
 ghost use Rattle.tag_layout.specs.declared.layout.TheConstants.{MAX_DEPTH};
 ghost use Rattle.tag_c.specs.Left.{answer_of, left_of, left_of_many};
-ghost use Rattle.tag_c.specs.Codes.{IsRefusal, code_of_get, code_of_batch, code_of_done, code_of_many, done_of};
+ghost use Rattle.tag_c.specs.Codes.{IsRefusal, code_of_get, code_of_batch, code_of_done, code_of_many};
 
 use crate::status::{Status, fault_code};
+use crate::telling::TOLD;
 use tag_pool::{Found, MAX_DEPTH, TagFault};
 
-/// Writes how many tags the get left free, 0 if it was refused, and returns its answer without that number.
+/// Returns the answer of a get, and how many tags the get left free, 0 if it was refused.
 #[inline]
-pub(crate) fn tell_left<T>(
+pub(crate) fn answer_and_left<T>(
     found: Result<Found<T>, TagFault>,
-    left: &mut u64,
-) -> Result<Option<T>, TagFault>
-    ensures answer { result ≡ answer_of found }
-    ensures left { left.new ≡ left_of found }
+) -> (Result<Option<T>, TagFault>, u64)
+    ensures answer { result.0 ≡ answer_of found }
+    ensures left { result.1 ≡ left_of found }
 {
     match found {
-        Ok(found) => {
-            *left = found.left;
-            Ok(found.answer)
-        }
-        Err(fault) => {
-            *left = 0;
-            Err(fault)
-        }
+        Ok(found) => (Ok(found.answer), found.left),
+        Err(fault) => (Err(fault), 0),
     }
 }
 
@@ -32,7 +26,8 @@ pub(crate) fn tell_left<T>(
 #[inline]
 pub(crate) fn get_code(answer: Result<Option<u32>, TagFault>) -> i32
     requires { IfOk answer (λ found. IfSome found (λ tag. tag ≤ MAX_DEPTH)) }
-    ensures { result ≡ code_of_get answer }
+    ensures code { result ≡ code_of_get answer }
+    ensures below { result <ℤ TOLD }
 {
     match answer {
         Ok(Some(tag)) => tag as i32,
@@ -45,7 +40,8 @@ pub(crate) fn get_code(answer: Result<Option<u32>, TagFault>) -> i32
 #[inline]
 pub(crate) fn batch_code(answer: Result<Option<(u32, u64)>, TagFault>) -> i32
     requires { IfOk answer (λ found. IfSome found (λ run. run.0 ≤ MAX_DEPTH)) }
-    ensures { result ≡ code_of_batch answer }
+    ensures code { result ≡ code_of_batch answer }
+    ensures below { result <ℤ TOLD }
 {
     match answer {
         Ok(Some((first, _))) => first as i32,
@@ -54,22 +50,17 @@ pub(crate) fn batch_code(answer: Result<Option<(u32, u64)>, TagFault>) -> i32
     }
 }
 
-/// Writes how many tags the get of several left free, 0 if it was refused. Returns 0 if it took all, `NoTag` if it took
-/// none, or the status of the error.
+/// Returns 0 if a get of several tags took all, `NoTag` if it took none, or the status of the error; and how many tags the
+/// get left free, 0 if it was refused.
 #[inline]
-pub(crate) fn many_code(answer: Result<(bool, u64), TagFault>, left: &mut u64) -> i32
-    ensures code { result ≡ code_of_many answer }
-    ensures left { left.new ≡ left_of_many answer }
+pub(crate) fn many_code_and_left(answer: Result<(bool, u64), TagFault>) -> (i32, u64)
+    ensures code { result.0 ≡ code_of_many answer }
+    ensures below { result.0 <ℤ TOLD }
+    ensures left { result.1 ≡ left_of_many answer }
 {
     match answer {
-        Ok((all, free)) => {
-            *left = free;
-            if all { 0 } else { Status::NoTag.code() }
-        }
-        Err(fault) => {
-            *left = 0;
-            fault_code(fault)
-        }
+        Ok((all, left)) => (if all { 0 } else { Status::NoTag.code() }, left),
+        Err(fault) => (fault_code(fault), 0),
     }
 }
 
@@ -89,17 +80,6 @@ pub(crate) fn done_code<T: Copy>(answer: Result<T, TagFault>) -> i32
     match answer {
         Ok(_) => 0,
         Err(fault) => fault_code(fault),
-    }
-}
-
-/// Returns the answer of a post without its number.
-#[inline]
-pub(crate) fn done_alone(answer: Result<u32, TagFault>) -> Result<(), TagFault>
-    ensures { result ≡ done_of answer }
-{
-    match answer {
-        Ok(_) => Ok(()),
-        Err(fault) => Err(fault),
     }
 }
 

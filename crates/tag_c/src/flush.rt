@@ -1,17 +1,21 @@
 //! Gives kept tags back, and tells whether a hand keeps any, through the handle of a hand. Each call is described in tags.h.
-ghost use Rattle.tag_c.specs.Calls.{CallsBy, DoesFlush};
+ghost use Rattle.tag_c.specs.Calls.{CallsBy, TellsBy};
+ghost use Rattle.tag_c.specs.Telling.{FlushesAndTells};
 ghost use Rattle.tag_c.specs.Views.{SaysCached};
 
 use crate::any_hand::{AnyHand, on_hand};
+use crate::bell::ToldHands;
 use crate::cached::CachedMember;
 use crate::handle::Handle;
 use crate::member::Member;
+use crate::telling::TellingCalls;
+use tag_pool::Kind;
 
 /// Calls that give kept tags back, of which a hand without a cache has none.
 trait FlushCalls: AnyHand {
-    /// Gives all kept tags back, and returns how many they were.
-    fn flush(&mut self) -> i32
-        ensures { Self.changes (DoesFlush result) self.old self.new };
+    /// Gives all kept tags back, tells others of as many, and returns how many they were.
+    fn flush(&mut self, told: &mut ToldHands) -> i32
+        ensures { Self.changes (FlushesAndTells told.old told.new result) self.old self.new };
 
     /// Returns 1 if the hand has a cache, and 0 if not.
     fn is_cached(&mut self) -> i32
@@ -20,7 +24,7 @@ trait FlushCalls: AnyHand {
 
 impl FlushCalls for Member {
     #[inline(always)]
-    fn flush(&mut self) -> i32 {
+    fn flush(&mut self, _told: &mut ToldHands) -> i32 {
         0
     }
 
@@ -32,8 +36,10 @@ impl FlushCalls for Member {
 
 impl FlushCalls for CachedMember {
     #[inline(never)]
-    fn flush(&mut self) -> i32 {
-        self.cache.flush_quietly(&self.shared.tags) as i32
+    fn flush(&mut self, told: &mut ToldHands) -> i32 {
+        let freed = self.cache.flush_quietly(&self.shared.tags);
+        let whom = self.see(Kind::Ordinary, freed);
+        told.fill(whom, freed as i32)
     }
 
     #[inline(always)]
@@ -43,10 +49,10 @@ impl FlushCalls for CachedMember {
 }
 
 #[unsafe(no_mangle)]
-pub extern "C" fn tags_flush(hand: &mut Handle) -> i32
-    ensures { CallsBy (DoesFlush result) result hand.old.object.value hand.new.object.value }
+pub extern "C" fn tags_flush(hand: &mut Handle, told: &mut ToldHands) -> i32
+    ensures { TellsBy FlushesAndTells told.old told.new result hand.old.object.value hand.new.object.value }
 {
-    on_hand!(hand.flush())
+    on_hand!(hand.flush(told))
 }
 
 #[unsafe(no_mangle)]

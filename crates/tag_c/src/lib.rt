@@ -26,4 +26,5 @@ mod resizes;
 mod rounds;
 mod status;
 mod structs;
+mod telling;
 mod values;

@@ -1,14 +1,17 @@
 //! Reads and writes the slots of held tags, and passes tags to other hands, through the handle of a hand. Each call is
 //! described in tags.h.
 ghost use Rattle.std.specs.Prelude.{◌≡◌};
-ghost use Rattle.tag_c.specs.Calls.{CallsBy, Through, DoesRead, DoesWrite, DoesPost, DoesTake};
+ghost use Rattle.tag_c.specs.Calls.{CallsBy, TellsBy, Through, DoesRead, DoesWrite, DoesPost, DoesTake};
 ghost use Rattle.tag_c.specs.Codes.{IsRefusal, code_of_done};
+ghost use Rattle.tag_c.specs.Telling.{GivesAndTells, TellsOfKept};
 
 use crate::any_hand::{AnyHand, on_hand};
+use crate::bell::ToldHands;
 use crate::cached::CachedMember;
-use crate::codes::{done_alone, done_code, value_code};
+use crate::codes::{done_code, value_code};
 use crate::handle::Handle;
 use crate::member::Member;
+use tag_pool::Kind;
 
 /// Calls that use the slots of held tags, and pass tags to other hands.
 trait SlotCalls: AnyHand {
@@ -24,8 +27,12 @@ trait SlotCalls: AnyHand {
             self.old self.new }
         ensures kept { IsRefusal result → former.new ≡ former.old };
 
-    /// Posts a held tag, so that any hand of the pool can take it.
-    fn post(&mut self, tag: u32) -> i32
+    /// Posts a held tag, so that any hand of the pool can take it, and tells others of kept tags that went back before.
+    fn post(&mut self, tag: u32, told: &mut ToldHands) -> i32
+        ensures { Self.changes (GivesAndTells (DoesPost tag) TellsOfKept told.old told.new result) self.old self.new };
+
+    /// Does so, but tells nobody: whoever calls sees to the kept tags that went back, and to those that are kept.
+    fn post_quietly(&mut self, tag: u32) -> i32
         ensures { Self.changes (Through (DoesPost tag) code_of_done result) self.old self.new };
 
     /// Takes a posted tag.
@@ -44,8 +51,14 @@ impl SlotCalls for Member {
         value_code(self.shared.tags.write(&mut self.hand, tag, value), former)
     }
 
+    // A post makes no tag free.
     #[inline(always)]
-    fn post(&mut self, tag: u32) -> i32 {
+    fn post(&mut self, tag: u32, _told: &mut ToldHands) -> i32 {
+        self.post_quietly(tag)
+    }
+
+    #[inline(always)]
+    fn post_quietly(&mut self, tag: u32) -> i32 {
         done_code(self.shared.tags.post(&mut self.hand, tag))
     }
 
@@ -67,8 +80,14 @@ impl SlotCalls for CachedMember {
     }
 
     #[inline(never)]
-    fn post(&mut self, tag: u32) -> i32 {
-        done_code(done_alone(self.cache.post_quietly(&self.shared.tags, tag)))
+    fn post(&mut self, tag: u32, told: &mut ToldHands) -> i32 {
+        let given = self.cache.post_quietly(&self.shared.tags, tag);
+        self.end_giving(given, Kind::Ordinary, told)
+    }
+
+    #[inline(never)]
+    fn post_quietly(&mut self, tag: u32) -> i32 {
+        done_code(self.cache.post_quietly(&self.shared.tags, tag))
     }
 
     #[inline(never)]
@@ -96,11 +115,19 @@ pub extern "C" fn tags_write(hand: &mut Handle, tag: u32, value: u64, former: &m
 }
 
 #[unsafe(no_mangle)]
-pub extern "C" fn tags_post(hand: &mut Handle, tag: u32) -> i32
+pub extern "C" fn tags_post(hand: &mut Handle, tag: u32, told: &mut ToldHands) -> i32
+    ensures { TellsBy (GivesAndTells (DoesPost tag) TellsOfKept) told.old told.new result
+        hand.old.object.value hand.new.object.value }
+{
+    on_hand!(hand.post(tag, told))
+}
+
+#[unsafe(no_mangle)]
+pub extern "C" fn tags_post_quietly(hand: &mut Handle, tag: u32) -> i32
     ensures { CallsBy (Through (DoesPost tag) code_of_done result) result
         hand.old.object.value hand.new.object.value }
 {
-    on_hand!(hand.post(tag))
+    on_hand!(hand.post_quietly(tag))
 }
 
 #[unsafe(no_mangle)]

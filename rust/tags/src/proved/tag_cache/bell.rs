@@ -22,6 +22,12 @@ impl<R: Copy> Cache<R> {
         pool.is_told(&mut self.hand, kind)
     }
 
+    /// Returns whether it finds a hand that waits for a tag of this kind, as `Pool::finds_waiters` does.
+    #[inline]
+    pub fn finds_waiters(&mut self, pool: &Pool<R>, kind: Kind) -> bool {
+        pool.finds_waiters(&mut self.hand, kind)
+    }
+
     /// Sees to all that the hand has to see to, after its user gave `freed` tags of this kind back, which became free or are
     /// kept. Where somebody waits for an ordinary tag, it gives all kept tags back, and tells others as `Pool::see_to` does,
     /// of as many tags as became free; for a reserved tag it tells them at once, and keeps what it keeps. Returns those

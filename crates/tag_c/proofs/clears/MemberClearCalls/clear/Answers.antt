@@ -1,13 +1,28 @@
--- The hand does what the call of `tag_pool` does, and its number fits into 32 bits.
-use Rattle.tag_c.proofs.Uses.{Bare, code_of_done, DoesClear, refl, sym, ◌∙◌}
-use Rattle.tag_c.specs.Codes.{done_of}
-use Rattle.tag_c.proofs.Calling.{done_code, through}
+-- The tag went back in its set, and others of that set were told.
+use Rattle.tag_c.proofs.Uses.{Bare, DoesClear, Err, refl}
+use Rattle.tag_pool.specs.declared.kind.Kind.TheVariants.{Ordinary, Reserved}
+use Rattle.tag_c.specs.Telling.{TellsOfKind}
+use Rattle.tag_c.proofs.Clearing.{cleared}
+use Rattle.tag_c.proofs.Endings.{refused}
 use Rattle.tag_c.proofs.clears.MemberClearCalls.clear.Goals as goal
 
-pub returns : goal.returns
-returns c = let call = c.clear_quietly in (
+pub returns-in-Ok-Ordinary : goal.returns-in-Ok-Ordinary
+returns-in-Ok-Ordinary c = let call = c.look_and_tell in (
+  call.ensures.0,
+  cleared c.args.tag c.in-Ok-Ordinary.field-0 Ordinary c.in-Ok-Ordinary.field-0-is call.type_inv c.deref.ensures
+      c.in-Ok-Ordinary.ensures.does call.ensures.1,
+)
+
+pub returns-in-Ok-Reserved : goal.returns-in-Ok-Reserved
+returns-in-Ok-Reserved c = let call = c.look_and_tell-in-Ok-Reserved in (
+  call.ensures.0,
+  cleared c.args.tag c.in-Ok-Reserved.field-0 Reserved c.in-Ok-Reserved.field-0-is call.type_inv c.deref.ensures
+      c.in-Ok-Reserved.ensures.does call.ensures.1,
+)
+
+pub returns-in-Err : goal.returns-in-Err
+returns-in-Err c = let tag = c.args.tag in let fault = c.in-Err.fault in (
   refl,
-  through (DoesClear c.args.tag) code_of_done {old = Bare c.args.self.now.hand} {new = Bare call.new.hand}
-      {answer = done_of call.result} (c.done_code.ensures ∙ sym (done_code call.result)) c.done_code.type_inv
-      c.deref.ensures (call.result, refl, call.ensures.does),
+  refused (DoesClear tag) (TellsOfKind tag) {old = Bare c.args.self.now.hand} {new = Bare c.clear_quietly.new.hand} fault
+      c.fault_code.ensures c.fault_code.type_inv c.deref.ensures (Err fault, refl, c.in-Err.ensures.does),
 )

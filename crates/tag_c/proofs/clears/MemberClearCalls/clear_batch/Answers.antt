@@ -1,7 +1,21 @@
--- The hand does what the call of `tag_pool` does, and its number fits into 32 bits.
-use Rattle.std.proofs.Common.{rules}
-use Rattle.tag_c.proofs.Calling.{through}
+-- The tags went back, and others were told of as many.
+use Rattle.tag_c.proofs.Uses.{Bare, Err, length, Ok, refl}
+use Rattle.tag_pool.specs.declared.kind.Kind.TheVariants.{Ordinary}
+use Rattle.tag_c.specs.Calls.{DoesClearBatch}
+use Rattle.tag_c.specs.Telling.{Tells}
+use Rattle.tag_c.proofs.Endings.{gave, refused}
 use Rattle.tag_c.proofs.clears.MemberClearCalls.clear_batch.Goals as goal
 
-pub returns : goal.returns
-returns c = search (rules, through)
+pub returns-in-Ok : goal.returns-in-Ok
+returns-in-Ok c = let call = c.look_and_tell in (
+  call.ensures.0,
+  gave (DoesClearBatch c.args.tags.now) (Tells Ordinary) {old = Bare c.args.self.now.hand} {between = Bare c.clear_batch_quietly.new.hand}
+      (length c.args.tags.now) call.type_inv c.deref.ensures (Ok c.in-Ok.field-0, refl, c.in-Ok.ensures.does) call.ensures.1,
+)
+
+pub returns-in-Err : goal.returns-in-Err
+returns-in-Err c = let fault = c.in-Err.fault in (
+  refl,
+  refused (DoesClearBatch c.args.tags.now) (Tells Ordinary) {old = Bare c.args.self.now.hand} {new = Bare c.clear_batch_quietly.new.hand} fault
+      c.fault_code.ensures c.fault_code.type_inv c.deref.ensures (Err fault, refl, c.in-Err.ensures.does),
+)

@@ -1,13 +1,28 @@
--- The first tag of a run is below the total, so its number fits.
-use Rattle.std.proofs.Common.{rules}
-use Rattle.tag_c.proofs.Calling.{through}
+-- The cache does what the call of `tag_cache` does, and the hand looks after what that left free. The first tag of a
+-- run is below the total, so its number fits.
+use Rattle.std.specs.Prelude.{◌≡◌}
+use Rattle.tag_c.proofs.Uses.{answer_of, ap, Caching, refl, rules, ◌∙◌}
+use Rattle.tag_pool.specs.declared.kind.Kind.TheVariants.{Ordinary}
+use Rattle.tag_c.specs.Calls.{DoesGetBatch}
+use Rattle.tag_c.specs.Codes.{code_of_batch, code_of_found_batch}
+use Rattle.tag_c.specs.Left.{left_of, won_of}
+use Rattle.tag_c.specs.Telling.{Tells}
+use Rattle.tag_c.proofs.Looking.{gets_and_looks}
 use Rattle.tag_c.proofs.Runs.{batch_fits}
 use Rattle.tag_c.proofs.gets.CachedMemberGetCalls.get_batch.Goals as goal
 
 pub batch_code-requires : goal.batch_code-requires
-batch_code-requires c = let does = c.get_batch_quietly.ensures.does in
-    batch_fits c.deref.result.now c.args.self.now.cache.hand c.get_batch_quietly.new.self.hand c.get_batch_quietly.result
-    c.tell_left-answer.ensures.answer does.refusals.passes does.round_robin does.gets
+batch_code-requires c = let get = c.get_batch_quietly-found in let does = get.ensures.does in
+    batch_fits c.deref.result.now c.args.self.now.cache.hand get.new.self.hand get.result
+    c.answer_and_left-answer.ensures.answer does.refusals.passes does.round_robin does.gets
 
-pub returns-clause-calls : goal.returns-clause-calls
-returns-clause-calls c = search (rules, through)
+pub returns : goal.returns
+returns c = let get = c.get_batch_quietly-found in let answer = c.answer_and_left-answer in let look = c.look_after in
+    let was = c.args.won.now in let won = c.match-answer.won in let code = c.batch_code in
+    let is : won ≡ won_of (answer_of get.result) was = search rules in (
+      look.ensures.0,
+      gets_and_looks (DoesGetBatch c.args.n was won) code_of_found_batch left_of (Tells Ordinary)
+          {old = Caching c.args.self.now.cache} {between = Caching get.new.self} {new = Caching look.new.self.cache}
+          {answer = get.result} c.deref.ensures (get.ensures.does, is) answer.ensures.left
+          (code.ensures.code ∙ ap code_of_batch answer.ensures.answer) code.type_inv refl look.ensures.1 look.type_inv,
+    )

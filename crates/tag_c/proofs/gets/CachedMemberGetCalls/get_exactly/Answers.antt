@@ -1,20 +1,24 @@
--- The cache does what the call of `tag_cache` does. The tag is below the total, so its number fits.
-use Rattle.std.specs.Prelude.{◌<◌, ◌≡◌}
-use Rattle.tag_c.proofs.Uses.{ap, arc_value, code_of_get, mag, PoolState, refl, rules, subst, ◌∙◌}
-use Rattle.tag_c.proofs.Calling.{stored}
+-- The cache does what the call of `tag_cache` does, and the hand looks after what that left free of the tag's kind.
+use Rattle.tag_c.proofs.Uses.{ap, Caching, refl, reserved_of, ◌∙◌}
+use Rattle.tag_pool.specs.Sets.{kind_of}
+use Rattle.tag_c.specs.Calls.{DoesGetExactly}
+use Rattle.tag_c.specs.Telling.{TellsOfKind}
+use Rattle.tag_c.proofs.Looking.{gets_tag, looks_of_kind}
 use Rattle.tag_c.proofs.Runs.{each, exact_fits}
-use Rattle.tag_cache.specs.Exact as exact
 use Rattle.tag_c.proofs.gets.CachedMemberGetCalls.get_exactly.Goals as goal
 
 pub get_code-requires : goal.get_code-requires
-get_code-requires c = let found = c.get_exactly_quietly-found.result in let does = c.get_exactly_quietly-found.ensures.does in
-    exact_fits c.deref.result.now c.args.tag _ found c.tell_left.ensures.answer does.refusals.passes
-    (each found (λ known gets. gets.only) does.gets)
+get_code-requires c = let get = c.get_exactly_quietly-found in let does = get.ensures.does in
+    exact_fits c.deref.result.now c.args.tag _ get.result c.answer_and_left-answer.ensures.answer does.refusals.passes
+    (each get.result (λ known gets. gets.only) does.gets)
 
 pub returns : goal.returns
-returns c = let call = c.get_exactly_quietly-found in let code = c.get_code.result in
-    let at : c.deref.result.now ≡ arc_value c.args.self.now.shared = search rules in
-    let small : mag code < 2147483648 = search rules in
-    let is = c.get_code.ensures ∙ ap code_of_get c.tell_left.ensures.answer in
-    let does = subst (λ (s : PoolState). exact.DoesGetExactly c.args.tag s.tags call.result c.args.self.now.cache call.new.self)
-    at call.ensures.does in (refl, (call.result, stored code small ∙ is, (does, c.tell_left.ensures.left)))
+returns c = let get = c.get_exactly_quietly-found in let answer = c.answer_and_left-answer in
+    let look = c.look_after in let tag = c.args.tag in
+    let kind = c.kind-kind.ensures ∙ ap (λ s. kind_of (reserved_of s.tags) tag) c.deref-2.ensures in (
+      look.ensures.0,
+      gets_tag (DoesGetExactly tag) (TellsOfKind tag) (Caching c.args.self.now.cache) (Caching get.new.self)
+          (Caching look.new.self.cache) get.result c.deref.ensures get.ensures.does answer.ensures.answer
+          answer.ensures.left c.get_code.ensures.code c.get_code.type_inv refl (looks_of_kind tag kind look.ensures.1)
+          look.type_inv,
+    )

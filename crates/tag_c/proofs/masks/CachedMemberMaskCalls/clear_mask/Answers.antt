@@ -1,14 +1,14 @@
--- The hand does what the call of `tag_cache` does, and its number fits into 32 bits.
-use Rattle.tag_c.proofs.Uses.{Caching, code_of_done, refl, sym, ◌∙◌}
+-- What went back others were told of.
+use Rattle.tag_c.proofs.Uses.{Caching}
+use Rattle.tag_pool.specs.declared.kind.Kind.TheVariants.{Ordinary}
 use Rattle.tag_c.specs.Calls.{DoesClearMask}
-use Rattle.tag_c.specs.Codes.{done_of}
-use Rattle.tag_c.proofs.Calling.{done_code, through}
+use Rattle.tag_c.specs.Telling.{Tells}
+use Rattle.tag_c.proofs.Endings.{ended}
 use Rattle.tag_c.proofs.masks.CachedMemberMaskCalls.clear_mask.Goals as goal
 
 pub returns : goal.returns
-returns c = let call = c.clear_mask_quietly in (
-  refl,
-  through (DoesClearMask c.args.first c.args.mask) code_of_done {old = Caching c.args.self.now.cache}
-      {new = Caching call.new.self} {answer = done_of call.result} (c.done_code.ensures ∙ sym (done_code call.result))
-      c.done_code.type_inv c.deref.ensures (call.result, refl, call.ensures.does),
+returns c = let given = c.clear_mask_quietly-given in let call = c.end_giving in (
+  call.ensures.0,
+  ended (DoesClearMask c.args.first c.args.mask) (Tells Ordinary) {old = Caching c.args.self.now.cache} {between = Caching given.new.self}
+      given.result call.type_inv c.deref.ensures given.ensures.does call.ensures.1,
 )
