@@ -20,9 +20,9 @@
  *
  * A call of the library that makes tags free sees to them itself, and answers whom it told. C wakes
  * them. It also looks for watchers, of whom the library does not know: they wait for tags to be back
- * (drains.c), or want hands to keep nothing. They are counted before they look, and who gives tags
- * back loads the count afterwards. Both are sequentially consistent, as are the steps of the library,
- * so if the count is 0, whoever watches later finds the tags back.
+ * (drains.c). They are counted before they look, and who gives tags back loads the count afterwards.
+ * Both are sequentially consistent, as are the steps of the library, so if the count is 0, whoever
+ * watches later finds the tags back.
  *
  * Coroutines and futures, of which a hand may have any number, wait behind their hand, in a queue of
  * their own language: while one of them waits, the hand is listed, or was told and one of them is
@@ -31,7 +31,6 @@
 #define _GNU_SOURCE
 #include "bell.h"
 
-#include <limits.h>
 #include <stdlib.h>
 #include <sys/syscall.h>
 #include <time.h>
@@ -61,6 +60,7 @@ struct bell *tags_library_make_bell(uint32_t hands)
 	if (!bell)
 		return NULL;
 	pthread_mutex_init(&bell->lock, NULL);
+	bell->uses = 1;
 	bell->hands = hands;
 	for (uint32_t i = 0; i < hands; i++) {
 		bell->places[i].number = i;
@@ -69,14 +69,26 @@ struct bell *tags_library_make_bell(uint32_t hands)
 	return bell;
 }
 
-void tags_library_free_bell(struct bell *bell)
+void tags_library_let_go_of_bell(struct bell *bell)
 {
+	bool is_needed;
+
+	pthread_mutex_lock(&bell->lock);
+	is_needed = --bell->uses > 0;
+	pthread_mutex_unlock(&bell->lock);
+	if (is_needed)
+		return;
 	for (uint32_t i = 0; i < bell->hands; i++)
 		free_place(&bell->places[i]);
-	tags_library_remove_queues(bell);
 	pthread_mutex_destroy(&bell->lock);
-	free(bell->boards);
 	free(bell);
+}
+
+void tags_library_free_bell(struct bell *bell)
+{
+	tags_library_remove_queues(bell);
+	free(bell->boards);
+	tags_library_let_go_of_bell(bell);
 }
 
 /*
@@ -114,29 +126,6 @@ static int32_t make_round(struct tags_hand *hand, bool listens, int32_t why, str
 			 tags_library_wait_on(hand, why, again, told);
 }
 
-/*
- * While anybody waits hands keep nothing. But a clear of an ordinary tag looks for nobody who waits for a
- * reserved one, such as its own hand, which therefore counts as a watcher.
- */
-static bool is_watcher(const struct tags_hand *hand)
-{
-	return hand->place->kind == TAGS_RESERVED && tags_bell_of(hand->waits)->is_cached;
-}
-
-static void count_wait(const struct tags_hand *hand)
-{
-	tags_add(&tags_bell_of(hand->waits)->waiting, 1);
-	if (is_watcher(hand))
-		tags_add(&hand->waits->watchers, 1);
-}
-
-static void uncount_wait(const struct tags_hand *hand)
-{
-	if (is_watcher(hand))
-		tags_subtract(&hand->waits->watchers, 1);
-	tags_subtract(&tags_bell_of(hand->waits)->waiting, 1);
-}
-
 int32_t tags_library_go_on(struct tags_hand *hand, bool listens, int32_t why, struct tags_told *due)
 {
 	struct tags_place *place = hand->place;
@@ -144,11 +133,11 @@ int32_t tags_library_go_on(struct tags_hand *hand, bool listens, int32_t why, st
 	int32_t tag;
 
 	if (!place->is_waiting)
-		count_wait(hand);
+		tags_add(&tags_bell_of(hand->waits)->waiting, 1);
 	tag = make_round(hand, listens, why, &told);
 	place->is_waiting = tag == TAGS_NO_TAG;
 	if (!place->is_waiting)
-		uncount_wait(hand);
+		tags_subtract(&tags_bell_of(hand->waits)->waiting, 1);
 	/* its sweeps may have freed others: drains.c */
 	if (tag >= 0)
 		tags_library_see_to_lists(hand);
@@ -183,52 +172,24 @@ static bool notify(int descriptor)
 }
 
 /*
- * Calls a function, which may do anything but be cancelled, such as give a tag back. That is done
- * without the lock, so whoever ends the wait meanwhile sleeps until the function has returned.
- */
-static void run(struct tags_place *place, const struct tags_notice *notice)
-{
-	int state;
-
-	pthread_setcancelstate(PTHREAD_CANCEL_DISABLE, &state);
-	notice->function(notice->argument);
-	pthread_setcancelstate(state, &state);
-	if (notice->is_lasting)
-		return;
-	TAGS_DETAIL_SHOWS(TAGS_MAX_TOTAL);
-	tags_store(&place->running, 0);
-	syscall(SYS_futex, &place->running, TAGS_FUTEX_WAKE, INT_MAX, NULL, NULL, 0);
-}
-
-void tags_library_outwait(const struct tags_place *place)
-{
-	int saved = errno;
-
-	while (tags_load(&place->running) > 0)
-		syscall(SYS_futex, &place->running, TAGS_FUTEX_WAIT, 1, NULL, NULL, 0);
-	TAGS_DETAIL_SEES(TAGS_MAX_TOTAL);
-	errno = saved;
-}
-
-/*
  * Notifies the hand in a place, once, unless its wait has ended. An eventfd is written with the
  * lock: once the wait has ended, the program may close it. Returns whether the hand knows.
  */
 static bool notify_listener(struct bell *bell, struct tags_place *place)
 {
-	struct tags_notice notice;
+	struct tags_notice notice = TAGS_NO_NOTICE;
 	bool knows = true;
 
 	pthread_mutex_lock(&bell->lock);
-	notice = place->notice;
-	place->notice = TAGS_NO_NOTICE;
+	if (!tags_library_put_off(bell, place))
+		notice = tags_library_take_notice(place);
 	if (notice.descriptor >= 0)
 		knows = notify(notice.descriptor);
-	if (notice.function && !notice.is_lasting)
-		tags_store(&place->running, 1);
+	if (notice.is_own)
+		notice.function(notice.argument);
 	pthread_mutex_unlock(&bell->lock);
-	if (notice.function)
-		run(place, &notice);
+	if (notice.function && !notice.is_own)
+		tags_library_run(place, &notice);
 	return knows;
 }
 

@@ -31,8 +31,10 @@ struct tags_notice {
 	void *argument;
 	/* @argument outlives the wait, so whoever ends that does not wait until the function has returned */
 	bool is_lasting;
+	/* the library's own function, which is short: it is called with the lock, as an eventfd is written */
+	bool is_own;
 };
-#define TAGS_NO_NOTICE (struct tags_notice){ -1, NULL, NULL, false }
+#define TAGS_NO_NOTICE (struct tags_notice){ -1, NULL, NULL, false, false }
 
 /* What a look answers while what a thread waits for is not there. */
 enum { TAGS_NOT_YET = 1 };
@@ -78,10 +80,15 @@ struct tags_place {
 	pthread_cond_t beds[2];
 	/* with the lock, the token: whoever wakes the hand gives it, and the end of its sleep takes it */
 	bool is_woken;
-	/* 1 while the function of the notice runs */
+	/* how many functions of its notices run: more than 1 only if the wait of one was ended inside a function */
 	uint32_t running;
 	/* with the bell's lock */
 	struct tags_notice notice;
+	/* likewise: a thread that runs another function has the place in its list; and is to call the notice's function */
+	bool is_put_off;
+	bool is_due;
+	/* the next place in that list */
+	struct tags_place *next;
 	/* for the hand alone: its wait goes on, so that it has a turn; and the set that it waits for a tag of */
 	bool is_waiting;
 	enum tags_kind kind;
@@ -112,13 +119,17 @@ struct bell {
 	uint32_t depth;
 	uint32_t reserved;
 	bool is_cached;
+	/* of the pool's flags those that each hand has */
+	uint32_t flags;
 	/* one for each tag, or NULL in a pool without notes */
 	struct tags_board *boards;
 	/* the pool's queues, which a resize makes anew, and the bells of those who wait in them, which stay */
 	struct tags_queues *queues;
 	struct bell **queue_bells;
-	/* of the notices, and of the count of stops */
+	/* of the notices, of the count of stops, and of the next word */
 	pthread_mutex_t lock;
+	/* what needs the bell: its pool, and each place that is put off */
+	uint32_t uses;
 	/* how many wait, for reports alone: as it changes with each wait, it is away from @waits */
 	uint32_t waiting;
 	/* one for each hand that the pool can give out, by the hand's number */
@@ -247,7 +258,9 @@ bool tags_library_sleep(pthread_cond_t *bed, pthread_mutex_t *lock, const struct
 
 /* Makes a bell for this many hands, or returns NULL. */
 struct bell *tags_library_make_bell(uint32_t hands);
+/* At the end of its pool: frees its queues, and lets go of it. The latter frees it once nothing else needs it. */
 void tags_library_free_bell(struct bell *bell);
+void tags_library_let_go_of_bell(struct bell *bell);
 
 /* A get from a set, before the hand waits for a tag of that. */
 int32_t tags_library_get_of(struct tags_hand *hand, enum tags_kind kind);
@@ -296,7 +309,18 @@ int32_t tags_library_fill_hand(struct tags_pool *pool, struct tags_hand *hand, u
 int32_t tags_library_empty_hand(struct tags_hand *hand);
 int32_t tags_library_empty_pool(struct tags_pool *pool, struct tags_sums *sums);
 
-/* Sleeps until no function runs that notifies the hand in a place. */
+/* Gives back what the calling thread's own hand of a pool keeps: tags_thread_hand(). */
+void tags_library_flush_own(const struct tags_pool *pool);
+
+/*
+ * With the bell's lock: puts the function of a place off if this thread runs another one, and says whether it did; and
+ * takes the notice out of a place, whose function runs from then on.
+ */
+bool tags_library_put_off(struct bell *bell, struct tags_place *place);
+struct tags_notice tags_library_take_notice(struct tags_place *place);
+/* Calls the function of a notice, and then those that were put off meanwhile. */
+void tags_library_run(struct tags_place *place, const struct tags_notice *notice);
+/* Sleeps until no function runs that notifies the hand in a place, unless this thread runs one. */
 void tags_library_outwait(const struct tags_place *place);
 
 /* Calls that use a pool's handle at once take turns. */

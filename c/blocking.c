@@ -4,6 +4,10 @@
  * A round says whether the thread may sleep, and a sleep may end at any time. So what ends one, be it a
  * tag, a deadline, a stop, a cancel or nothing, is only another round, with which the wait ends or goes
  * on. After each sleep the thread tries once more. How it is woken is in bell.c.
+ *
+ * A get is tried before anything else, so a hand that waits already is refused only if it would have
+ * to wait. Whoever is to wait for a reserved tag first gives back what it keeps, which it would hide
+ * while it sleeps.
  */
 #define _GNU_SOURCE
 #include "bell.h"

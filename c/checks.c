@@ -1,4 +1,7 @@
-/* What ends a program that breaks the rules of tags.h, if it asks for that. */
+/*
+ * What ends a program that breaks the rules of tags.h, if it asks for that. Two threads on one hand are found
+ * by a write to a member of the hand, not by a lock, which would hide the mistake and cost every call.
+ */
 #include "tags.h"
 
 #include <stdio.h>

@@ -164,6 +164,8 @@ static int32_t wait_for_tags(struct tags_pool *pool, struct tags_waiter *it)
 		return TAGS_BAD_HANDLE;
 	it->pool = pool;
 	it->bell = tags_bell_of(waits);
+	if (it->bell->is_cached)
+		tags_library_flush_own(pool);
 	begin_drain(it);
 	pthread_cleanup_push(end_drain, it);
 	tags_library_come(it);

@@ -3,27 +3,33 @@
  * listed as a listener, or was told, with an eventfd that is notified or a function that is called
  * then. How it is told is in bell.c.
  *
+ * Each hand may name an eventfd of its own: with one for the pool two loops slept beside a free tag, since one of
+ * them read what was meant for both. A hand waits for a tag of one set at a time, as it has one place, with one
+ * token and one notice.
+ *
  * Those whom a call tells are woken at once, before it may wait for a function that runs. A hand
  * behind a lock wakes them after it has left that: they are added to @due, if that is not NULL.
  */
 #define _GNU_SOURCE
 #include "bell.h"
 
-/* Sets how the hand is notified. */
+/* Sets how the hand is notified. A function that was put off is not called. */
 static void set_notice(struct tags_hand *hand, const struct tags_notice *notice)
 {
 	struct bell *bell = tags_bell_of(hand->waits);
 
 	pthread_mutex_lock(&bell->lock);
 	hand->place->notice = *notice;
+	hand->place->is_due = false;
 	pthread_mutex_unlock(&bell->lock);
 }
 
-/* Afterwards nobody notifies the hand, and no function runs that does. */
-static void forget_notice(struct tags_hand *hand)
+/* Afterwards nobody notifies the hand, and no function runs that does, unless the hand is behind a lock. */
+static void forget_notice(struct tags_hand *hand, bool is_behind_lock)
 {
 	set_notice(hand, &TAGS_NO_NOTICE);
-	tags_library_outwait(hand->place);
+	if (!is_behind_lock)
+		tags_library_outwait(hand->place);
 }
 
 /* Makes a round of a hand that has a notice. With any answer but TAGS_NO_TAG it has none afterwards. */
@@ -34,7 +40,7 @@ static int32_t make_round(struct tags_hand *hand, int32_t why, struct tags_told 
 
 	tags_library_wake_told(hand, &own);
 	if (tag != TAGS_NO_TAG)
-		forget_notice(hand);
+		forget_notice(hand, due != NULL);
 	return tag;
 }
 
@@ -44,7 +50,7 @@ int32_t tags_library_listen(struct tags_hand *hand, enum tags_kind kind,
 {
 	tags_begin_wait(hand, kind);
 	if (hand->place->is_waiting)
-		forget_notice(hand);
+		forget_notice(hand, due != NULL);
 	set_notice(hand, notice);
 	return make_round(hand, tags_is_ended(hand) ? TAGS_STOPPED : TAGS_OK, due);
 }
@@ -80,7 +86,7 @@ static bool cancel(struct tags_hand *hand, struct tags_told *due)
 
 static int32_t get_async(struct tags_hand *hand, enum tags_kind kind, int descriptor)
 {
-	const struct tags_notice notice = { descriptor, NULL, NULL, false };
+	const struct tags_notice notice = { descriptor, NULL, NULL, false, false };
 
 	if (!hand->place)
 		return TAGS_BAD_HANDLE;
@@ -90,7 +96,7 @@ static int32_t get_async(struct tags_hand *hand, enum tags_kind kind, int descri
 static int32_t get_notified(struct tags_hand *hand, enum tags_kind kind,
 			    void (*function)(void *argument), void *argument)
 {
-	const struct tags_notice notice = { -1, function, argument, false };
+	const struct tags_notice notice = { -1, function, argument, false, false };
 
 	return hand->place ? get_or_wait(hand, kind, &notice) : (int32_t)TAGS_BAD_HANDLE;
 }
@@ -117,9 +123,14 @@ int32_t tags_library_get_reserved_notified(struct tags_hand *hand,
 	return get_notified(hand, TAGS_RESERVED, function, argument);
 }
 
+/* A wait that was ended inside a function may have left its own one running. */
 bool tags_library_cancel(struct tags_hand *hand)
 {
-	return cancel(hand, NULL);
+	const bool is_ended = cancel(hand, NULL);
+
+	if (!is_ended)
+		tags_library_outwait(hand->place);
+	return is_ended;
 }
 
 int32_t tags_library_cancel_wait(struct tags_hand *hand)
@@ -136,7 +147,7 @@ int32_t tags_library_cancel_wait(struct tags_hand *hand)
 int32_t tags_library_poll(struct tags_hand *hand, void (*function)(void *argument), void *argument,
 			  struct tags_told *due)
 {
-	const struct tags_notice notice = { -1, function, argument, true };
+	const struct tags_notice notice = { -1, function, argument, true, false };
 
 	return tags_library_listen(hand, TAGS_ORDINARY, &notice, due);
 }

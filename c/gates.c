@@ -7,6 +7,7 @@
  * again. If it finds nothing, as another thread was faster, it sleeps on at its turn. If it was told
  * and has no use for that, it tells the next one. So while somebody sleeps who was not told, as many
  * are on their way as there are vacant hands. Whoever comes then need not look: it sleeps behind them.
+ * A thread that tried first would mostly have its hand again before the one that was woken runs.
  * Lists have no turns: whoever waits for one looks by itself, and all of them are told.
  *
  * Who waits counts itself, then looks. Who gives something back does so, and then loads the count.

@@ -12,6 +12,9 @@
  * it wrote; it reads again if another note was published meanwhile, and then has that. A lock would stop
  * holders, and with one place a reader would find nothing there while its holder writes.
  *
+ * A pool has notes only if it is opened with them, as to publish one takes three stores and a look at the clock.
+ * A report passes some of them without a lock and looks for the next ones, so its function may be slow.
+ *
  * All steps are sequentially consistent, as are those of the library by which tags are given back and got.
  */
 #define _GNU_SOURCE
@@ -95,7 +98,7 @@ int32_t tags_library_note(struct tags_hand *hand, uint32_t tag, uint64_t value)
 
 	if (!hand->place)
 		return TAGS_BAD_HANDLE;
-	if (!hand->has_notes)
+	if (!tags_detail_has_notes(hand))
 		return TAGS_NO_NOTES;
 	holds = tags_library_holds(hand, tag);
 	if (holds != 1)
@@ -106,9 +109,10 @@ int32_t tags_library_note(struct tags_hand *hand, uint32_t tag, uint64_t value)
 	return TAGS_OK;
 }
 
+/* A program that was compiled with an earlier header of this version also calls these under round robin. */
 void tags_library_withdraw(struct tags_hand *hand, uint32_t tag)
 {
-	if (tags_library_holds(hand, tag) == 1)
+	if (tags_detail_has_notes(hand) && tags_library_holds(hand, tag) == 1)
 		end_note(board_of(hand, tag));
 }
 
@@ -130,7 +134,7 @@ static bool may_clear(struct tags_hand *hand, const uint32_t *tags, size_t count
 
 void tags_library_withdraw_all(struct tags_hand *hand, const uint32_t *tags, size_t count)
 {
-	if (count > TAGS_MAX_BATCH || !may_clear(hand, tags, count))
+	if (!tags_detail_has_notes(hand) || count > TAGS_MAX_BATCH || !may_clear(hand, tags, count))
 		return;
 	for (size_t i = 0; i < count; i++)
 		end_note(board_of(hand, tags[i]));

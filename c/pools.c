@@ -1,6 +1,10 @@
 /*
  * Pools and hands: the library's calls, with the bell of the pool. A pool and its
- * hands point to the bell, and each hand has a place in it, by its number.
+ * hands point to the bell, and each hand has a place in it, by its number. The lock of a pool's handle
+ * is one of sixteen static ones, found by the handle's address: in the bell it would go with the pool.
+ *
+ * Stops are counted: a flag that a resume took back would be gone before a waiter could look. A stopped
+ * pool takes no tag for a call that may wait, even while one is free, so that loops of threads end.
  */
 #include "bell.h"
 
@@ -91,7 +95,8 @@ static struct tags_options asked_for(const struct tags_options *options)
 
 /*
  * Notes how many tags a pool has now. No batch is longer than the first word, which is the longest:
- * in a small pool it has fewer tags than bits.
+ * in a small pool it has fewer tags than bits. A get of a larger batch is cut to it, as how many tags
+ * a word has follows from the options.
  */
 static void note_total(struct tags_pool *pool, struct bell *bell, uint32_t total)
 {
@@ -139,12 +144,16 @@ static int32_t add_bell(struct tags_pool *pool, const struct tags_options *optio
 	}
 	bell->reserved = options->reserved;
 	bell->is_cached = options->cache > 0;
+	bell->flags = options->flags & (TAGS_NOTES | TAGS_ROUND_ROBIN);
 	note_total(pool, bell, options->total);
 	pool->waits = &bell->waits;
 	return TAGS_OK;
 }
 
-/* Those who wait for a hand are answered before another pool can be opened in the handle. */
+/*
+ * Those who wait for a hand are answered before another pool can be opened in the handle. The thread sanitizer has
+ * been told that all hands have left, whose calls used what is freed here.
+ */
 static void remove_bell(struct tags_pool *pool)
 {
 	struct bell *bell = tags_bell_of(pool->waits);
@@ -193,7 +202,7 @@ int32_t tags_library_fill_hand(struct tags_pool *pool, struct tags_hand *hand, u
 		return status;
 	hand->waits = pool->waits;
 	hand->place = &tags_bell_of(pool->waits)->places[tags_library_number(hand)];
-	hand->has_notes = tags_bell_of(pool->waits)->boards != NULL;
+	hand->flags = tags_bell_of(pool->waits)->flags;
 	return status;
 }
 
@@ -219,7 +228,7 @@ int32_t tags_library_empty_hand(struct tags_hand *hand)
 {
 	hand->waits = NULL;
 	hand->place = NULL;
-	hand->has_notes = 0;
+	hand->flags = 0;
 	TAGS_DETAIL_SHOWS(TAGS_MAX_TOTAL);
 	begin_hidden();
 	return end_hidden(tags_library_leave(hand));
@@ -275,7 +284,10 @@ static void change_total(struct tags_pool *pool, uint32_t total, const struct pa
 	tags_library_change_queues(bell, parts->queues, total);
 }
 
-/* No tag is held or posted once it is done, so none has a note, or is in a queue. */
+/*
+ * No tag is held or posted once it is done, so none has a note, or is in a queue. What is freed then was used by
+ * hands that have left, and the thread sanitizer is told before that they have.
+ */
 static int32_t resize_locked(struct tags_pool *pool, uint32_t total)
 {
 	const struct bell *bell = tags_bell_in(pool);
@@ -288,6 +300,7 @@ static int32_t resize_locked(struct tags_pool *pool, uint32_t total)
 		begin_hidden();
 		status = end_hidden(tags_library_resize(pool, total));
 	}
+	TAGS_DETAIL_SEES(TAGS_MAX_TOTAL);
 	if (status == TAGS_OK)
 		change_total(pool, total, &parts);
 	else
@@ -305,7 +318,6 @@ int32_t tags_resize(struct tags_pool *pool, uint32_t total)
 	tags_library_lock_handle(pool);
 	status = resize_locked(pool, total);
 	tags_library_unlock_handle(pool);
-	TAGS_DETAIL_SEES(TAGS_MAX_TOTAL);
 	errno = saved;
 	return status;
 }
@@ -325,10 +337,10 @@ int32_t tags_close(struct tags_pool *pool, struct tags_sums *sums)
 		return TAGS_NULL;
 	tags_library_lock_handle(pool);
 	status = tags_library_empty_pool(pool, sums);
+	TAGS_DETAIL_SEES(TAGS_MAX_TOTAL);
 	if (status == TAGS_OK || status == TAGS_HAND_LOST)
 		remove_bell(pool);
 	tags_library_unlock_handle(pool);
-	TAGS_DETAIL_SEES(TAGS_MAX_TOTAL);
 	errno = saved;
 	return status;
 }

@@ -86,7 +86,7 @@ int32_t tags_library_next_timed(struct tags_hand *hand, uint32_t queue, int32_t 
 
 int32_t tags_library_next_async(struct tags_hand *hand, uint32_t queue, int descriptor)
 {
-	const struct tags_notice notice = { descriptor, NULL, NULL, false };
+	const struct tags_notice notice = { descriptor, NULL, NULL, false, false };
 	const int32_t status = tags_find_queue(hand, queue);
 
 	if (status != TAGS_OK)
@@ -99,7 +99,7 @@ int32_t tags_library_next_async(struct tags_hand *hand, uint32_t queue, int desc
 int32_t tags_library_next_notified(struct tags_hand *hand, uint32_t queue,
 				   void (*function)(void *argument), void *argument)
 {
-	const struct tags_notice notice = { -1, function, argument, false };
+	const struct tags_notice notice = { -1, function, argument, false, false };
 
 	return next_by(hand, queue, &(const struct way){ NULL, &notice });
 }

@@ -98,14 +98,30 @@ static struct tags_locked *enter_holder(const struct tags_hands *hands, uint32_t
 	return at;
 }
 
-/* What a get answers, at its end. */
-static int32_t end_get(const struct tags_hands *hands, struct tags_locked *at, int32_t tag,
-		       const struct tags_told *told)
+/* A get from the hand of a call. Adds those whom it told to @due. */
+static int32_t get_from(struct tags_locked *at, enum tags_kind kind, struct tags_told *due)
+{
+	TAGS_DETAIL_TO_FILL(told);
+	const int32_t answer = kind == TAGS_RESERVED ? tags_library_get_reserved(&at->hand, &told) :
+						       tags_library_get(&at->hand, &told);
+
+	return tags_detail_is_told(answer) ? tags_library_hear(&at->hand, answer, &told, due) : answer;
+}
+
+static int32_t get(const struct tags_hands *hands, enum tags_kind kind)
 {
 	struct tags_told due = { 0, 0 };
+	struct tags_locked *at;
+	int32_t tag;
 
-	if (tags_detail_is_told(tag))
-		tag = tags_library_hear(&at->hand, tag, told, &due);
+	if (!hands)
+		return TAGS_NULL;
+	if (!hands->full)
+		return TAGS_BAD_HANDLE;
+	at = tags_library_enter(hands);
+	tag = get_from(at, kind, &due);
+	if (tags_detail_is_to_wrap(&at->hand, tag))
+		tag = get_from(at, kind, &due);
 	tags_library_note_holder(hands, at, tags_detail_won(tag));
 	leave(hands, at, &due);
 	return tag;
@@ -117,28 +133,12 @@ static int32_t end_get(const struct tags_hands *hands, struct tags_locked *at, i
 
 int32_t tags_hands_get(struct tags_hands *hands)
 {
-	struct tags_locked *at;
-	TAGS_DETAIL_TO_FILL(told);
-
-	if (!hands)
-		return TAGS_NULL;
-	if (!hands->full)
-		return TAGS_BAD_HANDLE;
-	at = tags_library_enter(hands);
-	return end_get(hands, at, tags_library_get(&at->hand, &told), &told);
+	return get(hands, TAGS_ORDINARY);
 }
 
 int32_t tags_hands_get_reserved(struct tags_hands *hands)
 {
-	struct tags_locked *at;
-	TAGS_DETAIL_TO_FILL(told);
-
-	if (!hands)
-		return TAGS_NULL;
-	if (!hands->full)
-		return TAGS_BAD_HANDLE;
-	at = tags_library_enter(hands);
-	return end_get(hands, at, tags_library_get_reserved(&at->hand, &told), &told);
+	return get(hands, TAGS_RESERVED);
 }
 
 /* Why a call for a tag is refused, if it is for what it was given. */
@@ -160,7 +160,7 @@ int32_t tags_hands_clear(struct tags_hands *hands, uint32_t tag)
 	if (status != TAGS_OK)
 		return status;
 	at = enter_holder(hands, tag);
-	if (at->hand.has_notes)
+	if (tags_detail_has_notes(&at->hand))
 		tags_library_withdraw(&at->hand, tag);
 	tags_detail_lost(tag);
 	return end_give(hands, at, tags_library_clear(&at->hand, tag, &told), &told);

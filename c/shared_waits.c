@@ -63,7 +63,7 @@ static void rouse(void *argument)
 
 static int32_t make_round(struct wait *wait)
 {
-	const struct tags_notice notice = { -1, rouse, wait, false };
+	const struct tags_notice notice = { -1, rouse, wait, false, true };
 	struct tags_told due = { 0, 0 };
 	int32_t tag;
 

@@ -177,7 +177,7 @@ struct tags_pool {
 	/* of a hand: the members of both kinds are the same */
 	struct tags_place *place;
 	uint32_t in_call;
-	uint32_t has_notes;
+	uint32_t flags;
 };
 
 /** struct tags_hand - a handle for a hand, empty if all its bytes are 0; its members are the library's */
@@ -188,8 +188,9 @@ struct tags_hand {
 	struct tags_place *place;
 	/* 1 in a call that was compiled with TAGS_CHECKED_HANDS */
 	uint32_t in_call;
-	/* 1 in a pool with notes; under the thread sanitizer each call writes it, as it is */
-	uint32_t has_notes;
+	/* TAGS_NOTES and TAGS_ROUND_ROBIN, if its pool has them; under the thread sanitizer each call
+	   writes this, as it is */
+	uint32_t flags;
 };
 
 #ifdef __cplusplus
@@ -231,9 +232,12 @@ enum tags_option_flags {
 		reused late, though not as late as possible: a tag that was given back is free
 		again once its word has no free tag left. A get after the last tag but one starts
 		at the first tag, so the last tag is mostly won when all others of its word are
-		taken. */
+		taken. A get that finds none from its start on tries all tags once more. */
 	TAGS_KEEP_WHILE_HOLDING = 4, /**< A hand keeps tags in its cache only while it holds another
-		one that it got: clearing or posting the last of those gives all kept tags back. */
+		one that it got: clearing or posting the last of those gives all kept tags back. Of
+		the tags among the same 64 numbers those count that it got by tags_get(),
+		tags_get_write() or a wait for an ordinary tag; reserved, shallow and exact gets,
+		batches, tags_get_many() and takes don't count. */
 	TAGS_NOTES = 8 /**< Tags have notes, see tags_note(). The pool takes 40 bytes more for each
 		tag, and a call that gives a tag back first looks whether that has one. */
 };
@@ -325,6 +329,11 @@ TAGS_DETAIL_ANSWER int32_t tags_open(struct tags_pool *pool, const struct tags_o
  *
  * A hand that left and joins again still holds its tags. Its gets start in a part of the tags of
  * its own, so that threads seldom meet on one word; with TAGS_STAY where its last get left off.
+ *
+ * The hand that left last joins first, and one that never joined only if none has left: so a hand
+ * comes back as the same one if no other leaves or joins between. Tags of a hand that left are found
+ * by tags_holds() once it has joined, and cleared by that hand; or by any of shared hands that are
+ * all hands of the pool.
  *
  * Return: TAGS_OK. Otherwise the first of TAGS_NOT_EMPTY, TAGS_BAD_HANDLE (of @pool),
  * TAGS_BAD_FLAG and TAGS_NO_HAND that applies, or TAGS_NO_MEMORY.
@@ -451,13 +460,16 @@ int32_t tags_resume(struct tags_pool *pool);
  *
  * For a shutdown, and before a tags_resize(): until no tag of either set is held, posted, or kept
  * in a cache. Have the threads get no more tags; tags_stop() ends their waits for one, but not
- * this call. A hand that keeps tags gives them back with its next clear, by tags_flush() or when
- * it leaves, and keeps none while this call waits. If threads still get tags, the tags need not
- * all have been back at any one moment. After this call the thread sees all that was done with a
- * tag before it went back.
+ * this call. What the thread's own hand keeps, see tags_thread_hand(), goes back at once. Any other
+ * hand gives back what it keeps with its next clear, by tags_flush() or when it leaves, and keeps
+ * none while this call waits. So flush each hand that makes no more clears, also others that this
+ * thread uses, and shared ones by tags_hands_flush(): or this call waits for ever. If threads still
+ * get tags, the tags need not all have been back at any one moment. After this call the thread sees
+ * all that was done with a tag before it went back.
  *
- * Gets and clears beside it are as fast as without it, except that caches keep nothing. It may
- * return up to a millisecond later than the last tag is back.
+ * Gets and clears beside it are as fast as without it; but caches keep nothing, so with them the two
+ * take about twice the time of a pool without. It may return up to a millisecond later than the last
+ * tag is back.
  *
  * Threads: as tags_stop().
  *
@@ -494,7 +506,7 @@ TAGS_DETAIL_ANSWER int32_t tags_drain_timed(struct tags_pool *pool, int32_t cloc
  * its looks each hand does so once, as soon as it gives tags back. So a tag is found if it is the
  * first that its hand gives back, though others get it again at once. One that is got again between
  * two looks is busy to the second one, and has to be found by a later one. Gets and clears beside
- * this call take little more time than without it, except that caches keep nothing.
+ * this call take little more time than beside tags_drain().
  *
  * Threads: as tags_stop().
  *
@@ -971,9 +983,13 @@ TAGS_DETAIL_CHECKED int32_t tags_get_async(struct tags_hand *hand, int descripto
  * on the thread that makes that call, and without a lock. So let it return soon. It may use any
  * hand that is in no call, except @hand: have another thread, or a later call, try again.
  *
- * Once the wait has ended, or this call was repeated, the function that was named before neither
- * runs nor will be called, so @argument may be freed. To ensure this, these calls wait until a
- * function that already runs on another thread has returned: hold no lock that it takes.
+ * Functions do not nest, and none waits for another: those that a call inside one tells are called
+ * once it has returned, and a wait that is ended inside one may leave its own function running, or
+ * about to run, for the last time. A later tags_cancel() or tags_leave(), outside, waits for that.
+ *
+ * Otherwise, once the wait has ended, or this call was repeated, the function that was named before
+ * neither runs nor will be called, so @argument may be freed. To ensure this, these calls wait until
+ * a function that already runs on another thread has returned: hold no lock that it takes.
  *
  * Return: the tag, or TAGS_NO_TAG. Otherwise TAGS_STOPPED, TAGS_SPENT, or TAGS_NO_SUCH_TAG if the
  * pool has no ordinary tag; then the hand does not wait. One that waits for a reserved tag still
@@ -1011,7 +1027,8 @@ TAGS_DETAIL_CHECKED int32_t tags_get_reserved_timed(struct tags_hand *hand, int3
  *
  * As tags_get_async(), for a reserved tag. While it waits, the hand may get and clear tags of either
  * set, but it can't wait for an ordinary one: end this wait first, by tags_cancel(). If no reserved
- * tag is free, the hand gives back the tags that it keeps; and while it waits it keeps none.
+ * tag is free, the hand gives back the tags that it keeps. It may keep those that it clears while it
+ * waits: flush it before the thread goes idle, as always.
  *
  * Return: the tag, or TAGS_NO_TAG. Otherwise TAGS_BAD_EVENT, TAGS_STOPPED, TAGS_NO_RESERVED or
  * TAGS_SPENT; then the hand does not wait. TAGS_BAD_EVENT changes nothing: a hand that waited still
@@ -1056,7 +1073,9 @@ TAGS_DETAIL_CALL int32_t tags_cancel(struct tags_hand *hand);
  * waits beside a queued tag unless some thread is about to look at it: each submit tells one of the
  * threads that sleep for the queue, and one of the hands that are notified, each time the one that
  * has waited longest. In its queues a hand waits apart from its wait for a free tag: it may wait for
- * one and in several queues at once. It gives back the tags that it keeps before it waits.
+ * one and in several queues at once. It gives back the tags that it keeps before it waits. If all
+ * tags are queued while everybody waits for a free one, nobody goes on: so let threads that take
+ * requests out wait for no free tag, or for a reserved one.
  *
  * These calls are put together, in C, from the proved calls of a pool and a list of tags: c/README.md
  * says how that is checked.
@@ -1274,7 +1293,7 @@ int32_t tags_hands_note(struct tags_hands *hands, uint32_t tag, uint64_t value);
  * tags_hands_flush() - give back all tags that the hands keep
  *
  * As tags_flush() with each of them. Call it in a pool with a cache, while nobody makes calls with
- * the hands and threads with hands of their own wait for tags.
+ * the hands and threads with hands of their own wait for tags, or before tags_drain().
  *
  * Return: TAGS_OK.
  */

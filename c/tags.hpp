@@ -639,7 +639,7 @@ struct options {
 	/// hand::flush().
 	std::uint32_t cache = 0;
 	/// Whether a hand keeps tags only while it holds another one that it got. Then it never
-	/// has to flush.
+	/// has to flush. Which count: see TAGS_KEEP_WHILE_HOLDING.
 	bool keep_while_holding = false;
 	/// Whether the default shift is the kernel's, which asks for 4 whole words whatever the
 	/// number of hands: see TAGS_SHIFT_AS_KERNEL. With a shift it changes nothing.
@@ -1448,7 +1448,8 @@ public:
 	/// pool::stop(), on whatever thread makes it. So let it return soon, throw nothing, and use
 	/// any hand but this one: have another thread, or a later call, repeat this one. Afterwards,
 	/// and once the wait has ended, the function that was named before neither runs nor is called:
-	/// until then that call waits.
+	/// until then that call waits. Functions do not nest, and none waits for another: see
+	/// tags_get_notified().
 	///
 	/// Errors: as of get_async(), except bad_event; bad_handle, by which nothing changes, for a null
 	/// function, too.
@@ -2556,8 +2557,9 @@ public:
 	}
 
 	/// Sleeps until all tags are back: none of either set is held, posted, or kept in a cache.
-	/// For a shutdown and before a resize, when threads get no more tags; see tags_drain(). While
-	/// it sleeps it is a cancellation point.
+	/// For a shutdown and before a resize, when threads get no more tags; see tags_drain(). A hand
+	/// that makes no more clears, such as one of this thread, has to flush() before. While it sleeps
+	/// it is a cancellation point.
 	///
 	/// Errors: bad_handle.
 	void drain() { detail::check(tags_drain(raw())); }

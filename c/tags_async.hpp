@@ -3,6 +3,8 @@
  *
  * It takes a compiler and a library with coroutines, as of C++20; with std::jthread's
  * std::stop_token a wait ends by a request as well.
+ *
+ * A hand has one listener at most: it has one place in the bell, with one turn and one eventfd.
  */
 #ifndef TAGS_ASYNC_HPP
 #define TAGS_ASYNC_HPP
@@ -366,9 +368,12 @@ public:
 	}
 
 	/// For poll() and its like: how many milliseconds, rounded up, until resume() has to be called
-	/// for a coroutine whose time is up; -1 if none has a limit in time.
+	/// for a coroutine whose time is up, 0 if an exception left some to be resumed; -1 if none has
+	/// a limit in time.
 	int timeout() const noexcept
 	{
+		if (!ready_.is_alone())
+			return 0;
 		std::int64_t first = detail::longest;
 		for (const link *at = waiting_.next; at != &waiting_; at = at->next) {
 			const std::int64_t end = static_cast<const waiter *>(at)->limit_.deadline;

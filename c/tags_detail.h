@@ -1,5 +1,8 @@
 /*
  * tags_detail.h - the inline parts of tags.h, which includes it. It is private to the library.
+ *
+ * Each call checks its pointers and then calls an export, which takes references and so must never be
+ * passed NULL. Where a compiler sees that a pointer is not NULL nothing of the check is left.
  */
 #ifndef TAGS_DETAIL_H
 #define TAGS_DETAIL_H
@@ -91,6 +94,16 @@ int32_t tags_library_pool_show(struct tags_pool *pool, uint32_t kind, struct tag
  * It returns the answer without the flag. @told is passed as it is, so that no call keeps its address.
  */
 int32_t tags_library_ring(struct tags_hand *hand, int32_t answer, struct tags_told told);
+/*
+ * What a get answers, at its end: as tags_library_ring(), and under round robin one that found no tag is made once
+ * more, from the first tag on. The last one is of a hand of which that is known.
+ */
+int32_t tags_library_end_get(struct tags_hand *hand, int32_t answer, struct tags_told told);
+int32_t tags_library_end_get_reserved(struct tags_hand *hand, int32_t answer,
+				      struct tags_told told);
+int32_t tags_library_end_get_write(struct tags_hand *hand, uint64_t value, int32_t answer,
+				   struct tags_told told);
+int32_t tags_library_get_many_again(struct tags_hand *hand, uint32_t *tags, size_t count);
 int32_t tags_library_wait(struct tags_hand *hand);
 int32_t tags_library_get_timed(struct tags_hand *hand, int32_t clock,
 			       const struct timespec *deadline);
@@ -205,13 +218,13 @@ void __msan_unpoison(const volatile void *start, size_t size);
  */
 #ifdef TAGS_LIBRARY
 __attribute__((weak)) void __tsan_write4(void *address);
-#define TAGS_DETAIL_MARK(hand) (__tsan_write4 ? __tsan_write4(&(hand)->has_notes) : (void)0)
+#define TAGS_DETAIL_MARK(hand) (__tsan_write4 ? __tsan_write4(&(hand)->flags) : (void)0)
 #elif defined TAGS_DETAIL_SANITIZED
 static inline void tags_detail_mark(struct tags_hand *hand)
 {
-	volatile uint32_t *has_notes = &hand->has_notes;
+	volatile uint32_t *flags = &hand->flags;
 
-	*has_notes = *has_notes;
+	*flags = *flags;
 }
 #define TAGS_DETAIL_MARK(hand) tags_detail_mark(hand)
 #else
@@ -325,6 +338,31 @@ static inline int tags_detail_is_due(const struct tags_hand *hand, int32_t answe
 	       __atomic_load_n(&hand->waits->watchers, __ATOMIC_SEQ_CST) > 0;
 }
 
+/* Whether a get answers a tag, and has told nobody. Otherwise, whether it goes on out of line. */
+static inline int tags_detail_is_plain(int32_t answer)
+{
+	return TAGS_DETAIL_AS(uint32_t, answer) < TAGS_DETAIL_TOLD / 2;
+}
+
+/*
+ * Whether a get that found no tag is made again. Under round robin it tries no tag of its first word before
+ * the start; but one that found none has moved the start to the first tag.
+ */
+static inline int tags_detail_wraps(const struct tags_hand *hand)
+{
+	return (hand->flags & TAGS_ROUND_ROBIN) != 0;
+}
+
+static inline int tags_detail_is_to_wrap(const struct tags_hand *hand, int32_t tag)
+{
+	return tag == TAGS_NO_TAG && tags_detail_wraps(hand);
+}
+
+static inline int tags_detail_goes_on(const struct tags_hand *hand, int32_t answer)
+{
+	return tags_detail_is_told(answer) || tags_detail_wraps(hand);
+}
+
 /* What a get answers. Its sweeps may have made tags free. */
 static inline int32_t tags_detail_got(struct tags_hand *hand, int32_t answer,
 				      const struct tags_told *told)
@@ -344,6 +382,12 @@ static inline int32_t tags_detail_must(int32_t status, const char *call)
 	if (status < 0)
 		tags_library_end_refused(status, call);
 	return status;
+}
+
+/* Whether the hand's pool has notes. */
+static inline int tags_detail_has_notes(const struct tags_hand *hand)
+{
+	return (hand->flags & TAGS_NOTES) != 0;
 }
 
 /* An empty handle has none. */
@@ -387,7 +431,9 @@ TAGS_DETAIL_CALL int32_t tags_get(struct tags_hand *hand)
 
 	if (!tags_detail_begin(hand))
 		return TAGS_NULL;
-	tag = tags_detail_got(hand, tags_library_get(hand, &told), &told);
+	tag = tags_library_get(hand, &told);
+	if (!tags_detail_is_plain(tag) && tags_detail_goes_on(hand, tag))
+		tag = tags_library_end_get(hand, tag, told);
 	return tags_detail_end(hand, tags_detail_won(tag));
 }
 
@@ -398,7 +444,9 @@ TAGS_DETAIL_CALL int32_t tags_get_reserved(struct tags_hand *hand)
 
 	if (!tags_detail_begin(hand))
 		return TAGS_NULL;
-	tag = tags_detail_got(hand, tags_library_get_reserved(hand, &told), &told);
+	tag = tags_library_get_reserved(hand, &told);
+	if (!tags_detail_is_plain(tag) && tags_detail_goes_on(hand, tag))
+		tag = tags_library_end_get_reserved(hand, tag, told);
 	return tags_detail_end(hand, tags_detail_won(tag));
 }
 
@@ -451,6 +499,8 @@ TAGS_DETAIL_CALL int32_t tags_get_many(struct tags_hand *hand, uint32_t *tags, s
 	if (!tags || !tags_detail_begin(hand))
 		return TAGS_NULL;
 	status = tags_detail_got(hand, tags_library_get_many(hand, tags, count, &told), &told);
+	if (tags_detail_is_to_wrap(hand, status))
+		status = tags_library_get_many_again(hand, tags, count);
 	tags_detail_filled(status, tags, count * sizeof(*tags));
 #if defined TAGS_DETAIL_SANITIZED || defined TAGS_LIBRARY
 	for (size_t i = 0; status >= 0 && i < count; i++)
@@ -466,7 +516,7 @@ TAGS_DETAIL_CALL int32_t tags_clear(struct tags_hand *hand, uint32_t tag)
 
 	if (!tags_detail_begin(hand))
 		return TAGS_NULL;
-	if (hand->has_notes)
+	if (tags_detail_has_notes(hand))
 		tags_library_withdraw(hand, tag);
 	tags_detail_lost(tag);
 	answer = tags_library_clear(hand, tag, &told);
@@ -481,7 +531,7 @@ TAGS_DETAIL_CALL int32_t tags_clear_batch(struct tags_hand *hand, const uint32_t
 
 	if (!tags || !tags_detail_begin(hand))
 		return TAGS_NULL;
-	if (hand->has_notes)
+	if (tags_detail_has_notes(hand))
 		tags_library_withdraw_all(hand, tags, count);
 	tags_detail_lost_all(tags, count);
 	answer = tags_library_clear_batch(hand, tags, count, &told);
@@ -495,7 +545,7 @@ TAGS_DETAIL_CALL int32_t tags_clear_mask(struct tags_hand *hand, uint32_t first,
 
 	if (!tags_detail_begin(hand))
 		return TAGS_NULL;
-	if (hand->has_notes)
+	if (tags_detail_has_notes(hand))
 		tags_library_withdraw_mask(hand, first, mask);
 	tags_detail_lost_mask(first, mask);
 	answer = tags_library_clear_mask(hand, first, mask, &told);
@@ -522,7 +572,9 @@ TAGS_DETAIL_CALL int32_t tags_get_write(struct tags_hand *hand, uint64_t value)
 
 	if (!tags_detail_begin(hand))
 		return TAGS_NULL;
-	tag = tags_detail_got(hand, tags_library_get_write(hand, value, &told), &told);
+	tag = tags_library_get_write(hand, value, &told);
+	if (!tags_detail_is_plain(tag) && tags_detail_goes_on(hand, tag))
+		tag = tags_library_end_get_write(hand, value, tag, told);
 	return tags_detail_end(hand, tags_detail_won(tag));
 }
 
@@ -533,7 +585,7 @@ TAGS_DETAIL_CALL int32_t tags_read_clear(struct tags_hand *hand, uint32_t tag, u
 
 	if (!value || !tags_detail_begin(hand))
 		return TAGS_NULL;
-	if (hand->has_notes)
+	if (tags_detail_has_notes(hand))
 		tags_library_withdraw(hand, tag);
 	tags_detail_lost(tag);
 	answer = tags_library_read_clear(hand, tag, value, &told);

@@ -1,6 +1,7 @@
 // A thread that is cancelled by pthread_cancel() while it sleeps for a tag, free or submitted, unwinds: its tags go
 // back, its hand leaves, and what it was told goes to another thread. That needs exceptions.
 #include "check.hpp"
+#include "sleeps.h"
 
 #include <chrono>
 #include <pthread.h>
@@ -108,9 +109,7 @@ static void a_cancelled_sleeper(way how)
 	sleeper self{pool, how};
 	pthread_t thread;
 	CHECK(pthread_create(&thread, nullptr, sleep_for_tag, &self) == 0);
-	while (!self.is_asleep)
-		std::this_thread::yield();
-	std::this_thread::sleep_for(10ms);
+	await_asleep(1);
 	CHECK(hand.show(tags::kind::ordinary).busy == 2);
 	CHECK(pthread_cancel(thread) == 0);
 	void *result = nullptr;
@@ -145,7 +144,7 @@ static void cancels_beside_clears()
 			CHECK(got);
 		});
 		if (round % 2 == 0)
-			std::this_thread::sleep_for(100us);
+			await_asleep(2);
 		pthread_cancel(cancelled);
 		tags[0].clear();
 		pthread_join(cancelled, nullptr);

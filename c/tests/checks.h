@@ -1,5 +1,6 @@
 /*
  * What the tests share: checks, of which each that fails is told and counted, short sleeps, and deadlines.
+ * No check rests on a time: a test that waits for what another thread does looks for that again and again.
  */
 #ifndef TESTS_CHECKS_H
 #define TESTS_CHECKS_H
@@ -8,6 +9,9 @@
 #include <stdint.h>
 #include <stdio.h>
 #include <time.h>
+
+/* In milliseconds, for what has to end before: longer than any test may take. */
+enum { NEVER = 3600000 };
 
 /* how many checks failed, of all threads */
 static uint64_t wrong;

@@ -1,6 +1,7 @@
 // Waits with a limit: by each clock of std::chrono and by others, of any length and of any type of
 // duration; and one that has passed is one try.
 #include "check.hpp"
+#include "sleeps.h"
 
 #include <chrono>
 #include <filesystem>
@@ -58,62 +59,74 @@ struct held {
 	tags::hand hand = pool.join(ec);
 };
 
+// However late the thread is: it sleeps no longer than up to this limit, and until that has passed.
 template <class Time>
-static void lasts(held &it, Time time, steady_clock::duration least, steady_clock::duration most)
+static void lasts(held &it, Time time, std::chrono::milliseconds least, std::int64_t most)
 {
 	const auto begin = steady_clock::now();
+	sleep_ms = 0;
 	CHECK(!it.hand.try_get_for(time, ec) && !ec);
-	const auto took = steady_clock::now() - begin;
-	CHECK(took >= least && took < most);
+	CHECK(steady_clock::now() - begin >= least && sleep_ms <= most);
 }
 
 static void times_up()
 {
 	held it;
-	lasts(it, 20ms, 20ms, 10s);
-	lasts(it, 0.02s, 20ms, 10s);
-	lasts(it, duration<int, std::ratio<1, 60>>(2), 33ms, 10s);
-	lasts(it, duration<short, std::milli>(20), 20ms, 10s);
-	lasts(it, duration<unsigned, std::milli>(20), 20ms, 10s);
-	lasts(it, duration<float>(0.02F), 19ms, 10s);
-	lasts(it, duration<std::int64_t, std::pico>(20'000'000'000), 20ms, 10s);
-	lasts(it, duration<long double, std::ratio<3600>>(20e-3L / 3600), 19ms, 10s);
+	lasts(it, 20ms, 20ms, 20);
+	lasts(it, 0.02s, 20ms, 20);
+	lasts(it, duration<int, std::ratio<1, 60>>(2), 33ms, 33);
+	lasts(it, duration<short, std::milli>(20), 20ms, 20);
+	lasts(it, duration<unsigned, std::milli>(20), 20ms, 20);
+	lasts(it, duration<float>(0.02F), 19ms, 20);
+	lasts(it, duration<std::int64_t, std::pico>(20'000'000'000), 20ms, 20);
+	lasts(it, duration<long double, std::ratio<3600>>(20e-3L / 3600), 19ms, 20);
 }
 
-// These try once, and do not sleep.
+// One try, without a sleep.
+template <class Get>
+static void passes(held &it, Get get)
+{
+	const std::uint32_t before = sleeps;
+	CHECK(!get(it.hand) && !ec && sleeps == before);
+}
+
+template <class Time>
+static void passes_for(held &it, Time time)
+{
+	passes(it, [&](tags::hand &hand) { return hand.try_get_for(time, ec); });
+}
+
 static void no_time()
 {
 	held it;
 	const double nan = std::numeric_limits<double>::quiet_NaN();
-	lasts(it, 0ns, 0ns, 5s);
-	lasts(it, -1ns, 0ns, 5s);
-	lasts(it, hours::min(), 0ns, 5s);
-	lasts(it, std::chrono::nanoseconds::min(), 0ns, 5s);
-	lasts(it, duration<double>(nan), 0ns, 5s);
-	lasts(it, duration<double>(-std::numeric_limits<double>::infinity()), 0ns, 5s);
-	lasts(it, duration<std::int64_t, std::atto>::min(), 0ns, 5s);
+	passes_for(it, 0ns);
+	passes_for(it, -1ns);
+	passes_for(it, hours::min());
+	passes_for(it, std::chrono::nanoseconds::min());
+	passes_for(it, duration<double>(nan));
+	passes_for(it, duration<double>(-std::numeric_limits<double>::infinity()));
+	passes_for(it, duration<std::int64_t, std::atto>::min());
 	it.tag.clear();
 	const std::optional<tags::tag> found = it.hand.try_get_for(-1h, ec);
 	CHECK(found && !ec);
 }
 
 template <class Deadline>
-static void passes(held &it, Deadline deadline)
+static void passes_until(held &it, Deadline deadline)
 {
-	const auto begin = steady_clock::now();
-	CHECK(!it.hand.try_get_until(deadline, ec) && !ec);
-	CHECK(steady_clock::now() - begin < 5s);
+	passes(it, [&](tags::hand &hand) { return hand.try_get_until(deadline, ec); });
 }
 
 template <class Clock>
 static void past_deadlines()
 {
 	held it;
-	passes(it, Clock::now());
-	passes(it, Clock::now() - 1h);
-	passes(it, Clock::time_point::min());
-	passes(it, time_point<Clock, hours>::min());
-	passes(it, time_point<Clock, duration<double>>::min());
+	passes_until(it, Clock::now());
+	passes_until(it, Clock::now() - 1h);
+	passes_until(it, Clock::time_point::min());
+	passes_until(it, time_point<Clock, hours>::min());
+	passes_until(it, time_point<Clock, duration<double>>::min());
 	it.tag.clear();
 	const std::optional<tags::tag> found = it.hand.try_get_until(Clock::now() - 1s, ec);
 	CHECK(found && !ec);
@@ -139,7 +152,7 @@ static void is_woken(Get get)
 {
 	held it;
 	std::thread giver([&] {
-		std::this_thread::sleep_for(20ms);
+		await_asleep(1);
 		it.tag.clear();
 	});
 	const std::optional<tags::tag> found = get(it.hand);
@@ -160,7 +173,7 @@ static void reserved_tags()
 	CHECK(!hand.try_get_reserved_until(std::chrono::system_clock::now() + 20ms, ec) && !ec);
 	CHECK(steady_clock::now() - begin >= 50ms);
 	std::thread giver([&] {
-		std::this_thread::sleep_for(20ms);
+		await_asleep(1);
 		tag.clear();
 	});
 	const std::optional<tags::tag> found = hand.try_get_reserved_for(hours::max(), ec);
@@ -185,7 +198,7 @@ static void submitted_tags()
 		tags::tag tag = *submitter.get(ec);
 		std::thread giver([&tag] {
 			std::error_code own;
-			std::this_thread::sleep_for(20ms);
+			await_asleep(1);
 			tag.submit(own);
 			CHECK(!own);
 		});

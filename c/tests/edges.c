@@ -19,6 +19,7 @@
 #include "../tags.h"
 
 #include "checks.h"
+#include "sleeps.h"
 
 enum { MOST = 8 };
 
@@ -150,8 +151,8 @@ static void cancel_a_sleeper(void)
 	set_up(1, 2);
 	for (uintptr_t i = 1; i <= 2; i++) {
 		start(&id, i);
-		await_waiting(1);
-		nap(2000);
+		await_asleep(1);
+		CHECK(tags_pool_waiting(&pool) == 1);
 		pthread_cancel(id);
 		CHECK(pthread_join(id, &result) == 0 && result == PTHREAD_CANCELED);
 		CHECK(tags_pool_waiting(&pool) == 0 && tags_waiting(&hands[0]) == 0);
@@ -170,9 +171,11 @@ static void cancel_beside_a_clear(void)
 	for (long round = 0; round < rounds; round++) {
 		set_up(1, 2);
 		start(&ids[0], 1);
-		await_waiting(1);
+		await_asleep(1);
 		start(&ids[1], 2);
-		await_waiting(2);
+		/* in some rounds the cancel and the clear come while this one begins to wait */
+		if (round % 4 < 2)
+			await_asleep(2);
 		nap(round % 7 * 20);
 		if (round % 2)
 			pthread_cancel(ids[0]);
@@ -320,7 +323,7 @@ static void *serve(void *argument)
 
 	__atomic_fetch_add(&begun, 1, __ATOMIC_SEQ_CST);
 	while ((self->tag = tags_get_async(self->hand, self->event)) == TAGS_NO_TAG) {
-		check(poll(&look, 1, 20000) == 1, "a loop sleeps beside a free tag");
+		CHECK(poll(&look, 1, -1) == 1);
 		told(self->event);
 	}
 	return NULL;
@@ -362,8 +365,8 @@ static void stop_each_wait(void)
 		start(&ids[i - 1], i);
 	CHECK(tags_get_async(&hands[5], events[4]) == TAGS_NO_TAG);
 	CHECK(tags_get_async(&hands[6], events[4]) == TAGS_NO_TAG);
-	await_waiting(6);
-	nap(2000);
+	await_asleep(4);
+	CHECK(tags_pool_waiting(&pool) == 6);
 	CHECK(tags_stop(&pool) == TAGS_OK && tags_stop(&pool) == TAGS_OK);
 	for (int i = 1; i <= 4; i++) {
 		pthread_join(ids[i - 1], NULL);
@@ -403,7 +406,7 @@ static void stop_among_others(void)
 		while (tags_get_async(&hands[3], events[0]) == TAGS_NO_TAG) {
 			struct pollfd look = { events[0], POLLIN, 0 };
 
-			CHECK(poll(&look, 1, 20000) == 1);
+			CHECK(poll(&look, 1, -1) == 1);
 			told(events[0]);
 		}
 		pthread_join(stopper, NULL);
@@ -527,7 +530,8 @@ static void keep_errno(void)
 	KEEPS(CHECK(tags_get_async(&hands[1], events[0]) == TAGS_NO_TAG));
 	KEEPS(CHECK(tags_get_async(&hands[2], 1000000) == TAGS_NO_TAG));
 	start(&id, 3);
-	await_waiting(3);
+	await_asleep(1);
+	CHECK(tags_pool_waiting(&pool) == 3);
 	KEEPS(CHECK(tags_clear(&hands[0], 0) >= 0));
 	pthread_join(id, NULL);
 	CHECK(answers[3] == 0);

@@ -1,6 +1,7 @@
 // Each refusal of tags.hpp has its reason, in both forms of its call, and changes nothing; and what
 // an error is to a program.
 #include "check.hpp"
+#include "sleeps.h"
 
 #include <chrono>
 #include <limits>
@@ -356,7 +357,7 @@ static void a_stop_ends_waits()
 	tags::hand hands[] = {pool.join(ec), pool.join(ec)};
 	std::thread blocked([&] { REFUSED(errc::stopped, hands[0].get_blocking(CODE)); });
 	std::thread timed([&] { REFUSED(errc::stopped, hands[1].try_get_for(1h, CODE)); });
-	std::this_thread::sleep_for(20ms);
+	await_asleep(2);
 	pool.stop(ec);
 	blocked.join();
 	timed.join();

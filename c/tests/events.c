@@ -280,7 +280,7 @@ static void serve(int event, struct tags_hand *hands)
 			in_all--;
 		}
 		if (in_all == before)
-			check(poll(&look, 1, 60000) == 1 && told(event) > 0, "poll");
+			check(poll(&look, 1, -1) == 1 && told(event) > 0, "poll");
 	}
 }
 

@@ -294,7 +294,7 @@ static void try_get(void)
 	uint32_t at = hand_handle();
 
 	compare("get", tags_get(&handles[at].hand),
-		model_swept(&models[at], model_get(&models[at])));
+		model_get_and_tell(&models[at], TAGS_ORDINARY));
 }
 
 static void try_get_reserved(void)
@@ -302,7 +302,7 @@ static void try_get_reserved(void)
 	uint32_t at = hand_handle();
 
 	compare("get_reserved", tags_get_reserved(&handles[at].hand),
-		model_swept_reserved(&models[at], model_get_reserved(&models[at])));
+		model_get_and_tell(&models[at], TAGS_RESERVED));
 }
 
 static void try_get_shallow(void)
@@ -343,11 +343,9 @@ static void try_get_many(void)
 	uint32_t at = hand_handle();
 	/* more than all ordinary tags are refused before anything is filled in */
 	size_t n = seldom(20) ? odd_number() : below(12);
-	uint32_t left;
-	int32_t status = model_get_many(&models[at], wanted, n, &left);
+	int32_t status = model_get_many_and_tell(&models[at], wanted, n);
 
-	compare("get_many", tags_get_many(&handles[at].hand, found, n),
-		model_left_free(&models[at], status, left));
+	compare("get_many", tags_get_many(&handles[at].hand, found, n), status);
 	if (status == TAGS_OK)
 		compare_filled("get_many", found, wanted, n * sizeof(*found));
 }
@@ -387,7 +385,7 @@ static void try_get_write(void)
 	uint64_t value = (uint64_t)draw() << 32 | draw();
 
 	compare("get_write", tags_get_write(&handles[at].hand, value),
-		model_swept(&models[at], model_get_write(&models[at], value)));
+		model_get_write(&models[at], value));
 }
 
 /* Lists some of the tags that the hand holds. */
@@ -574,7 +572,7 @@ static void try_get_timed(void)
 		is_sound ? model_wait(&models[at], kind, true) : (int32_t)TAGS_BAD_TIME);
 }
 
-/* Whether a thread that waits for a tag of a set might sleep, here for ever. A get by round robin may miss a free tag. */
+/* Whether a thread that waits for a tag of a set might sleep, here for ever. */
 static bool might_sleep(uint32_t at, enum tags_kind kind)
 {
 	const struct set *set;
@@ -584,7 +582,7 @@ static bool might_sleep(uint32_t at, enum tags_kind kind)
 		return false;
 	set = &models[at].pool->set[kind];
 	for (uint32_t tag = 0; tag < set->depth; tag++)
-		if (!set->round_robin && (set->place[tag] == FREE || set->place[tag] == ASIDE))
+		if (set->place[tag] == FREE || set->place[tag] == ASIDE)
 			return false;
 	return set->depth > 0;
 }

@@ -16,6 +16,7 @@
 #include <tags.h>
 
 #include "checks.h"
+#include "sleeps.h"
 
 enum { HANDS = 3, THREADS = 12, TOTAL = 8 };
 
@@ -59,7 +60,7 @@ static void *come_and_go(void *unused)
 {
 	for (long i = 0; i < rounds; i++) {
 		struct tags_hand hand = TAGS_EMPTY;
-		const struct timespec late = after(CLOCK_MONOTONIC, 60000);
+		const struct timespec late = after(CLOCK_MONOTONIC, NEVER);
 
 		if (i % 2)
 			CHECK(tags_join_blocking(&pool, &hand, 0) == TAGS_OK);
@@ -136,7 +137,7 @@ static void stops_and_cancels_of_joins(void)
 	CHECK(tags_join(&pool, &hand, 0) == TAGS_OK);
 	for (int i = 0; i < 2; i++)
 		CHECK(pthread_create(&ids[i], NULL, join_once, &answers[i]) == 0);
-	nap(2000);
+	await_asleep(2);
 	pthread_cancel(ids[0]);
 	pthread_join(ids[0], &result);
 	CHECK(result == PTHREAD_CANCELED);
@@ -147,7 +148,7 @@ static void stops_and_cancels_of_joins(void)
 	CHECK(answers[0] == TAGS_STOPPED);
 	CHECK(tags_resume(&pool) == TAGS_OK);
 	CHECK(pthread_create(&ids[0], NULL, join_once, &answers[0]) == 0);
-	nap(2000);
+	await_asleep(1);
 	leave(&hand);
 	pthread_join(ids[0], NULL);
 	CHECK(answers[0] == TAGS_OK);
@@ -167,7 +168,7 @@ static void *get_once(void *answer)
 
 static void *get_in_time(void *answer)
 {
-	const struct timespec late = after(CLOCK_MONOTONIC, 60000);
+	const struct timespec late = after(CLOCK_MONOTONIC, NEVER);
 	struct tags_hand hand = TAGS_EMPTY;
 
 	CHECK(tags_join(&pool, &hand, 0) == TAGS_OK);
@@ -179,12 +180,6 @@ static void *get_in_time(void *answer)
 static void do_nothing(void *unused)
 {
 	(void)unused;
-}
-
-static void await_waits(int32_t n)
-{
-	while (tags_pool_waiting(&pool) < n)
-		nap(100);
 }
 
 /* The pool is resumed before any of those that wait has looked. */
@@ -203,14 +198,16 @@ static void stops_that_are_resumed(void)
 	CHECK(tags_get_notified(&listener, do_nothing, NULL) == TAGS_NO_TAG);
 	for (int i = 0; i < 2; i++)
 		CHECK(pthread_create(&ids[i], NULL, waits[i], &answers[i]) == 0);
-	await_waits(3);
+	/* once these two have hands, none is left */
+	await_asleep(2);
 	CHECK(pthread_create(&ids[2], NULL, waits[2], &answers[2]) == 0);
-	nap(20000);
+	await_asleep(3);
+	CHECK(tags_pool_waiting(&pool) == 3);
 	CHECK(tags_stop(&pool) == TAGS_OK && tags_resume(&pool) == TAGS_OK);
 	for (int i = 0; i < 3; i++)
 		pthread_join(ids[i], NULL);
 	CHECK(answers[0] == TAGS_STOPPED && answers[1] == TAGS_STOPPED);
-	/* unless a hand was vacant when it looked */
+	/* unless one of them had left already when it looked */
 	CHECK(answers[2] == TAGS_STOPPED || answers[2] == TAGS_OK);
 	CHECK(tags_get_notified(&listener, do_nothing, NULL) == TAGS_STOPPED);
 	/* a wait that begins now goes on */
@@ -233,9 +230,10 @@ static void delay(int unused)
 	(void)unused;
 	__atomic_store_n(&is_delayed, 1, __ATOMIC_SEQ_CST);
 	while (!__atomic_load_n(&may_go_on, __ATOMIC_SEQ_CST))
-		;
+		nap(100);
 }
 
+/* Of one that sleeps, and so has no lock that others wait for. */
 static void begin_delay(pthread_t id)
 {
 	__atomic_store_n(&is_delayed, 0, __ATOMIC_SEQ_CST);
@@ -256,9 +254,9 @@ static void pools_in_one_handle(bool was_stopped)
 	CHECK(tags_join(&pool, &hand, 0) == TAGS_OK);
 	if (was_stopped)
 		CHECK(tags_stop(&pool) == TAGS_OK && tags_resume(&pool) == TAGS_OK);
-	for (int i = 0; i < 2; i++) {
+	for (uint32_t i = 0; i < 2; i++) {
 		CHECK(pthread_create(&ids[i], NULL, join_once, &answers[i]) == 0);
-		nap(20000);
+		await_asleep(i + 1);
 	}
 	begin_delay(ids[0]);
 	leave(&hand);
@@ -268,7 +266,7 @@ static void pools_in_one_handle(bool was_stopped)
 	open_pool(1, 0);
 	CHECK(tags_join(&pool, &hand, 0) == TAGS_OK);
 	CHECK(pthread_create(&ids[2], NULL, join_once, &answers[2]) == 0);
-	nap(20000);
+	await_asleep(2);
 	__atomic_store_n(&may_go_on, 1, __ATOMIC_SEQ_CST);
 	pthread_join(ids[0], NULL);
 	CHECK(answers[0] == TAGS_BAD_HANDLE && answers[2] == 1);
@@ -321,7 +319,7 @@ static long count_uses(void)
 
 static void drain_beside_clears(uint32_t cache)
 {
-	const struct timespec late = after(CLOCK_REALTIME, 300000);
+	const struct timespec late = after(CLOCK_REALTIME, NEVER);
 	pthread_t ids[HANDS];
 	int held = 0;
 
@@ -374,14 +372,14 @@ static void limits_of_drains(void)
 	CHECK(tags_drain_timed(&pool, 99, &end) == TAGS_BAD_TIME);
 	CHECK(tags_drain_timed(&pool, CLOCK_MONOTONIC, NULL) == TAGS_NULL);
 	CHECK(pthread_create(&id, NULL, drain, &answer) == 0);
-	nap(2000);
+	await_asleep(1);
 	pthread_cancel(id);
 	pthread_join(id, &result);
 	CHECK(result == PTHREAD_CANCELED && pool.waits->watchers == 0 && tags_pool_waiting(&pool) == 0);
 	/* a stop ends no drain */
 	CHECK(tags_stop(&pool) == TAGS_OK);
 	CHECK(pthread_create(&id, NULL, drain, &answer) == 0);
-	nap(2000);
+	await_asleep(1);
 	TAGS_MUST(tags_take(&other, (uint32_t)tag));
 	TAGS_MUST(tags_clear(&other, (uint32_t)tag));
 	pthread_join(id, NULL);
@@ -411,15 +409,15 @@ static void *await_list(void *argument)
 	return NULL;
 }
 
-/* Returns once the thread sleeps. */
-static pthread_t begin_wait(struct wait *wait, int32_t waiting)
+/* Returns once it sleeps as one of so many threads. */
+static pthread_t begin_wait(struct wait *wait, uint32_t sleepers)
 {
 	pthread_t id;
 
 	wait->answer = 1;
 	CHECK(pthread_create(&id, NULL, await_list, wait) == 0);
-	await_waits(waiting);
-	nap(20000);
+	await_asleep(sleepers);
+	CHECK(tags_pool_waiting(&pool) == (int32_t)sleepers);
 	return id;
 }
 
@@ -506,6 +504,7 @@ static void one_after_the_other(void)
 	/* neither a stop nor another tag ends the wait */
 	CHECK(tags_stop(&pool) == TAGS_OK && tags_resume(&pool) == TAGS_OK);
 	TAGS_MUST(tags_clear_mask(&hand, 2, 3));
+	/* that it does not end, only time shows */
 	nap(20000);
 	CHECK(__atomic_load_n(&last.answer, __ATOMIC_RELAXED) == 1);
 	TAGS_MUST(tags_clear(&hand, 4));
@@ -528,7 +527,7 @@ static void cancelled_list(void)
 	CHECK(tags_join(&pool, &hand, 0) == TAGS_OK);
 	TAGS_MUST(tags_get_exactly(&hand, 2));
 	CHECK(pthread_create(&all, NULL, drain, &answer) == 0);
-	for (int i = 0; i < 2; i++)
+	for (uint32_t i = 0; i < 2; i++)
 		ids[i] = begin_wait(&waits[i], i + 2);
 	pthread_cancel(ids[0]);
 	pthread_join(ids[0], &result);
@@ -594,7 +593,7 @@ static void *make_requests(void *unused)
 /* Waits for the requests that are there now. None of them is when the wait has ended. */
 static void await_requests(bool has_limit)
 {
-	const struct timespec late = after(CLOCK_MONOTONIC, 300000);
+	const struct timespec late = after(CLOCK_MONOTONIC, NEVER);
 	uint64_t awaited[TOTAL];
 	struct wait wait = { .count = 0 };
 

@@ -1,5 +1,6 @@
 // Waits for a hand, for all tags of a pool and for those of a list, without a limit and with one, and a stop and a resume.
 #include "check.hpp"
+#include "sleeps.h"
 
 #include <chrono>
 #include <thread>
@@ -87,7 +88,7 @@ static void drains()
 		pool.drain(own);
 		CHECK(!own && pool.show(tags::kind::ordinary, own).busy == 0);
 	});
-	std::this_thread::sleep_for(2ms);
+	await_asleep(1);
 	tag.clear();
 	thread.join();
 	hand.leave(ec);
@@ -115,7 +116,7 @@ static void drains_of_lists()
 		is_over = true;
 		CHECK(!own);
 	});
-	std::this_thread::sleep_for(2ms);
+	await_asleep(1);
 	CHECK(!is_over);
 	ends.clear();
 	thread.join();

@@ -14,6 +14,7 @@
 #include <tags.h>
 
 #include "checks.h"
+#include "sleeps.h"
 
 enum wait {
 	GET,
@@ -129,15 +130,14 @@ static void *run(void *how)
 	return NULL;
 }
 
-/* A thread that waits counts as waiting, unless it does for a hand; then it is asleep soon. */
+/* Returns once the thread sleeps. It counts as waiting, unless it waits for a hand. */
 static pthread_t start(enum wait *how)
 {
 	pthread_t id;
 
 	CHECK(pthread_create(&id, NULL, run, how) == 0);
-	while (kind_of(*how) != JOIN && tags_pool_waiting(&pool) != 1)
-		nap(1000);
-	nap(10000);
+	await_asleep(1);
+	CHECK(tags_pool_waiting(&pool) == (kind_of(*how) != JOIN));
 	return id;
 }
 
@@ -233,6 +233,7 @@ static void interrupt(enum wait how, int flags)
 		while (__atomic_load_n(&handled, __ATOMIC_SEQ_CST) < i)
 			nap(1000);
 	}
+	/* that it does not end, only time shows */
 	nap(5000);
 	CHECK(answer == INT32_MIN);
 	give(how);

@@ -1,13 +1,16 @@
 /*
  * Threads that end with their hands: by a return, by pthread_exit() and by a cancel, while they hold
  * tags, keep some, wait for one by an eventfd, and have hands of two pools. Each pool is closed
- * then, and its sums tell what was held.
+ * then, and its sums tell what was held. A pool is closed or resized beside a thread that goes on after its leave,
+ * and a thread drains what its own hand keeps.
  */
 #include <inttypes.h>
 #include <pthread.h>
 #include <semaphore.h>
+#include <stdbool.h>
 #include <stdio.h>
 #include <sys/eventfd.h>
+#include <time.h>
 #include <unistd.h>
 
 #include "../tags.h"
@@ -210,6 +213,121 @@ static void end_beside_threads_that_wait_for_a_hand(void)
 	WANT(close_pool(&pool), 0);
 }
 
+/* The one that left last comes back first, with its tag, and one that never joined only then. */
+static void come_back_in_turn(void)
+{
+	struct tags_hand hands[3] = { TAGS_EMPTY, TAGS_EMPTY, TAGS_EMPTY };
+
+	open_pool(&pool, 3, 3, 0);
+	for (int i = 0; i < 2; i++) {
+		WANT(tags_join(&pool, &hands[i], 0), TAGS_OK);
+		WANT(tags_get_exactly(&hands[i], (uint32_t)i), i);
+	}
+	WANT(tags_leave(&hands[0]), TAGS_OK);
+	WANT(tags_leave(&hands[1]), TAGS_OK);
+	for (int i = 1; i >= 0; i--) {
+		WANT(tags_join(&pool, &hands[i], 0), TAGS_OK);
+		WANT(tags_holds(&hands[i], (uint32_t)i), 1);
+	}
+	WANT(tags_join(&pool, &hands[2], 0), TAGS_OK);
+	for (int i = 0; i < 3; i++)
+		WANT(tags_leave(&hands[i]), TAGS_OK);
+	WANT(close_pool(&pool), 2);
+}
+
+/* A drain and a wait for a list that try and do not sleep. */
+static void want_drains(int32_t status)
+{
+	const struct timespec past = { 0, 0 };
+	const uint32_t tags[] = { 0, 1 };
+
+	WANT(tags_drain_timed(&pool, CLOCK_MONOTONIC, &past), status);
+	WANT(tags_drain_list_timed(&pool, tags, 2, CLOCK_MONOTONIC, &past), status);
+}
+
+static void keep_two(struct tags_hand *hand)
+{
+	WANT(tags_get(hand), 0);
+	WANT(tags_get(hand), 1);
+	WANT(tags_clear(hand, 0), TAGS_OK);
+	WANT(tags_clear(hand, 1), TAGS_OK);
+}
+
+/* What the thread's own hand keeps goes back before it drains, and of no other one. */
+static void *drain_what_it_keeps(void *unused)
+{
+	struct tags_hand *own = join(&pool);
+	struct tags_hand other = TAGS_EMPTY;
+
+	keep_two(own);
+	want_drains(TAGS_OK);
+	WANT(tags_leave(own), TAGS_OK);
+	want_drains(TAGS_OK);
+	WANT(tags_join(&pool, &other, 0), TAGS_OK);
+	keep_two(&other);
+	want_drains(TAGS_TIMED_OUT);
+	WANT(tags_flush(&other), TAGS_OK);
+	want_drains(TAGS_OK);
+	WANT(tags_leave(&other), TAGS_OK);
+	return unused;
+}
+
+static void drain_beside_own_hands(void)
+{
+	open_pool(&pool, 8, 1, 4);
+	run(drain_what_it_keeps, NULL);
+	WANT(close_pool(&pool), 0);
+}
+
+static sem_t has_joined, is_over;
+
+static void *leave_and_run_on(void *unused)
+{
+	struct tags_hand hand = TAGS_EMPTY;
+	int32_t tag;
+
+	WANT(tags_join(&pool, &hand, 0), TAGS_OK);
+	WANT(sem_post(&has_joined), 0);
+	tag = tags_get(&hand);
+	WANT(tags_note(&hand, (uint32_t)tag, 1), TAGS_OK);
+	WANT(tags_clear(&hand, (uint32_t)tag), TAGS_OK);
+	WANT(tags_leave(&hand), TAGS_OK);
+	WANT(sem_wait(&is_over), 0);
+	return unused;
+}
+
+static int32_t close_or_resize(bool closes)
+{
+	struct tags_sums sums;
+
+	return closes ? tags_close(&pool, &sums) : tags_resize(&pool, 5);
+}
+
+/*
+ * A pool is closed or resized as soon as its only hand has left, by nothing else that orders the two: the thread
+ * sanitizer is told by the library that what is freed then is used no more.
+ */
+static void end_as_soon_as_a_hand_has_left(bool closes)
+{
+	const struct tags_options options = { .total = 4, .hands = 1, .flags = TAGS_NOTES };
+	pthread_t thread;
+	int32_t status;
+
+	WANT(tags_open(&pool, &options), TAGS_OK);
+	WANT(sem_init(&has_joined, 0, 0), 0);
+	WANT(sem_init(&is_over, 0, 0), 0);
+	WANT(pthread_create(&thread, NULL, leave_and_run_on, NULL), 0);
+	WANT(sem_wait(&has_joined), 0);
+	do
+		status = close_or_resize(closes);
+	while (status == TAGS_HANDS_OUT);
+	WANT(status, TAGS_OK);
+	WANT(sem_post(&is_over), 0);
+	WANT(pthread_join(thread, NULL), 0);
+	if (!closes)
+		WANT(close_pool(&pool), 0);
+}
+
 int main(void)
 {
 	end_by_returns_and_exits();
@@ -217,6 +335,10 @@ int main(void)
 	end_with_kept_tags_and_a_wait();
 	have_one_for_each_pool();
 	end_beside_threads_that_wait_for_a_hand();
+	come_back_in_turn();
+	drain_beside_own_hands();
+	end_as_soon_as_a_hand_has_left(false);
+	end_as_soon_as_a_hand_has_left(true);
 	printf("%d answers, %d wrong\n", checks, wrong);
 	return wrong != 0;
 }

@@ -13,7 +13,9 @@
 #include <stdbool.h>
 #include <stdio.h>
 #include <stdlib.h>
+#include <string.h>
 #include <sys/eventfd.h>
+#include <sys/syscall.h>
 #include <time.h>
 #include <unistd.h>
 
@@ -21,7 +23,7 @@
 
 enum {
 	MOST = 16,
-	/* tenths of a second without progress after which threads hang */
+	/* tenths of a second after which threads hang that all sleep, and make no progress */
 	PATIENCE = 100
 };
 
@@ -59,8 +61,9 @@ struct thread {
 	struct tags_hand hand;
 	int event;
 	enum way way;
-	/* what it does now, for the watchdog */
+	/* what it does now, for the watchdog, and as which task */
 	const char *doing;
+	long task;
 };
 
 static struct thread threads[MOST];
@@ -132,11 +135,17 @@ static uint32_t get(struct thread *self)
 	return (uint32_t)tag;
 }
 
+static void note_task(struct thread *self)
+{
+	__atomic_store_n(&self->task, syscall(SYS_gettid), __ATOMIC_RELAXED);
+}
+
 static void *meet(void *argument)
 {
 	struct thread *self = argument;
 	bool goes_on = true;
 
+	note_task(self);
 	while (goes_on) {
 		uint32_t tag = get(self);
 
@@ -156,6 +165,7 @@ static void *share(void *argument)
 {
 	struct thread *self = argument;
 
+	note_task(self);
 	while (!is_late()) {
 		uint32_t tag = get(self);
 
@@ -193,6 +203,31 @@ static void tell(const struct setting *setting, uint32_t count)
 		fprintf(stderr, "thread %" PRIu32 ", way %d: %s\n", i, threads[i].way, threads[i].doing);
 }
 
+/* Whether a thread sleeps, by what /proc says of it. One that is only kept from a processor does not. */
+static bool sleeps(long task)
+{
+	char path[64], said[300] = "";
+	const char *name_ends;
+	FILE *file;
+
+	snprintf(path, sizeof(path), "/proc/self/task/%ld/stat", task);
+	file = fopen(path, "r");
+	if (!file)
+		return false;
+	name_ends = fgets(said, sizeof(said), file) ? strrchr(said, ')') : NULL;
+	fclose(file);
+	return name_ends && strncmp(name_ends, ") S", 3) == 0;
+}
+
+/* Whether all threads sleep but those that never wait. */
+static bool all_sleep(const struct setting *setting, uint32_t count)
+{
+	for (uint32_t i = 0; i < (setting->sharers ? setting->sharers : count); i++)
+		if (!sleeps(__atomic_load_n(&threads[i].task, __ATOMIC_RELAXED)))
+			return false;
+	return true;
+}
+
 /* Whether there is progress for so many milliseconds, and beyond that until all threads have ended. */
 static bool watch(const struct setting *setting, uint32_t count, long ms)
 {
@@ -203,7 +238,7 @@ static bool watch(const struct setting *setting, uint32_t count, long ms)
 	for (long past = 0; past < ms; past += 100) {
 		uint64_t now = __atomic_load_n(&rounds, __ATOMIC_RELAXED);
 
-		quiet = now == last ? quiet + 1 : 0;
+		quiet = now == last && all_sleep(setting, count) ? quiet + 1 : 0;
 		/* a hang late in the time is one, too */
 		if (quiet > 0)
 			past -= 100;
@@ -254,6 +289,7 @@ static void run(const struct setting *setting, long ms)
 		bool is_sweeper = setting->sharers && i >= setting->sharers;
 
 		it->way = setting->way == ANY_WAY ? (enum way)(i % 3) : setting->way;
+		it->task = 0;
 		it->event = eventfd(0, EFD_NONBLOCK);
 		MUST(tags_join(&pool, &it->hand, 0) == TAGS_OK);
 		MUST(pthread_create(&it->id, NULL, is_sweeper ? sweep : setting->sharers ? share : meet, it) == 0);

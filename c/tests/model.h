@@ -150,6 +150,7 @@ int32_t model_leave(struct model *hand);
 int32_t model_resize(struct model *handle, uint32_t total);
 int32_t model_close(struct model *handle, struct tags_sums *sums);
 
+/* One search, which tells nobody. */
 int32_t model_get(struct model *hand);
 int32_t model_get_reserved(struct model *hand);
 int32_t model_get_shallow(struct model *hand, uint32_t depth);
@@ -204,8 +205,7 @@ uint32_t model_left(struct model *hand, enum tags_kind kind);
 int32_t model_left_free(struct model *hand, int32_t answer, uint32_t left);
 /* After a get of an ordinary tag: those that it made free are told of, without those of the latest sweep that it won. Returns @answer. */
 int32_t model_swept(struct model *hand, int32_t answer);
-/* The same of a get of a reserved tag; and of a get from the set that @tag is of. */
-int32_t model_swept_reserved(struct model *hand, int32_t answer);
+/* The same of a get from the set that @tag is of. */
 int32_t model_swept_for(struct model *hand, int32_t answer, uint32_t tag);
 /* After a call that gave ordinary tags back, or kept them, those who wait are told, unless it was refused. Returns @answer. */
 int32_t model_gave(struct model *hand, int32_t answer);
@@ -213,6 +213,9 @@ int32_t model_gave(struct model *hand, int32_t answer);
 int32_t model_cleared(struct model *hand, int32_t answer, uint32_t tag);
 /* A flush, which tells those who wait. */
 int32_t model_flush_and_tell(struct model *hand);
+/* Gets of one tag of a set, and of several, made twice under round robin if they found none. They tell who waits. */
+int32_t model_get_and_tell(struct model *hand, enum tags_kind kind);
+int32_t model_get_many_and_tell(struct model *hand, uint32_t *tags, size_t n);
 /* A wait for a tag of a set. An @event from EVENTS on is an argument of the function. */
 int32_t model_get_async(struct model *hand, enum tags_kind kind, int32_t event);
 int32_t model_cancel(struct model *hand);

@@ -86,17 +86,6 @@ static void see_to(struct model *hand, enum tags_kind kind, uint32_t freed)
 	hand->pool->given = 0;
 }
 
-/* While anybody waits for a reserved tag, hands keep nothing, either. */
-static void flush_for_reserved(struct model *hand)
-{
-	const uint32_t kept = (uint32_t)__builtin_popcountll(member_of(hand)->kept);
-
-	if (hand->pool->cache == 0 || !is_anybody_waiting(hand->pool, TAGS_RESERVED))
-		return;
-	model_flush(hand);
-	see_to(hand, TAGS_ORDINARY, kept);
-}
-
 /* How many tags of the latest sweep the hand holds. */
 static uint32_t count_taken(const struct model *hand, const struct set *set)
 {
@@ -122,10 +111,8 @@ uint32_t model_left(struct model *hand, enum tags_kind kind)
 
 static int32_t left_free(struct model *hand, enum tags_kind kind, int32_t answer, uint32_t left)
 {
-	if (left > 0) {
+	if (left > 0)
 		see_to(hand, kind, left);
-		flush_for_reserved(hand);
-	}
 	return answer;
 }
 
@@ -144,11 +131,6 @@ int32_t model_swept(struct model *hand, int32_t answer)
 	return swept(hand, TAGS_ORDINARY, answer);
 }
 
-int32_t model_swept_reserved(struct model *hand, int32_t answer)
-{
-	return swept(hand, TAGS_RESERVED, answer);
-}
-
 int32_t model_swept_for(struct model *hand, int32_t answer, uint32_t tag)
 {
 	return is_hand(hand) ? swept(hand, kind_of(hand, tag), answer) : answer;
@@ -156,19 +138,15 @@ int32_t model_swept_for(struct model *hand, int32_t answer, uint32_t tag)
 
 int32_t model_gave(struct model *hand, int32_t answer)
 {
-	if (answer >= 0 && (hand->pool->given > 0 || hand->pool->cache > 0)) {
+	if (answer >= 0 && (hand->pool->given > 0 || hand->pool->cache > 0))
 		see_to(hand, TAGS_ORDINARY, hand->pool->given);
-		flush_for_reserved(hand);
-	}
 	return answer;
 }
 
 int32_t model_cleared(struct model *hand, int32_t answer, uint32_t tag)
 {
-	if (answer >= 0) {
+	if (answer >= 0)
 		see_to(hand, kind_of(hand, tag), hand->pool->given);
-		flush_for_reserved(hand);
-	}
 	return answer;
 }
 
@@ -202,10 +180,57 @@ static int32_t get_of(struct model *hand, enum tags_kind kind)
 	return kind == TAGS_RESERVED ? model_get_reserved(hand) : model_get(hand);
 }
 
+static bool is_to_wrap(const struct model *hand, enum tags_kind kind, int32_t answer)
+{
+	return answer == TAGS_NO_TAG && hand->pool->set[kind].round_robin;
+}
+
+int32_t model_get_and_tell(struct model *hand, enum tags_kind kind)
+{
+	const int32_t tag = swept(hand, kind, get_of(hand, kind));
+
+	return is_to_wrap(hand, kind, tag) ? swept(hand, kind, get_of(hand, kind)) : tag;
+}
+
+static void give_back(struct model *hand, const uint32_t *tags, size_t n)
+{
+	while (n > 0) {
+		const size_t some = n < TAGS_MAX_BATCH ? n : TAGS_MAX_BATCH;
+
+		model_gave(hand, model_clear_batch(hand, tags, some));
+		tags += some;
+		n -= some;
+	}
+}
+
+/* By gets that wrap in their first word, as shallow ones do, and take no kept tag. */
+static int32_t get_many_again(struct model *hand, uint32_t *tags, size_t n)
+{
+	for (size_t i = 0; i < n; i++) {
+		const int32_t tag = model_swept(hand, model_get_shallow(hand, UINT32_MAX));
+
+		if (tag < 0) {
+			give_back(hand, tags, i);
+			return tag;
+		}
+		tags[i] = (uint32_t)tag;
+	}
+	return TAGS_OK;
+}
+
+int32_t model_get_many_and_tell(struct model *hand, uint32_t *tags, size_t n)
+{
+	uint32_t left;
+	int32_t status = model_get_many(hand, tags, n, &left);
+
+	status = model_left_free(hand, status, left);
+	return is_to_wrap(hand, TAGS_ORDINARY, status) ? get_many_again(hand, tags, n) : status;
+}
+
 /* A get before a wait. A hand that is to wait for a reserved tag keeps nothing. */
 static int32_t get(struct model *hand, enum tags_kind kind)
 {
-	const int32_t tag = swept(hand, kind, get_of(hand, kind));
+	const int32_t tag = model_get_and_tell(hand, kind);
 
 	if (tag == TAGS_NO_TAG && kind == TAGS_RESERVED)
 		model_flush_and_tell(hand);

@@ -124,7 +124,7 @@ int32_t model_clear_mask(struct model *hand, uint32_t first, uint64_t mask)
 
 int32_t model_get_write(struct model *hand, uint64_t value)
 {
-	int32_t tag = model_get(hand);
+	int32_t tag = model_get_and_tell(hand, TAGS_ORDINARY);
 	uint64_t former;
 
 	if (tag >= 0)

@@ -135,7 +135,7 @@ static void sleep_on(int event)
 	struct pollfd look = { event, POLLIN, 0 };
 	uint64_t count;
 
-	CHECK(poll(&look, 1, 60000) == 1 && read(event, &count, sizeof(count)) == sizeof(count));
+	CHECK(poll(&look, 1, -1) == 1 && read(event, &count, sizeof(count)) == sizeof(count));
 }
 
 static int32_t wait_by_event(struct thread *self, uint32_t queue, bool by_function)

@@ -17,6 +17,7 @@
 #include <tags.h>
 
 #include "checks.h"
+#include "sleeps.h"
 
 static long rounds = 300;
 static struct tags_pool pool;
@@ -301,14 +302,14 @@ static void *sleep_in(void *it)
 	return (void *)(intptr_t)tags_next_blocking(it, 1);
 }
 
-static pthread_t start(struct tags_hand *sleeper, int32_t waiting)
+/* Returns once it sleeps as one of so many threads. */
+static pthread_t start(struct tags_hand *sleeper, uint32_t sleepers)
 {
 	pthread_t id;
 
 	CHECK(pthread_create(&id, NULL, sleep_in, sleeper) == 0);
-	while (tags_pool_waiting(&pool) != waiting)
-		nap(1000);
-	nap(50000);
+	await_asleep(sleepers);
+	CHECK(tags_pool_waiting(&pool) == (int32_t)sleepers);
 	return id;
 }
 

@@ -1,6 +1,7 @@
 // Queues of submitted tags: their order, with slots and values; whose a tag is before and after; each way to wait, and
 // what ends a wait; each refusal; and threads that hand requests over. (For the library see queues.c.) queues [ROUNDS]
 #include "check.hpp"
+#include "sleeps.h"
 
 #include <chrono>
 #include <cstdlib>
@@ -188,7 +189,7 @@ static void limits_in_time()
 	for (int i = 0; i < 3; i++) {
 		tags::hand submitter = pool.join(failure);
 		std::thread thread([&submitter] {
-			std::this_thread::sleep_for(5ms);
+			await_asleep(1);
 			std::error_code own;
 			tags::tag tag = *submitter.get_write(5, own);
 			tag.submit(own);
@@ -282,7 +283,7 @@ static void a_stop_ends_waits()
 	CHECK(!hands[2].next_notified(0, count_call, &calls, failure) && !failure);
 	std::thread blocked([&] { REFUSED(errc::stopped, hands[0].next_blocking(0, CODE)); });
 	std::thread timed([&] { REFUSED(errc::stopped, hands[1].try_next_for(0, 1h, CODE)); });
-	std::this_thread::sleep_for(20ms);
+	await_asleep(2);
 	pool.stop(failure);
 	blocked.join();
 	timed.join();

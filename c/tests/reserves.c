@@ -19,6 +19,7 @@
 #include <tags.h>
 
 #include "checks.h"
+#include "sleeps.h"
 
 enum { THREADS = 12 };
 
@@ -172,7 +173,7 @@ static void tell_by_shared_hands(void)
 	close_pool();
 }
 
-/* Whoever waits for a reserved tag keeps none; and one that is given back tells of those that its hand kept. */
+/* Whoever is to wait for a reserved tag gives back what it keeps; one that is given back tells of those its hand kept. */
 static void keep_nothing(void)
 {
 	int calls = 0, unused = 0;
@@ -188,6 +189,33 @@ static void keep_nothing(void)
 	CHECK(tags_get_notified(&hand, count_call, &calls) == TAGS_NO_TAG && calls == 1);
 	CHECK(tags_clear(&other, 0) == TAGS_OK && calls == 2 && unused == 0);
 	CHECK(tags_get_notified(&hand, count_call, &calls) == 1 && tags_clear(&hand, 1) == TAGS_OK);
+	close_for_three();
+}
+
+static uint64_t count_busy(void)
+{
+	uint64_t busy = 0;
+
+	return tags_pool_busy(&pool, &busy, 1) < 0 ? UINT64_MAX : busy;
+}
+
+/*
+ * Whoever waits for a reserved tag needs no ordinary one: hands keep what they clear meanwhile, also the hand that
+ * waits, until it flushes.
+ */
+static void keep_beside_a_wait(void)
+{
+	int calls = 0;
+
+	open_for_three(2, 1, 4);
+	CHECK(tags_get_reserved(&third) == 0);
+	CHECK(tags_get_reserved_notified(&other, count_call, &calls) == TAGS_NO_TAG);
+	CHECK(tags_get(&hand) == 1 && tags_clear(&hand, 1) == TAGS_OK && count_busy() == (1 << 0 | 1 << 1));
+	CHECK(tags_get_exactly(&other, 2) == 2 && tags_clear(&other, 2) == TAGS_OK && tags_get(&other) == 2);
+	CHECK(tags_clear(&other, 2) == TAGS_OK && count_busy() == (1 << 0 | 1 << 1 | 1 << 2));
+	CHECK(tags_flush(&other) == TAGS_OK && tags_flush(&hand) == TAGS_OK && count_busy() == 1);
+	CHECK(tags_clear(&third, 0) == TAGS_OK && calls == 1);
+	CHECK(tags_get_reserved_notified(&other, count_call, &calls) == 0 && tags_clear(&other, 0) == TAGS_OK);
 	close_for_three();
 }
 
@@ -254,9 +282,8 @@ static pthread_t start(struct tags_hand *sleeper)
 	pthread_t id;
 
 	CHECK(pthread_create(&id, NULL, sleep_for_reserved, sleeper) == 0);
-	while (tags_pool_waiting(&pool) != 1)
-		nap(1000);
-	nap(10000);
+	await_asleep(1);
+	CHECK(tags_pool_waiting(&pool) == 1);
 	return id;
 }
 
@@ -326,7 +353,7 @@ static int32_t wait_by_event(struct thread *self, bool by_function, bool reserve
 					 tags_get_async(&self->hand, self->event);
 		if (tag != TAGS_NO_TAG)
 			return tag;
-		CHECK(poll(&look, 1, 60000) == 1);
+		CHECK(poll(&look, 1, -1) == 1);
 		told(self->event);
 	}
 }
@@ -405,6 +432,7 @@ int main(int argc, char **argv)
 	pass_on(event);
 	tell_by_shared_hands();
 	keep_nothing();
+	keep_beside_a_wait();
 	wait_for_one_set(event);
 	end_by_deadline();
 	end_by_others();

@@ -11,9 +11,10 @@
 #include <stdio.h>
 #include <stdlib.h>
 #include <time.h>
-#include <unistd.h>
 
 #include "../tags.h"
+
+#include "sleeps.h"
 
 enum { THREADS = 12, TOTAL = 40, RESERVED = 4 };
 
@@ -78,13 +79,6 @@ static struct timespec after(clockid_t clock, long milliseconds)
 	time.tv_sec += time.tv_nsec / 1000000000;
 	time.tv_nsec %= 1000000000;
 	return time;
-}
-
-/* Until so many wait in the pool. */
-static void await_waiters(int32_t count)
-{
-	while (tags_pool_waiting(&pool) != count)
-		usleep(100);
 }
 
 /*
@@ -355,7 +349,8 @@ static void stop_all(pthread_t *threads)
 
 	for (int i = 0; i < THREADS; i++)
 		start(&threads[i], wait_once, &stopped);
-	await_waiters(1);
+	await_asleep(THREADS);
+	WANT(tags_pool_waiting(&pool), 1);
 	WANT(tags_stop(&pool), TAGS_OK);
 	WANT(tags_hands_get_blocking(&hands), TAGS_STOPPED);
 	join_all(threads, THREADS);
@@ -367,8 +362,8 @@ static void stop_and_resume(pthread_t *threads)
 {
 	for (int i = 0; i < THREADS; i++)
 		start(&threads[i], wait_once, NULL);
-	usleep(1000);
-	await_waiters(1);
+	await_asleep(THREADS);
+	WANT(tags_pool_waiting(&pool), 1);
 	WANT(tags_stop(&pool), TAGS_OK);
 	WANT(tags_resume(&pool), TAGS_OK);
 	WANT(tags_hands_clear(&hands, 0), TAGS_OK);
@@ -389,7 +384,8 @@ static void end_waits(void)
 	stop_and_resume(threads);
 	for (int i = 0; i < THREADS; i++)
 		start(&threads[i], wait_once, &zero);
-	await_waiters(1);
+	await_asleep(THREADS);
+	WANT(tags_pool_waiting(&pool), 1);
 	for (int i = 0; i < THREADS / 2; i++)
 		WANT(pthread_cancel(threads[i]), 0);
 	for (int i = 0; i < THREADS / 2; i++)

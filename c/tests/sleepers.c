@@ -11,6 +11,7 @@
 #include <stdbool.h>
 #include <stdio.h>
 #include <stdlib.h>
+#include <time.h>
 
 #include "../tags.h"
 
@@ -139,11 +140,14 @@ static long called;
 static long near;
 static long answered;
 
+/* It looks without a rest, so that the two threads meet, unless the other one waits for a processor. */
 static void wait_for(const long *word, long round)
 {
+	const struct timespec rest = { 0, 20000 };
+
 	for (int looks = 1; __atomic_load_n(word, __ATOMIC_SEQ_CST) != round; looks++)
 		if (looks % 1000 == 0)
-			sched_yield();
+			nanosleep(&rest, NULL);
 }
 
 static void linger(long turns)

@@ -18,6 +18,7 @@
 #include <tags.h>
 
 #include "checks.h"
+#include "sleeps.h"
 
 enum wait {
 	BLOCKING,
@@ -47,7 +48,7 @@ static void sleep_on(int event)
 {
 	struct pollfd look = { event, POLLIN, 0 };
 
-	CHECK(poll(&look, 1, 60000) == 1);
+	CHECK(poll(&look, 1, -1) == 1);
 }
 
 /* No write() and read() of this program order anything. */
@@ -170,7 +171,17 @@ static void stop_by_signal(void)
 	pthread_join(id, NULL);
 }
 
-/* The stop comes while all wait, or while they begin to. */
+/* Six threads sleep for tags, two for a hand, and all but these two wait for tags. */
+static void await_all(void)
+{
+	await_asleep(8);
+	while (tags_pool_waiting(&pool) != JOIN)
+		nap(100);
+}
+
+/* The stop comes so long after they began to wait, or while all wait. */
+enum { ALL_WAIT = -1 };
+
 static void stop_all(long us, void (*stop)(void))
 {
 	enum wait hows[WAITS];
@@ -181,7 +192,10 @@ static void stop_all(long us, void (*stop)(void))
 		hows[i] = (enum wait)i;
 		CHECK(pthread_create(&ids[i], NULL, run, &hows[i]) == 0);
 	}
-	nap(us);
+	if (us == ALL_WAIT)
+		await_all();
+	else
+		nap(us);
 	stop();
 	for (int i = 0; i < WAITS; i++)
 		pthread_join(ids[i], NULL);
@@ -195,10 +209,10 @@ int main(int argc, char **argv)
 	sigemptyset(&signals);
 	sigaddset(&signals, SIGINT);
 	pthread_sigmask(SIG_BLOCK, &signals, NULL);
-	stop_all(50000, stop_now);
+	stop_all(ALL_WAIT, stop_now);
 	for (long round = 0; round < rounds; round++)
 		stop_all(round % 7 * 20, stop_now);
-	stop_all(20000, stop_by_signal);
+	stop_all(ALL_WAIT, stop_by_signal);
 	printf("%" PRIu64 " wrong\n", wrong);
 	return wrong != 0;
 }

@@ -1,6 +1,6 @@
 /*
  * Cancels, stops, leaves and resizes at random, among threads that wait in each way: no tag
- * has two holders, nobody waits for long, and the sums balance. storms [SECONDS [SEED]]
+ * has two holders, nobody waits for ever, and the sums balance. storms [SECONDS [SEED]]
  *
  * A round opens a pool, starts threads, cancels some of them in their sleep, each of which
  * a new thread follows on the same hand, and stops the pool.
@@ -22,7 +22,7 @@
 
 #include "../tags.h"
 
-enum { MOST = 8, TOTAL = 4, PATIENCE = 20 };
+enum { MOST = 8, TOTAL = 4, AN_HOUR = 3600 };
 
 struct worker {
 	pthread_t id;
@@ -81,7 +81,7 @@ static int32_t sleep_for_tag(struct worker *self)
 	const int clock = draw(&self->state, 2) ? CLOCK_REALTIME : CLOCK_MONOTONIC;
 	const bool is_short = draw(&self->state, 3) == 0;
 	const struct timespec end = after(clock, is_short ? (long)draw(&self->state, 300) :
-							    PATIENCE * 1000000L);
+							    AN_HOUR * 1000000L);
 	const bool is_timed = is_short || draw(&self->state, 2);
 	int32_t tag;
 	int was;
@@ -91,7 +91,7 @@ static int32_t sleep_for_tag(struct worker *self)
 		pthread_testcancel();
 	tag = is_timed ? tags_get_timed(&self->hand, clock, &end) : tags_get_blocking(&self->hand);
 	pthread_setcancelstate(was, &was);
-	want(is_short || tag != TAGS_TIMED_OUT, "a thread sleeps for long", tag);
+	want(is_short || tag != TAGS_TIMED_OUT, "a thread sleeps for an hour", tag);
 	return tag;
 }
 
@@ -103,15 +103,13 @@ static int32_t sleep_for_tag(struct worker *self)
 static void await_event(struct worker *self)
 {
 	struct pollfd look = { self->event, POLLIN, 0 };
-	/* the kernel leaves here how much of the time is left */
-	struct timespec most = { PATIENCE, 0 };
 	uint64_t unused;
 	long told;
 
 	do
-		told = syscall(SYS_ppoll, &look, 1, &most, NULL, 0);
+		told = syscall(SYS_ppoll, &look, 1, NULL, NULL, 0);
 	while (told < 0 && errno == EINTR);
-	want(told == 1, "a loop sleeps for long", told);
+	want(told == 1, "a poll", told);
 	want(syscall(SYS_read, self->event, &unused, sizeof(unused)) > 0, "an eventfd", 0);
 }
 

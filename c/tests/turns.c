@@ -1,8 +1,7 @@
 /*
  * Who waits at a gate is woken in turn, and only if there is something for it: a hand that leaves
  * wakes one thread, the one that has waited longest, and drains, of all tags and of a list, leave
- * those in peace who get and clear tags. Whether a thread was woken shows by how often it has given up the processor.
- * turns [PAIRS]
+ * those in peace who get and clear tags. turns [PAIRS]
  */
 #define _GNU_SOURCE
 #include <inttypes.h>
@@ -11,20 +10,17 @@
 #include <stdio.h>
 #include <stdlib.h>
 #include <string.h>
-#include <sys/syscall.h>
 #include <time.h>
-#include <unistd.h>
 
 #include <tags.h>
 
 #include "checks.h"
+#include "sleeps.h"
 
 enum { SLEEPERS = 6, HANDS = 3, WORKERS = 2, POOLS = 40, DRAINS = 3 };
 
 struct sleeper {
 	pthread_t id;
-	/* 0 until it runs */
-	long task;
 	bool is_timed;
 	/* the place in which it got its hand, from 1 on; 0 until then */
 	int place;
@@ -46,53 +42,6 @@ static double now(void)
 
 	clock_gettime(CLOCK_MONOTONIC, &time);
 	return (double)time.tv_sec + (double)time.tv_nsec / 1e9;
-}
-
-/* Copies what /proc says of a thread after a name, up to the end of the line. Returns whether it says anything. */
-static bool read_status(long task, const char *name, char *found, size_t room)
-{
-	char path[64], line[256];
-	bool is_there = false;
-	FILE *file;
-
-	snprintf(path, sizeof(path), "/proc/self/task/%ld/status", task);
-	file = fopen(path, "r");
-	while (file && !is_there && fgets(line, sizeof(line), file)) {
-		is_there = strncmp(line, name, strlen(name)) == 0;
-		if (is_there)
-			snprintf(found, room, "%s", line + strlen(name));
-	}
-	if (file)
-		fclose(file);
-	return is_there;
-}
-
-/* How often a thread has given up the processor. */
-static long switches_of(long task)
-{
-	char found[64];
-
-	return read_status(task, "voluntary_ctxt_switches:", found, sizeof(found)) ? strtol(found, NULL, 10) : -1;
-}
-
-static bool is_asleep(long task)
-{
-	char found[64];
-
-	return read_status(task, "State:", found, sizeof(found)) && found[strspn(found, " \t")] == 'S';
-}
-
-/* Until a thread has slept for a while. One that is only kept from the processor doesn't sleep. */
-static void await_sleep(const long *task)
-{
-	long before;
-
-	while (LOAD(task) == 0)
-		nap(1000);
-	do {
-		before = switches_of(LOAD(task));
-		nap(20000);
-	} while (switches_of(LOAD(task)) != before || !is_asleep(LOAD(task)));
 }
 
 static void open_pool(uint32_t n)
@@ -120,7 +69,6 @@ static void *join_and_leave(void *argument)
 
 	clock_gettime(CLOCK_MONOTONIC, &end);
 	end.tv_sec += 600;
-	STORE(&self->task, syscall(SYS_gettid));
 	if (self->is_timed)
 		CHECK(tags_join_timed(&pool, &self->hand, 0, CLOCK_MONOTONIC, &end) == TAGS_OK);
 	else
@@ -132,13 +80,21 @@ static void *join_and_leave(void *argument)
 	return NULL;
 }
 
-/* Waits until a sleeper has its hand, or as many others as come before it have theirs. Returns whether it has. */
-static bool await_hand(const struct sleeper *sleeper, int most)
+static int count_placed(const struct sleeper *sleepers)
 {
-	while (LOAD(&sleeper->place) == 0 && LOAD(&places) < most)
-		nap(1000);
-	nap(5000);
-	return LOAD(&sleeper->place) != 0;
+	int n = 0;
+
+	for (int i = 0; i < SLEEPERS; i++)
+		n += LOAD(&sleepers[i].place) != 0;
+	return n;
+}
+
+/* Waits until this sleeper has its hand, or as many have theirs as may before it. Returns its place, or 0. */
+static int await_hand(const struct sleeper *sleepers, int which, int most)
+{
+	while (LOAD(&sleepers[which].place) == 0 && count_placed(sleepers) < most)
+		nap(100);
+	return LOAD(&sleepers[which].place);
 }
 
 /* All hands are out, and the sleepers begin to wait one after another. */
@@ -152,7 +108,7 @@ static void begin(struct sleeper *sleepers)
 	for (int i = 0; i < SLEEPERS; i++) {
 		sleepers[i].is_timed = i % 2;
 		CHECK(pthread_create(&sleepers[i].id, NULL, join_and_leave, &sleepers[i]) == 0);
-		await_sleep(&sleepers[i].task);
+		await_asleep((uint32_t)i + 1);
 	}
 }
 
@@ -169,19 +125,17 @@ static void end(struct sleeper *sleepers)
 static void wake_one_for_each_hand(void)
 {
 	struct sleeper sleepers[SLEEPERS];
-	long before[SLEEPERS];
+	uint32_t before;
 
 	begin(sleepers);
-	for (int i = 0; i < SLEEPERS; i++)
-		before[i] = switches_of(sleepers[i].task);
+	before = LOAD(&woken);
 	for (int first = 0; first < SLEEPERS; first++) {
 		if (first < HANDS)
 			CHECK(tags_leave(&hands[first]) == TAGS_OK);
 		else
 			STORE(&sleepers[first - HANDS].may_leave, true);
-		CHECK(await_hand(&sleepers[first], first + 1) && sleepers[first].place == first + 1);
-		for (int i = first + 1; i < SLEEPERS; i++)
-			CHECK(switches_of(sleepers[i].task) == before[i]);
+		CHECK(await_hand(sleepers, first, first + 1) == first + 1);
+		CHECK(LOAD(&woken) == before + (uint32_t)first + 1);
 	}
 	end(sleepers);
 }
@@ -193,11 +147,13 @@ static void keep_turns(void)
 
 	begin(sleepers);
 	for (int round = 0; round < 20; round++) {
+		const uint32_t before = LOAD(&sleeps);
+
 		CHECK(tags_leave(&hands[0]) == TAGS_OK);
 		if (tags_join(&pool, &hands[0], 0) != TAGS_OK)
 			break;
-		/* while it has not looked yet, the next hand that leaves would wake the second one */
-		await_sleep(&sleepers[0].task);
+		/* while the first one has not looked yet, the next hand that leaves would wake the second one */
+		await_sleeps(before + 1);
 	}
 	for (int i = 0; i < HANDS; i++)
 		if (hands[i].full)
@@ -205,7 +161,7 @@ static void keep_turns(void)
 	for (int i = 0; i < SLEEPERS; i++) {
 		const int most = i / HANDS * HANDS + HANDS;
 
-		CHECK(await_hand(&sleepers[i], most) && sleepers[i].place <= most);
+		CHECK(await_hand(sleepers, i, most) > 0 && sleepers[i].place <= most);
 		if (i % HANDS == HANDS - 1)
 			for (int k = i + 1 - HANDS; k <= i; k++)
 				STORE(&sleepers[k].may_leave, true);
@@ -239,7 +195,7 @@ static void wake_those_of_each_pool(void)
 		CHECK(tags_join(&many[i].pool, &many[i].hand, 0) == TAGS_OK);
 		CHECK(pthread_create(&many[i].id, NULL, join_one, &many[i].pool) == 0);
 	}
-	nap(20000);
+	await_asleep(POOLS);
 	for (int i = POOLS - 1; i >= 0; i--) {
 		CHECK(tags_leave(&many[i].hand) == TAGS_OK);
 		pthread_join(many[i].id, NULL);
@@ -251,19 +207,20 @@ static void wake_those_of_each_pool(void)
  * Drains
  */
 
-static void *drain(void *task)
+/* Notes how often it slept. */
+static void *drain(void *slept)
 {
-	STORE((long *)task, syscall(SYS_gettid));
 	CHECK(tags_drain(&pool) == TAGS_OK);
+	*(uint32_t *)slept = own_sleeps;
 	return NULL;
 }
 
 static uint32_t listed;
 
-static void *drain_list(void *task)
+static void *drain_list(void *slept)
 {
-	STORE((long *)task, syscall(SYS_gettid));
 	CHECK(tags_drain_list(&pool, &listed, 1) == TAGS_OK);
+	*(uint32_t *)slept = own_sleeps;
 	return NULL;
 }
 
@@ -285,32 +242,31 @@ static void *use_tags(void *unused)
 /* The first drain and that of a list look now and then, and the second one when the first has ended. */
 static void drain_in_peace(void)
 {
-	void *(*const ways[DRAINS])(void *task) = { drain, drain, drain_list };
+	void *(*const ways[DRAINS])(void *slept) = { drain, drain, drain_list };
 	pthread_t drains[DRAINS], workers[WORKERS];
-	long tasks[DRAINS] = { 0 }, before[DRAINS];
+	uint32_t slept[DRAINS];
 	double start;
 
 	open_pool(WORKERS + 1);
 	CHECK(tags_join(&pool, &hands[0], 0) == TAGS_OK);
 	listed = (uint32_t)TAGS_MUST(tags_get(&hands[0]));
 	for (int i = 0; i < DRAINS; i++) {
-		CHECK(pthread_create(&drains[i], NULL, ways[i], &tasks[i]) == 0);
-		await_sleep(&tasks[i]);
-		before[i] = switches_of(tasks[i]);
+		CHECK(pthread_create(&drains[i], NULL, ways[i], &slept[i]) == 0);
+		await_asleep((uint32_t)i + 1);
 	}
 	start = now();
 	for (int i = 0; i < WORKERS; i++)
 		CHECK(pthread_create(&workers[i], NULL, use_tags, NULL) == 0);
 	for (int i = 0; i < WORKERS; i++)
 		pthread_join(workers[i], NULL);
-	nap(5000);
-	for (int i = 0; i < DRAINS; i += 2)
-		CHECK((double)(switches_of(tasks[i]) - before[i]) < 100 + 4000 * (now() - start));
-	CHECK(switches_of(tasks[1]) == before[1]);
 	CHECK(tags_pool_waiting(&pool) == DRAINS);
 	TAGS_MUST(tags_clear(&hands[0], listed));
 	for (int i = 0; i < DRAINS; i++)
 		pthread_join(drains[i], NULL);
+	/* the longer it took, the more often they may have looked */
+	for (int i = 0; i < DRAINS; i += 2)
+		CHECK(slept[i] < 100 + 2000 * (now() - start));
+	CHECK(slept[1] == 1);
 	CHECK(tags_pool_waiting(&pool) == 0);
 	CHECK(tags_leave(&hands[0]) == TAGS_OK);
 	close_pool();

@@ -4,6 +4,7 @@
  * model of fuzz.c has no part in them.
  */
 #include <stdio.h>
+#include <time.h>
 
 #include "../tags.h"
 
@@ -283,6 +284,145 @@ static void go_round(void)
 	WANT(tags_close(&pool, &sums), TAGS_OK);
 }
 
+/* The forms of a get by a hand of its own, which find a tag of this set. */
+static int32_t get_by_form(struct tags_hand *hand, int form)
+{
+	const struct timespec past = { 0, 0 };
+	uint64_t value = 0;
+	uint32_t tags[2];
+	int32_t status;
+
+	switch (form) {
+	case 0:
+		return tags_get(hand);
+	case 1:
+		return tags_get_write(hand, 5);
+	case 2:
+		return tags_get_blocking(hand);
+	case 3:
+		return tags_get_timed(hand, CLOCK_MONOTONIC, &past);
+	case 4:
+		return tags_get_async(hand, 0);
+	case 5:
+		return tags_get_notified(hand, count_call, &value);
+	case 6:
+		return tags_get_shallow(hand, 3);
+	case 7:
+		status = tags_get_many(hand, tags, 1);
+		return status == TAGS_OK ? (int32_t)tags[0] : status;
+	case 8:
+		return tags_get_reserved(hand);
+	case 9:
+		return tags_get_reserved_blocking(hand);
+	case 10:
+		return tags_get_reserved_timed(hand, CLOCK_MONOTONIC, &past);
+	case 11:
+		return tags_get_reserved_async(hand, 0);
+	default:
+		return tags_get_reserved_notified(hand, count_call, &value);
+	}
+}
+
+enum { FORMS = 13, FIRST_RESERVED_FORM = 8 };
+
+/* Three reserved tags, then three ordinary ones, in words of two. */
+static const struct tags_options two_of_three = {
+	.total = 6,
+	.reserved = 3,
+	.shift = 1,
+	.hands = 1,
+	.flags = TAGS_ROUND_ROBIN,
+};
+
+/* All tags are held but the first of each set, which the hand won last and gave back: the next get starts after it. */
+static void hold_all_but_the_first(struct tags_hand *hand)
+{
+	for (int32_t tag = 0; tag < 3; tag++) {
+		WANT(tags_get_reserved(hand), tag);
+		WANT(tags_get(hand), tag + 3);
+	}
+	for (int i = 0; i < 2; i++) {
+		WANT(tags_clear(hand, 0), TAGS_OK);
+		WANT(tags_clear(hand, 3), TAGS_OK);
+		if (i == 0) {
+			WANT(tags_get_reserved(hand), 0);
+			WANT(tags_get(hand), 3);
+		}
+	}
+}
+
+/* No get by one hand alone answers that there is no tag beside a free one. */
+static void find_what_is_before_the_start(void)
+{
+	for (int form = 0; form < FORMS; form++) {
+		const int32_t tag = form < FIRST_RESERVED_FORM ? 3 : 0;
+		struct tags_pool pool = TAGS_EMPTY;
+		struct tags_hand hand = TAGS_EMPTY;
+		struct tags_sums sums;
+
+		WANT(tags_open(&pool, &two_of_three), TAGS_OK);
+		WANT(tags_join(&pool, &hand, TAGS_STAY), TAGS_OK);
+		hold_all_but_the_first(&hand);
+		WANT(get_by_form(&hand, form), tag);
+		WANT(tags_get(&hand), tag == 3 ? TAGS_NO_TAG : 3);
+		WANT(tags_leave(&hand), TAGS_OK);
+		WANT(tags_close(&pool, &sums), TAGS_OK);
+	}
+}
+
+/* The same of shared hands, by which a tag is held only once it was got through them. */
+static void find_it_by_shared_hands(void)
+{
+	struct tags_pool pool = TAGS_EMPTY;
+	struct tags_hands hands = TAGS_EMPTY;
+	struct tags_sums sums;
+
+	WANT(tags_open(&pool, &two_of_three), TAGS_OK);
+	WANT(tags_hands_open(&pool, &hands, 1), TAGS_OK);
+	for (int32_t tag = 0; tag < 3; tag++) {
+		WANT(tags_hands_get_reserved(&hands), tag);
+		WANT(tags_hands_get(&hands), tag + 3);
+	}
+	for (uint32_t tag = 0; tag <= 3; tag += 3)
+		WANT(tags_hands_clear(&hands, tag), TAGS_OK);
+	WANT(tags_hands_get_reserved(&hands), 0);
+	WANT(tags_hands_get(&hands), 3);
+	for (uint32_t tag = 0; tag <= 3; tag += 3)
+		WANT(tags_hands_clear(&hands, tag), TAGS_OK);
+	WANT(tags_hands_get_reserved(&hands), 0);
+	WANT(tags_hands_get(&hands), 3);
+	for (uint32_t tag = 0; tag < 6; tag++)
+		WANT(tags_hands_clear(&hands, tag), TAGS_OK);
+	WANT(tags_hands_close(&hands), TAGS_OK);
+	WANT(tags_close(&pool, &sums), TAGS_OK);
+}
+
+/* Several tags at once, some of which are set aside before the start of the search: all, or none of them. */
+static void find_many_before_the_start(void)
+{
+	struct tags_options options = two_of_three;
+	struct tags_pool pool = TAGS_EMPTY;
+	struct tags_hand hand = TAGS_EMPTY;
+	struct tags_sums sums;
+	uint32_t tags[9];
+
+	options.total = 3 + 8;
+	options.shift = 2;
+	WANT(tags_open(&pool, &options), TAGS_OK);
+	WANT(tags_join(&pool, &hand, TAGS_STAY), TAGS_OK);
+	WANT(tags_get_many(&hand, tags, 8), TAGS_OK);
+	WANT(tags_clear(&hand, 4), TAGS_OK);
+	WANT(tags_get(&hand), 4);
+	for (uint32_t tag = 3; tag < 6; tag++)
+		WANT(tags_clear(&hand, tag), TAGS_OK);
+	WANT(tags_get_many(&hand, tags, 4), TAGS_NO_TAG);
+	WANT(tags_get_many(&hand, tags, 3), TAGS_OK);
+	WANT(tags[0] + tags[1] + tags[2], 3 + 4 + 5);
+	WANT(tags_leave(&hand), TAGS_OK);
+	WANT(tags_close(&pool, &sums), TAGS_OK);
+	WANT(sums.held, 8);
+}
+
 /* Ten ordinary tags in words of four from tag 2, of which the hand keeps two. */
 static void keep_some(void)
 {
@@ -374,6 +514,9 @@ int main(void)
 	choose_words_by_hands();
 	keep_words();
 	go_round();
+	find_what_is_before_the_start();
+	find_it_by_shared_hands();
+	find_many_before_the_start();
 	keep_some();
 	printf("%d answers, %d wrong\n", checks, wrong);
 	return wrong != 0;

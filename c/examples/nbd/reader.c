@@ -1,6 +1,7 @@
 /*
  * reader.c - the thread of a connection: it shakes hands, and then reads one request
- * after another, gets a tag for each, and submits it to the workers.
+ * after another, gets a tag for each, and submits it to the workers. Where flushes have all reserved
+ * tags, a flush waits for one of them alone, so at most as many workers are in a flush as there are.
  */
 #include "server.h"
 

@@ -169,13 +169,13 @@ static bool has_notice(const struct tags_place *place)
 
 /*
  * Whether a hand is listed for the set that it waits for, where the library is not the model, which tells that of ordinary
- * tags alone. For a reserved one it is listed if it waits and was not told: whoever tells a listener takes its notice, and
- * a token that it has beside that is left over.
+ * tags alone. For a reserved one it is listed if it waits and was not told. Whoever tells a listener takes its notice, so
+ * one without a notice was told, unless its thread sleeps; a token beside a notice is left over.
  */
 static bool is_in_berth(struct tags_hand *hand, const struct tags_place *place)
 {
 	if (place->kind == TAGS_RESERVED)
-		return place->is_waiting && (has_notice(place) || !place->is_woken);
+		return place->is_waiting && (has_notice(place) || (place->bed && !place->is_woken));
 	return tags_library_is_told(hand, 0) == 0;
 }
 
@@ -319,14 +319,10 @@ static void check_none_coming(const struct tags_pool *in, uint32_t kind)
 		fault("%u sleepers were told, and nobody is on the way", count_coming(in, kind));
 }
 
-/* Beside caches: those who wait for a reserved tag, and for tags to be back, are watchers as long as they wait. */
+/* Beside caches those who wait for tags to be back are watchers as long as they wait. */
 static uint32_t count_beside_caches(uint32_t drains, uint32_t lists)
 {
-	uint32_t n = drains + lists;
-
-	for (uint32_t i = 0; i < bell->hands; i++)
-		n += bell->places[i].is_waiting && bell->places[i].kind == TAGS_RESERVED;
-	return bell->is_cached ? n : 0;
+	return bell->is_cached ? drains + lists : 0;
 }
 
 void check_quiet_bell(uint32_t asleep, uint32_t drains, uint32_t lists)

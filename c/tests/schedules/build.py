@@ -20,14 +20,14 @@ MODEL, TRUE = KINDS = ["model", "true"]
 # The engine, and the kernel as the explored code sees it.
 ENGINE = "threads memory states seen steps search wander trace main kernel calls accesses".split()
 # What threads run, and so is explored; and what looks at it from outside.
-PROGRAMS = "stage gets loops behind futures slots submits nexts reserves lives gated shares noted".split()
+PROGRAMS = "stage gets loops behind futures slots submits nexts reserves lives gated shares noted nests".split()
 RULES = "rules bell_rules scenarios".split()
 # Of the library's own files: the exports, which the explored code has inline; the memory, which is no step; and handles that one thread
 # alone uses.
 EXPORTS, HEAP, OWN = "symbols", "heap", "own_hands"
 
 # The variables of the library's C files, which are part of a state; and one that only the thread sanitizer's runtime would use.
-VARIABLES, UNUSED = "gates locks".split(), "tags_library_order"
+VARIABLES, UNUSED = "gates locks key has_key".split(), "tags_library_order"
 VARIABLE = re.compile(r" O \.(?:bss|data(?!\.rel\.ro)).* (\S+)$", re.M)
 
 # Frame pointers and fixed addresses are for traces. Nothing is put on a stack that differs from run to run.

@@ -21,7 +21,7 @@ import build
 import mutants
 
 # These take long with each access as a step.
-TOO_LARGE_FOR_RACES = """reserved_timed reserved_crosses reserved_kept reserved_clears three_of_two hider_two mixed_of_two loops_of_two loops_three loops_broken_of_two shallow_pairs
+TOO_LARGE_FOR_RACES = """nests_three crosses_three reserved_timed reserved_crosses reserved_kept reserved_clears three_of_two hider_two mixed_of_two loops_of_two loops_three loops_broken_of_two shallow_pairs
     tasks_of_two hider_tasks timed_out owes shares_of_two shares_stop shared shared_two shared_timed shared_stop
     shared_turns shared_wakes shared_ends shared_swept lists_swept lists_differ lists_kept notes_kept
     queued_sleeps queued_stop queued_resume queued_stop_event queued_timed queued_events queued_calls queued_leaves queued_past_sleeper""".split()
@@ -29,11 +29,11 @@ TOO_LARGE_FOR_RACES = """reserved_timed reserved_crosses reserved_kept reserved_
 SMALL_FOR_TRUE = """reserved lists_reserved resized reserved_tells reserved_steps reserved_stop reserved_gives_kept reserved_shared
     sleepers signals heir words calls stop stop_listeners stop_timed stop_joins loop loops hider hider_loop hidden timed resizes closes
     resizes_reported closes_reported hires hires_timed hires_stop hires_two hires_grabbed hires_stop_two reopens drains drains_kept drains_stop lists lists_again
-    drains_kept_sleeps lists_beside_drain masks_kept masks_kept_while shared_drained shared_listed notes notes_again notes_twice notes_shared notes_resized notes_closed shares_drop shares_stop_drop shared_lock shared_kept shared_calls
+    nests crosses drains_kept_sleeps lists_beside_drain masks_kept masks_kept_while shared_drained shared_listed notes notes_again notes_twice notes_shared notes_resized notes_closed shares_drop shares_stop_drop shared_lock shared_kept shared_calls
     queued queued_order queued_laps queued_past queued_posts queued_relay queued_all queued_or_free queued_kept queued_keeps queued_past_kept queued_closes queued_resized""".split()
 # Of those that need it, these have races looked for as well.
 RACES_FOR_TRUE = "queued queued_past queued_closes posts masks reserved robin batches resizes hires hires_two reopens drains_stop lists_again notes_posted notes_resized plus_owners plus_joins plus_stop plus_resume plus_waits plus_loop plus_quits".split()
-TRUE_IN_GATE = "queued queued_past queued_closes stop hidden loops calls posts masks masks_kept_while reserved reserved_stop reserved_shared robin batches resizes resizes_reported hires hires_two reopens drains_stop lists_again notes_twice notes_posted shared_passes plus_owners plus_joins plus_stop".split()
+TRUE_IN_GATE = "nests queued queued_past queued_closes stop hidden loops calls posts masks masks_kept_while reserved reserved_stop reserved_shared robin batches resizes resizes_reported hires hires_two reopens drains_stop lists_again notes_twice notes_posted shared_passes plus_owners plus_joins plus_stop".split()
 # Large, but complete. The others are too large for that, and one of them for two preemptions.
 COMPLETE = "kept_posts kept_three four_sleepers four_loops".split()
 ONE_PREEMPTION = ["four_ways"]
@@ -45,7 +45,7 @@ IN_GATE = """clear_looks_first clear_looks_for_no_watchers sleeper_is_not_signal
     kept_tags_go_back_for_no_drain leave_tells_nobody_at_the_gate clear_tells_no_drain cancelled_wait_stays_at_its_gate
     told_one_that_gives_up_tells_nobody second_hand_tells_the_first_again close_answers_nobody drain_that_ends_tells_no_other
     clear_looks_through_lists_before_the_lock round_looks_through_no_list destroyed_coroutine_leaves_its_hand_listed
-    function_outlives_the_wait dropped_future_leaves_its_hand_told resumed_stop_ends_no_wait lock_is_freed_and_wakes_nobody
+    function_outlives_the_wait functions_nest function_waits_for_another dropped_future_leaves_its_hand_told resumed_stop_ends_no_wait lock_is_freed_and_wakes_nobody
     shared_call_wakes_with_the_lock turn_is_given_up_and_nobody_told kept_tags_of_shared_hands_stay note_outlives_its_use
     note_ends_after_the_clear note_is_read_once whom_nobody_told_is_woken reserved_get_wakes_nobody told_sleepers_of_both_sets_are_enough
     hand_waits_in_two_sets hand_keeps_while_it_waits_for_a_reserved_tag submit_frees_its_token_before_the_push

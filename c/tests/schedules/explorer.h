@@ -56,6 +56,8 @@ struct thread {
 	uintptr_t address;
 	uintptr_t pc;
 	struct cleanup *cleanups;
+	/* what it has set for the one key of the library's */
+	const void *own;
 	/* its errno */
 	int error;
 	uint8_t size;
@@ -146,6 +148,9 @@ struct notes {
 	uint32_t closes;
 	/* a thread has closed the pool */
 	bool is_closed;
+	/* the threads that run a function of nests.c, and the hands whose function runs, as masks */
+	uint8_t in_function;
+	uint8_t runs;
 };
 
 struct world {

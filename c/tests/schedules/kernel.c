@@ -38,6 +38,37 @@ int kernel_yield(void)
 }
 
 /*
+ * The value of the one key, by thread
+ */
+
+static const void *value_outside;
+
+int kernel_key_create(pthread_key_t *key, void (*end)(void *value))
+{
+	(void)end;
+	*key = 0;
+	return 0;
+}
+
+static const void **own_value(void)
+{
+	return current < 0 ? &value_outside : &self()->own;
+}
+
+void *kernel_getspecific(pthread_key_t key)
+{
+	(void)key;
+	return (void *)(uintptr_t)*own_value();
+}
+
+int kernel_setspecific(pthread_key_t key, const void *value)
+{
+	(void)key;
+	*own_value() = value;
+	return 0;
+}
+
+/*
  * Memory
  */
 

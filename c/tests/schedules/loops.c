@@ -176,6 +176,8 @@ static void note_call(void *argument)
 		pause_before(OP_EVENT_WRITE, event, sizeof(*event), 1, PC);
 		if (!event->is_open)
 			fault("a function runs after the wait has ended");
+		if (use == 0 && event->count > 0)
+			fault("a function is called twice");
 		tell_step("the function notes a call");
 		event->count += use == 0;
 	}

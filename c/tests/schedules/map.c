@@ -39,7 +39,7 @@
 
 #include <string.h>
 
-enum { WORDS = 4, HANDS = MAX_THREADS + 1, SLOTS = 4 };
+enum { WORDS = 4, HANDS = 2 * MAX_THREADS - 1, SLOTS = 4 };
 
 /* A hand's berth: where it stands in bits 0 and 1, as which waiter in bit 2, and with which turn above. */
 enum standing { UP, LISTED, TOLD };

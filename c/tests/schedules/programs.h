@@ -45,6 +45,14 @@ void stop_futures(void);
 /* How many futures wait behind the thread's hand. */
 uint32_t futures_behind(uint32_t thread);
 
+/* nests.c: functions that make calls */
+void nester(int me);
+void mutual(int me);
+void outside_canceller(int me);
+/* Whether each thread has a second hand, which waits by such a function; and lets them wait. */
+bool nests(uint32_t thread);
+void make_nests(void);
+
 /* slots.c: posts, slots and reserved tags */
 void poster(int me);
 void keeper(int me);

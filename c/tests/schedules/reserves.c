@@ -164,7 +164,7 @@ void keeping_reserver(int me)
 	}
 }
 
-/* Gives an ordinary tag back while it waits for a reserved one by an eventfd. */
+/* Gives an ordinary tag back while it waits for a reserved one by an eventfd, and keeps it until it goes idle. */
 void reserved_giver(int me)
 {
 	const int32_t other = CALL(tags_get(hands[me]));
@@ -178,6 +178,7 @@ void reserved_giver(int me)
 	if (other >= 0)
 		clear_tag(me, other);
 	while (tag == TAGS_NO_TAG) {
+		EXPECT(TAGS_OK, tags_flush(hands[me]));
 		wait_event(me);
 		tag = CALL(tags_get_reserved_async(hands[me], me));
 	}

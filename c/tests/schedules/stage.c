@@ -69,7 +69,7 @@ static void join_all(void)
 		hands[i] = take_own(sizeof(*hands[i]));
 		if (i < count_hands())
 			EXPECT(TAGS_OK, tags_join(pool, hands[i], TAGS_STAY));
-		if (i < world->threads && hires(i))
+		if (i < world->threads && (hires(i) || nests(i)))
 			second_hands[i] = take_own(sizeof(*second_hands[i]));
 	}
 }
@@ -105,6 +105,7 @@ void set_up(void)
 		take_some();
 	}
 	make_futures();
+	make_nests();
 }
 
 /* In C++ the pool goes with its last owner. */
@@ -214,4 +215,12 @@ void wait_event(int event)
 	pause_before(OP_POLL, &world->event[event], sizeof(struct event), 1, PC);
 	tell_step("reads eventfd %d", event);
 	world->event[event].count = 0;
+}
+
+/* No thread has a handle of the library's own: own_hands.c is not explored. */
+void tags_library_flush_own(const struct tags_pool *unused);
+
+void tags_library_flush_own(const struct tags_pool *unused)
+{
+	(void)unused;
 }
