@@ -7,7 +7,7 @@ from bodies import (
 )
 from items import File
 from paths import exported, imports_of, mapped, used_imports
-from scan import Unknown, closing, code, parts, scan, text_of
+from scan import Token, Unknown, closing, code, parts, scan, text_of
 
 PROOF_DERIVES = ("Drop", "Error")
 
@@ -123,6 +123,15 @@ def attributes(lead):
     return kept
 
 
+def in_each_unit(lead):
+    """What stands before a function of the library, so that each unit of a program that calls it has a copy: rustc has a call of
+    another unit go through a pointer. What `inline(never)` keeps out of line, the interface of `tags` calls from cold functions."""
+    lead = [it._replace(text="#[inline]") if it.text == "#[inline(never)]" else it for it in lead]
+    if not any(it.text.startswith("#[inline") for it in lead):
+        lead += [Token("attribute", "#[inline]", 0), Token("space", "\n", 0)]
+    return lead
+
+
 ORDINALS = "first second third".split()
 
 
@@ -179,6 +188,7 @@ def rust_of(file, plan, snapshots, markers):
         if item.kind not in ("trait", "impl") and item.body:
             item.body = changed(item.body, own)
             if item.kind == "fn":
+                item.lead = in_each_unit(item.lead) if file.crate in plan.library else item.lead
                 item.body = statements_without_snapshots(item.body, file.name)
                 item.head = with_unused_marked(item.head, item.body)
             item.body = [it for it in item.body if not it.text.startswith("#[error")]

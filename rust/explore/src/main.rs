@@ -34,6 +34,7 @@ mod tags {
     pub mod queues;
     pub mod sets;
     pub mod shared;
+    pub mod shared_hands;
     pub mod side;
     pub mod sleep;
     pub mod tag;
@@ -56,7 +57,7 @@ mod threads;
 
 // As the modules of `tags` name each other.
 use tags::{allocator, batch, bell, cells, error, future, gate, hand, lists, notes, options, owned};
-use tags::{pool, proved, queue, queues, sets, shared, side, sleep, tag, thread, waits};
+use tags::{pool, proved, queue, queues, sets, shared, shared_hands, side, sleep, tag, thread, waits};
 
 use scenarios::PLAYS;
 use search::{explore, Explored};

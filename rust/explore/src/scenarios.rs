@@ -1,6 +1,8 @@
 //! The scenarios: what the threads do, how many they are, on how many tags, and how often.
 
-use crate::interface::{batches, caches, futures, gates, lists, locks, notes, passing, queues, sets, shared, waits};
+use crate::interface::{
+    batches, caches, futures, gates, hands, lists, locks, notes, passing, queues, sets, shared, waits,
+};
 use crate::memory::MOST;
 use crate::options::Options;
 use crate::threads;
@@ -45,7 +47,7 @@ pub fn read(words: &str) -> Option<(Play, Scenario, Option<u32>)> {
 
 /// Each play, with what is explored of it without arguments: threads, tags and rounds, and where all would take too long, the
 /// most switches.
-pub const PLAYS: [(&str, Play, &[&str]); 59] = [
+pub const PLAYS: [(&str, Play, &[&str]); 62] = [
     ("get", threads::get, &["2 1 1", "2 2 1", "2 1 2", "3 1 1", "3 2 1"]),
     ("sleep", threads::sleep, &["2 1 1", "2 2 1", "2 1 2", "3 1 1"]),
     ("cache", threads::cache, &["2 1 1", "2 2 1", "2 1 2", "3 1 1 3"]),
@@ -75,6 +77,8 @@ pub const PLAYS: [(&str, Play, &[&str]); 59] = [
     ("share-futures", shared::share_futures, &["2 1 1", "2 1 2", "3 1 1"]),
     ("share-limit", shared::limit, &["3 1 1"]),
     ("meddle", shared::meddle, &["2 1 1", "3 1 1"]),
+    ("hands", hands::sleep, &["2 1 1", "2 1 2", "3 1 1 3"]),
+    ("hands-futures", hands::await_each, &["2 1 1", "2 1 2", "3 1 1 3"]),
     ("lock", locks::lock, &["2 1 1", "2 1 2", "3 1 1"]),
     ("drain", gates::drain, &["2 1 1", "2 2 1", "3 1 1"]),
     ("drain-limit", gates::drain_in_time, &["2 2 1", "3 2 1"]),
@@ -83,6 +87,7 @@ pub const PLAYS: [(&str, Play, &[&str]); 59] = [
     ("pick", lists::pick, &["3 2 1"]),
     ("pick-future", lists::pick_by_future, &["3 2 1"]),
     ("join", gates::join_each, &["2 1 1", "2 1 2", "3 1 1", "3 2 2 2"]),
+    ("close", gates::close_after_all, &["2 1 1", "3 1 1"]),
     ("turn-away", gates::turn_away, &["2 1 1", "3 1 1"]),
     ("note", notes::note, &["2 1 1", "2 1 2", "3 1 1", "3 2 1"]),
     ("note-kept", notes::note_kept, &["2 1 1", "2 1 2", "3 1 1"]),

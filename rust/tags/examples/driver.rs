@@ -1,12 +1,12 @@
 //! A queue of a driver in a system without Rust's library: the example is a library itself, without `std`. Whoever
-//! submits a request takes a tag, and its command is beside the tag; the tag's number goes to the device, and the
-//! interrupt that completes the request has that number again. A thread that finds no tag sleeps by means of the
-//! kernel.
+//! submits a request gets a tag, and its command is beside the tag; the tag is posted, and its number goes to the
+//! device. The interrupt that completes the request takes the tag by that number. A thread that finds no tag sleeps by
+//! means of the kernel.
 #![no_std]
 
 use core::sync::atomic::{AtomicU32, Ordering::SeqCst};
 use core::time::Duration;
-use tags::{Options, Pool, Result, SharedHand, Sleeper};
+use tags::{Hand, Options, Pool, Result, Sleeper};
 
 /// What the driver needs of its kernel.
 pub trait Kernel: Send + Sync {
@@ -14,7 +14,7 @@ pub trait Kernel: Send + Sync {
     /// come.
     fn wait_on(&self, address: usize, condition: &dyn Fn() -> bool, end: Option<Duration>);
 
-    /// Wakes all who sleep on this address.
+    /// Wakes all who sleep on this address, also in an interrupt.
     fn wake(&self, address: usize);
 
     /// The time since the start.
@@ -55,37 +55,57 @@ pub struct Command {
 /// The queue of a device.
 pub struct Queue {
     pool: Pool<Command>,
-    hand: SharedHand<Command>,
 }
 
 impl Queue {
-    /// A queue of this depth, on which threads sleep by these means.
-    pub fn open(depth: u32, sleeper: &'static dyn Sleeper) -> Result<Queue> {
-        let make = |_| Command::default();
-        let pool = Pool::open_with_sleeper(&Options::new(depth, 1), sleeper, make)?;
-        let hand = pool.join()?.into_shared();
-        Ok(Queue { pool, hand })
+    /// A queue of this depth for so many threads, which sleep by these means, and what its interrupt uses.
+    pub fn open(depth: u32, threads: u32, sleeper: &'static dyn Sleeper) -> Result<(Queue, Interrupt)> {
+        let options = Options::new(depth, threads + 1);
+        let pool = Pool::open_with_sleeper(&options, sleeper, |_| Command::default())?;
+        let hand = pool.join()?;
+        Ok((Queue { pool }, Interrupt { hand }))
     }
 
-    /// Waits for a tag, fills the command beside it, and passes both to the device.
-    pub fn submit(&self, block: u64, ring: impl FnOnce(u32, u64)) -> Result<()> {
-        let mut tag = self.hand.get_blocking()?;
-        tag.value_mut().block = block;
-        // The completion makes a guard of the number again, and may do so as soon as the device has it.
-        ring(tag.into_number(), block);
-        Ok(())
-    }
-
-    /// Completes the request with this number, as the device has done.
-    pub fn complete(&self, number: u32, status: u32) -> Result<()> {
-        let mut tag = self.hand.claim(number)?;
-        tag.value_mut().status = status;
-        Ok(())
+    /// What a thread submits by.
+    pub fn join(&self) -> Result<Submitter> {
+        let hand = self.pool.join()?;
+        Ok(Submitter { hand })
     }
 
     /// Ends all waits, and then waits for all requests.
     pub fn shut_down(&self) {
         self.pool.stop();
         self.pool.drain();
+    }
+}
+
+/// A thread's way into the queue.
+pub struct Submitter {
+    hand: Hand<Command>,
+}
+
+impl Submitter {
+    /// Waits for a tag, fills the command beside it, and passes both to the device.
+    pub fn submit(&self, block: u64, ring: impl FnOnce(u32, u64)) -> Result<()> {
+        let mut tag = self.hand.get_blocking()?;
+        tag.value_mut().block = block;
+        // The interrupt takes the tag, and may do so as soon as the device has its number.
+        ring(tag.post(), block);
+        Ok(())
+    }
+}
+
+/// The interrupt's way into the queue. It has a hand of its own, since a lock might be held by the thread that it
+/// interrupts.
+pub struct Interrupt {
+    hand: Hand<Command>,
+}
+
+impl Interrupt {
+    /// Completes the request with this number, as the device has done. It takes no lock, and does not sleep.
+    pub fn complete(&mut self, number: u32, status: u32) -> Result<()> {
+        let mut tag = self.hand.take(number)?;
+        tag.value_mut().status = status;
+        Ok(())
     }
 }

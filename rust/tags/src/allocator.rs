@@ -36,10 +36,13 @@ pub(crate) const MAX_TOTAL: u32 = crate::proved::tag_pool::MAX_DEPTH;
 /// The most tags that a hand keeps.
 const MAX_CACHE: u32 = 64;
 
-/// The tags of a pool. What is called often is not generic, so that it is compiled with the proved code and not in each
-/// program.
+// What is called often is `inline`, so that it has a copy in each unit of a program: rustc has a call of another one go
+// through a pointer. What is to stay out of line there is `cold` as well.
+
+/// The tags of a pool.
 struct Core {
     tags: Pool<u64>,
+    round_robin: bool,
 }
 
 /// The tags of a pool, with the values beside them. The hands that are out share them.

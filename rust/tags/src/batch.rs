@@ -4,9 +4,8 @@ use crate::allocator::HeldMask;
 use crate::error::{Error, Result};
 use crate::hand::Hand;
 use crate::tag::Tag;
-use alloc::vec::Vec;
 use core::fmt;
-use core::iter::successors;
+use core::iter::{from_fn, successors};
 
 /// The numbers of several tags: what [`Batch::post`] returns and [`Hand::take_batch`] takes. It holds no tag, so it can
 /// be copied, sent, and made of two numbers.
@@ -208,7 +207,8 @@ impl<'a, T> Batch<'a, T> {
         self.hand.settle(self.hand.after_giving(posted))
     }
 
-    /// Splits the batch into tags, each of which is given back on its own.
+    /// Splits the batch into tags, each of which is given back on its own; those that nobody asks for go back in one
+    /// step.
     ///
     /// ```
     /// # use tags::{Options, Pool};
@@ -222,17 +222,16 @@ impl<'a, T> Batch<'a, T> {
     /// # }
     /// ```
     pub fn into_tags(mut self) -> impl Iterator<Item = Tag<'a, T>> {
-        let numbers: Vec<u32> = self.numbers().collect();
-        let tags: Vec<Tag<'a, T>> = numbers.into_iter().filter_map(|it| self.remove(it)).collect();
-        tags.into_iter()
+        from_fn(move || self.pop())
     }
 }
 
 impl<T> Drop for Batch<'_, T> {
+    #[inline]
     fn drop(&mut self) {
         if !self.held.is_empty() {
             let freed = self.hand.member.clear_mask(self.held.pass());
-            self.hand.settle(self.hand.after_giving(((), freed)));
+            self.hand.see_to_and_wake(freed);
         }
     }
 }

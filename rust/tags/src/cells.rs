@@ -1,4 +1,5 @@
-//! What a guard uses: its hand, and the value beside its tag. All unsafe code outside of `base` is here.
+//! What a guard uses: its hand, and the value beside its tag. All unsafe code outside of `base` is here, but for the end
+//! of a hand in its drop, and the copy of a handle that a tag of a shared hand has (`shared/loans.rs`).
 
 use crate::allocator::{Held, HeldMask};
 use crate::base::word::touch;

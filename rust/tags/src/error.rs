@@ -2,6 +2,7 @@
 
 use crate::pool::Pool;
 use crate::tag::Tag;
+use alloc::boxed::Box;
 use core::fmt;
 
 /// The result of a call that can be refused.
@@ -19,7 +20,7 @@ pub enum Error {
     NotHeld,
     /// The tag is not posted, or another hand took it first, or it is in a queue.
     NotPosted,
-    /// A batch of 0 tags, or more tags at once than the pool has ordinary ones.
+    /// 0 tags at once, or more than the pool has ordinary ones.
     BadCount,
     /// A depth of 0, or one below the pool's [`min_shallow`](crate::Options::min_shallow).
     TooShallow,
@@ -136,7 +137,8 @@ impl fmt::Display for Error {
 
 impl core::error::Error for Error {}
 
-/// A pool that could not be closed. The pool is unchanged.
+/// A pool that could not be closed. The pool is unchanged. Where this is turned into its [`Error`], as by `?`, the pool
+/// is dropped.
 pub struct CloseError<T = ()> {
     /// The reason.
     pub error: Error,
@@ -159,8 +161,26 @@ impl<T> fmt::Display for CloseError<T> {
 
 impl<T> core::error::Error for CloseError<T> {}
 
+impl<T> From<CloseError<T>> for Error {
+    fn from(refused: CloseError<T>) -> Error {
+        refused.error
+    }
+}
+
 /// A tag that could not be submitted. Nothing has changed, and its hand holds it. Dropping this gives the tag back, also where
 /// it is turned into its [`Error`], as by `?`.
+///
+/// It borrows the hand, so a function could not return it: it is no error itself, and `?` boxes its [`Error`].
+///
+/// ```
+/// # use tags::{Options, Pool};
+/// fn main() -> Result<(), Box<dyn std::error::Error>> {
+///     let pool = Pool::open(&Options { queues: 1, ..Options::new(4, 1) })?;
+///     let hand = pool.join()?;
+///     hand.get_blocking()?.submit(0)?;
+///     Ok(())
+/// }
+/// ```
 pub struct SubmitError<'a, T = ()> {
     /// The reason.
     pub error: Error,
@@ -183,10 +203,20 @@ impl<T> fmt::Display for SubmitError<'_, T> {
     }
 }
 
-impl<T> core::error::Error for SubmitError<'_, T> {}
-
 impl<T> From<SubmitError<'_, T>> for Error {
     fn from(refused: SubmitError<'_, T>) -> Error {
         refused.error
+    }
+}
+
+impl<T> From<SubmitError<'_, T>> for Box<dyn core::error::Error> {
+    fn from(refused: SubmitError<'_, T>) -> Self {
+        refused.error.into()
+    }
+}
+
+impl<T> From<SubmitError<'_, T>> for Box<dyn core::error::Error + Send + Sync> {
+    fn from(refused: SubmitError<'_, T>) -> Self {
+        refused.error.into()
     }
 }

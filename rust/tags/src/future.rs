@@ -8,6 +8,7 @@ use crate::options::Kind;
 use crate::owned::OwnedTag;
 use crate::queue::{wake_all, Queue, Queued, State};
 use crate::shared::SharedHand;
+use crate::shared_hands::SharedHands;
 use crate::tag::Tag;
 use alloc::vec::Vec;
 use core::fmt;
@@ -220,12 +221,23 @@ impl<T> fmt::Debug for GetAsync<'_, T> {
 #[must_use = "a future does nothing unless it is polled"]
 pub struct GetAsyncOwned<T = ()> {
     waiting: Waiting<SharedHand<T>>,
+    /// The hands that may keep what this waits for, until its first poll.
+    keepers: Option<SharedHands<T>>,
 }
 
 impl<T> GetAsyncOwned<T> {
     pub(crate) fn new(hand: SharedHand<T>, kind: Kind) -> GetAsyncOwned<T> {
         GetAsyncOwned {
             waiting: Waiting::new(hand, kind),
+            keepers: None,
+        }
+    }
+
+    /// The same, for an ordinary tag that one of these hands may keep.
+    pub(crate) fn among(hand: SharedHand<T>, keepers: SharedHands<T>) -> GetAsyncOwned<T> {
+        GetAsyncOwned {
+            keepers: Some(keepers),
+            ..GetAsyncOwned::new(hand, Kind::Ordinary)
         }
     }
 }
@@ -233,9 +245,15 @@ impl<T> GetAsyncOwned<T> {
 impl<T> Future for GetAsyncOwned<T> {
     type Output = Result<OwnedTag<T>>;
 
+    /// Once it waits it is counted, and a clear keeps nothing: what hands have kept before goes back then.
     fn poll(mut self: Pin<&mut Self>, context: &mut Context<'_>) -> Poll<Self::Output> {
+        let keepers = self.keepers.take();
         let found = self.waiting.poll(context.waker());
-        found.map_ok(|held| OwnedTag::new(self.waiting.lender.clone(), held))
+        if found.is_pending() {
+            keepers.iter().for_each(SharedHands::flush);
+        }
+        let hand = &self.waiting.lender;
+        found.map_ok(|held| hand.tag(&mut hand.lock(), held))
     }
 }
 

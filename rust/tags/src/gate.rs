@@ -6,7 +6,7 @@
 //! gate's number changes, which ends its sleep or lets none begin.
 
 use crate::base::word::{AtomicU32, LOOKS};
-use crate::sleep::Sleeper;
+use crate::sleep::{or_end, wake, Sleeper};
 use core::hint::spin_loop;
 use core::sync::atomic::Ordering::SeqCst;
 use core::time::Duration;
@@ -39,7 +39,7 @@ impl Gate {
     pub fn open(&self, sleeper: &dyn Sleeper) {
         if self.sleepers.load(SeqCst) > 0 {
             self.number.fetch_add(1, SeqCst);
-            sleeper.wake(&self.number);
+            wake(sleeper, &self.number);
         }
     }
 
@@ -68,11 +68,11 @@ impl Gate {
             }
             spin_loop();
         }
-        loop {
+        or_end("a sleep panicked amid a call", || loop {
             if let Some(found) = self.wait(sleeper, None, &look) {
                 return found;
             }
-        }
+        })
     }
 }
 

@@ -2,7 +2,7 @@
 
 use crate::allocator::{Due, Freed, Held, Member};
 use crate::batch::Batch;
-use crate::error::Result;
+use crate::error::{Error, Result};
 use crate::notes::Note;
 use crate::options::{Kind, Sizes};
 use crate::pool::Home;
@@ -15,6 +15,7 @@ use alloc::sync::Arc;
 use alloc::vec::Vec;
 use core::cell::Cell;
 use core::fmt;
+use core::mem::ManuallyDrop;
 use core::panic::{RefUnwindSafe, UnwindSafe};
 
 /// A hand, through which one thread takes tags. It is `Send` but not `Sync`: no two threads can use it at once.
@@ -36,7 +37,8 @@ use core::panic::{RefUnwindSafe, UnwindSafe};
 /// send::<tags::Hand>();
 /// ```
 pub struct Hand<T = ()> {
-    pub(crate) member: Member<T>,
+    /// Used up as the hand is dropped.
+    pub(crate) member: ManuallyDrop<Member<T>>,
     pub(crate) home: Arc<Home<T>>,
     /// Whether it is listed for futures, in each set.
     pub(crate) listening: BySet<Cell<Listening>>,
@@ -52,7 +54,7 @@ impl<T: UnwindSafe + RefUnwindSafe> RefUnwindSafe for Hand<T> {}
 impl<T> Hand<T> {
     pub(crate) fn new(member: Member<T>, home: Arc<Home<T>>) -> Hand<T> {
         Hand {
-            member,
+            member: ManuallyDrop::new(member),
             home,
             listening: BySet::default(),
             looks: Cell::default(),
@@ -68,6 +70,29 @@ impl<T> Hand<T> {
     pub(crate) fn settle<R>(&self, (answer, due): (R, Due)) -> R {
         self.home.bell.wake(due);
         answer
+    }
+
+    /// The same after a get, which seldom makes tags free that it does not take.
+    #[inline]
+    fn settle_get<R>(&self, (found, left): (R, Freed)) -> R {
+        if !left.is_none() {
+            self.see_to_and_wake(left);
+        }
+        found
+    }
+
+    /// Tells those who wait of tags that became free, and wakes them.
+    #[inline]
+    pub(crate) fn see_to_and_wake(&self, freed: Freed) {
+        if self.home.bell.is_awaited() {
+            self.tell_and_wake(freed);
+        }
+    }
+
+    #[cold]
+    #[inline]
+    fn tell_and_wake(&self, freed: Freed) {
+        self.home.bell.wake(self.tell(freed));
     }
 
     /// Ends a get, which made tags free that it did not take.
@@ -128,24 +153,30 @@ impl<T> Hand<T> {
 
     /// Gives a held tag back.
     pub(crate) fn give(&self, held: Held) -> Due {
-        let number = held.number();
-        self.member.clear(held);
-        self.see_to(self.member.freed(number))
+        self.see_to(self.member.clear(held))
     }
 
-    /// Gives a held tag back, and wakes those who wait.
+    /// Gives a held tag back, and wakes those who wait. What is rare is called last, so that the rest saves no registers.
     #[inline]
     pub(crate) fn give_and_wake(&self, held: Held) {
         let number = held.number();
-        self.member.clear(held);
-        if self.home.bell.is_awaited() {
-            self.tell_and_wake(number);
+        match self.member.try_clear(held) {
+            Ok(()) if self.home.bell.is_awaited() => self.tell_of_one_and_wake(number),
+            Ok(()) => (),
+            Err(held) => self.give_any_and_wake(held),
         }
     }
 
     #[cold]
-    fn tell_and_wake(&self, number: u32) {
-        self.home.bell.wake(self.tell(self.member.freed(number)));
+    #[inline]
+    fn tell_of_one_and_wake(&self, number: u32) {
+        self.tell_and_wake(self.member.freed(number));
+    }
+
+    #[cold]
+    #[inline]
+    fn give_any_and_wake(&self, held: Held) {
+        self.see_to_and_wake(self.member.clear(held));
     }
 
     /// Takes a free ordinary tag. `None` means that each tag was found taken at some moment of the call, not that all
@@ -163,24 +194,25 @@ impl<T> Hand<T> {
     /// # Ok(())
     /// # }
     /// ```
-    #[inline]
+    #[inline(always)]
     pub fn get(&self) -> Result<Option<Tag<'_, T>>> {
         match self.member.try_get() {
             Some(held) => Ok(Some(Tag::new(self, held))),
-            None => self.outcome(),
+            None => Ok(self.outcome()?.map(|held| Tag::new(self, held))),
         }
     }
 
-    #[inline(never)]
-    fn outcome(&self) -> Result<Option<Tag<'_, T>>> {
-        let found = self.settle(self.after_get(self.member.outcome()));
-        Ok(found?.map(|held| Tag::new(self, held)))
+    /// Its answer fits into registers, as one with a guard would not.
+    #[cold]
+    #[inline]
+    fn outcome(&self) -> Result<Option<Held>> {
+        self.settle_get(self.member.outcome())
     }
 
     /// Takes a free reserved tag. `None` is as from [`get`](Hand::get).
     #[inline]
     pub fn get_reserved(&self) -> Result<Option<Tag<'_, T>>> {
-        let found = self.settle(self.after_get(self.member.get_in(Kind::Reserved)));
+        let found = self.settle_get(self.member.get_in(Kind::Reserved));
         Ok(found?.map(|held| Tag::new(self, held)))
     }
 
@@ -197,7 +229,7 @@ impl<T> Hand<T> {
     /// use. Each word has a share of the depth in proportion to its tags, which can be 0.
     #[inline]
     pub fn get_shallow(&self, depth: u32) -> Result<Option<Tag<'_, T>>> {
-        let found = self.settle(self.after_get(self.member.get_shallow(depth)));
+        let found = self.settle_get(self.member.get_shallow(depth));
         Ok(found?.map(|held| Tag::new(self, held)))
     }
 
@@ -218,7 +250,7 @@ impl<T> Hand<T> {
     /// # }
     /// ```
     pub fn get_exactly(&self, number: u32) -> Result<Option<Tag<'_, T>>> {
-        let found = self.settle(self.after_get(self.member.get_exactly(number)));
+        let found = self.settle_get(self.member.get_exactly(number));
         Ok(found?.map(|held| Tag::new(self, held)))
     }
 
@@ -235,15 +267,17 @@ impl<T> Hand<T> {
     /// # Ok(())
     /// # }
     /// ```
+    #[inline]
     pub fn get_batch(&self, n: u32) -> Result<Option<Batch<'_, T>>> {
-        let found = self.settle(self.after_get(self.member.get_batch(n.min(self.home.batch_limit))));
+        let found = self.settle_get(self.member.get_batch(n.min(self.home.batch_limit)));
         Ok(found?.map(|held| Batch::new(self, held)))
     }
 
     /// Takes this many ordinary tags, from any words, or none of them, for what can do nothing with fewer. It takes no
     /// kept tag. `None` means that a get found none before there were enough: those taken before it went back, and
     /// whoever waits was told. Of several such calls at once each may find too few, though one alone would have found
-    /// enough. [`BadCount`](crate::Error::BadCount) means that the pool has fewer ordinary tags.
+    /// enough. Refusals: [`BadCount`](crate::Error::BadCount) for 0 tags, or more than the pool has ordinary ones, and
+    /// [`NoMemory`](crate::Error::NoMemory), without a get.
     ///
     /// ```
     /// # use tags::{Error, Options, Pool};
@@ -254,14 +288,21 @@ impl<T> Hand<T> {
     /// assert!(hand.get_many(4)?.is_none());
     /// five.pop();
     /// assert!(hand.get_many(4)?.is_some());
-    /// assert_eq!(hand.get_many(9).unwrap_err(), Error::BadCount);
+    /// assert_eq!([0, 9].map(|n| hand.get_many(n).unwrap_err()), [Error::BadCount; 2]);
     /// # Ok(())
     /// # }
     /// ```
     pub fn get_many(&self, n: u32) -> Result<Option<Vec<Tag<'_, T>>>> {
-        let found = self.settle(self.after_get(self.member.get_many(n)));
-        let guard_all = |all: Vec<Held>| all.into_iter().map(|held| Tag::new(self, held)).collect();
-        Ok(found?.map(guard_all))
+        if n == 0 || n > self.member.set().depth(Kind::Ordinary) {
+            return Err(Error::BadCount);
+        }
+        let (mut numbers, mut all) = (Vec::new(), Vec::new());
+        numbers.try_reserve_exact(n as usize).map_err(|_| Error::NoMemory)?;
+        numbers.resize(n as usize, 0);
+        all.try_reserve_exact(n as usize).map_err(|_| Error::NoMemory)?;
+        let guard = |held| all.push(Tag::new(self, held));
+        let found = self.settle_get(self.member.get_many(&mut numbers, guard));
+        Ok(found?.map(|()| all))
     }
 
     /// Gives all kept tags back, and wakes whoever waits for one. A hand keeps tags if the pool was opened with a
@@ -311,7 +352,9 @@ impl<T> Drop for Hand<T> {
         bell.wake(due.and(self.flush_kept()));
         // Before others can join in place of this one.
         self.token_hands.leave();
-        self.member.leave(&mut self.home.roster.lock());
+        // SAFETY: this is its last use.
+        let member = unsafe { ManuallyDrop::take(&mut self.member) };
+        member.leave(&mut self.home.roster.lock());
         bell.hands().open(bell.sleeper);
     }
 }

@@ -28,6 +28,14 @@
 //! [`Hand::next`], or sleeps until there is one. [`Pool::open_with`] puts a value of any type beside each tag, for whoever holds
 //! the tag. The examples are an I/O queue of threads, tasks on a small executor, and threads that copy a file.
 //!
+//! # Memory
+//!
+//! These allocate, and are refused with [`NoMemory`](Error::NoMemory) where that fails: opening, joining, resizing and
+//! sharing, [`Hand::get_many`], [`Pool::drain_list`], and the first use of a queue by a hand. Rust's library ends the
+//! program instead where it can't make an `Arc`, as of a pool, of its tags or of a [`SharedHand`], or the place of a
+//! future that waits. A thread that sleeps behind a [`SharedHand`], or behind [`SharedHands`], is such a future; one
+//! that sleeps with a [`Hand`] allocates nothing, and neither does any other call.
+//!
 //! # Without `std`
 //!
 //! With `default-features = false` the crate needs `core` and `alloc` alone. How threads sleep and are woken is then

@@ -1,9 +1,9 @@
-//! Tags that keep their hand alive.
+//! Tags that keep their hand alive. They go back on any thread, so a call on one takes the hand's lock, which nobody holds
+//! while it sleeps.
 
-use crate::allocator::Held;
+use crate::allocator::{Due, Held};
 use crate::error::Result;
-use crate::future::Lends;
-use crate::shared::SharedHand;
+use crate::shared::{Loan, SharedHand};
 use core::fmt;
 use core::marker::PhantomData;
 
@@ -20,7 +20,7 @@ use core::marker::PhantomData;
 /// ```
 #[must_use = "the tag goes back at once"]
 pub struct OwnedTag<T = ()> {
-    hand: SharedHand<T>,
+    hand: Loan<T>,
     held: Held,
     /// Whether the tag was posted or let go, so that a drop does not give it back.
     is_gone: bool,
@@ -29,7 +29,8 @@ pub struct OwnedTag<T = ()> {
 }
 
 impl<T> OwnedTag<T> {
-    pub(crate) fn new(hand: SharedHand<T>, held: Held) -> OwnedTag<T> {
+    #[inline]
+    pub(crate) fn new(hand: Loan<T>, held: Held) -> OwnedTag<T> {
         OwnedTag {
             hand,
             held,
@@ -89,7 +90,7 @@ impl<T> OwnedTag<T> {
     pub fn into_number(mut self) -> u32 {
         self.is_gone = true;
         let held = self.held.pass();
-        self.hand.look(|hand| hand.let_go(held))
+        self.hand.end_with(|hand| (hand.member.let_go(held), Due::NOBODY))
     }
 
     /// Offers the tag, with its slot and its value, to all hands of the pool, and returns its number: the first hand
@@ -98,7 +99,7 @@ impl<T> OwnedTag<T> {
     pub fn post(mut self) -> u32 {
         self.is_gone = true;
         let held = self.held.pass();
-        self.hand.lend(|hand| hand.after_giving(hand.member.post(held)))
+        self.hand.end_with(|hand| hand.after_giving(hand.member.post(held)))
     }
 }
 

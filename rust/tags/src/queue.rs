@@ -4,7 +4,7 @@ use crate::allocator::Held;
 use crate::base::lock::Lock;
 use crate::bell::Bell;
 use crate::error::{Error, Result};
-use crate::sleep::Sleeper;
+use crate::sleep::{or_end, Sleeper};
 use alloc::collections::{BTreeMap, VecDeque};
 use alloc::vec::Vec;
 use core::task::Waker;
@@ -179,18 +179,7 @@ impl Queue {
 
 /// Wakes futures. A waker that panics ends the program, as those after it would never be woken.
 pub(crate) fn wake_all(wakers: impl IntoIterator<Item = Waker>) {
-    /// A panic while another one unwinds ends the program.
-    struct Ends;
-
-    impl Drop for Ends {
-        fn drop(&mut self) {
-            panic!("a waker panicked");
-        }
-    }
-
     for waker in wakers {
-        let ends = Ends;
-        waker.wake();
-        core::mem::forget(ends);
+        or_end("a waker panicked", || waker.wake());
     }
 }

@@ -13,8 +13,12 @@ use crate::queue::Queue;
 use alloc::sync::Arc;
 use core::fmt;
 use core::panic::{RefUnwindSafe, UnwindSafe};
+use core::sync::atomic::AtomicUsize;
 
+mod loans;
 mod waits;
+
+pub(crate) use loans::{Lent, Loan};
 
 /// A hand that several threads and tasks share, made by [`Hand::into_shared`]. A clone is the same hand. Its tags
 /// borrow nothing: an [`OwnedTag`] is `Send`, can be held across an await, and keeps the hand alive.
@@ -47,9 +51,11 @@ struct Inner<T> {
     /// What the hand shares with its pool, which needs no lock. The tags are let go of before the hand goes back.
     set: Arc<Set<T>>,
     home: Arc<Home<T>>,
-    hand: Lock<Hand<T>>,
+    hand: Lock<Lent<T>>,
     /// The hand's number.
     number: usize,
+    /// How many handles there are.
+    handles: AtomicUsize,
 }
 
 impl<T: UnwindSafe + RefUnwindSafe> UnwindSafe for SharedHand<T> {}
@@ -62,7 +68,8 @@ impl<T> SharedHand<T> {
             set: Arc::clone(hand.member.set()),
             home: Arc::clone(&hand.home),
             number: hand.member.number(),
-            hand: Lock::new(hand, sleeper),
+            hand: Lock::new(Lent::new(hand), sleeper),
+            handles: AtomicUsize::new(1),
         };
         SharedHand { inner: Arc::new(inner) }
     }
@@ -79,32 +86,48 @@ impl<T> SharedHand<T> {
         call(&self.inner.hand.lock().member)
     }
 
-    /// Gives a held tag back, and wakes those who wait.
+    /// Gives back the tag of a loan, which ends, and wakes those who wait.
     #[inline]
     pub(crate) fn give_and_wake(&self, held: Held) {
-        let (hand, number) = (self.inner.hand.lock(), held.number());
-        hand.member.clear(held);
-        if self.bell().is_awaited() {
-            self.tell_and_wake(hand, number);
+        let (hand, number) = (self.lock(), held.number());
+        match hand.member.try_clear(held) {
+            Ok(()) if self.bell().is_awaited() => self.tell_of_one_and_wake(hand, number),
+            Ok(()) => self.end(hand),
+            Err(held) => self.give_any_and_wake(hand, held),
         }
     }
 
     #[cold]
-    fn tell_and_wake(&self, hand: Guard<'_, Hand<T>>, number: u32) {
+    #[inline]
+    fn tell_of_one_and_wake(&self, hand: Guard<'_, Lent<T>>, number: u32) {
         let due = hand.tell(hand.member.freed(number));
-        drop(hand);
-        self.bell().wake(due);
+        self.end_and_wake(hand, due);
+    }
+
+    #[cold]
+    #[inline]
+    fn give_any_and_wake(&self, hand: Guard<'_, Lent<T>>, held: Held) {
+        let due = hand.give(held);
+        self.end_and_wake(hand, due);
+    }
+
+    /// Makes the last call of a loan.
+    pub(crate) fn end_with<R>(&self, call: impl FnOnce(&Hand<T>) -> (R, Due)) -> R {
+        let hand = self.lock();
+        let (answer, due) = call(&hand);
+        self.end_and_wake(hand, due);
+        answer
     }
 
     /// Takes the lock of the hand.
     #[inline]
-    pub(crate) fn lock(&self) -> Guard<'_, Hand<T>> {
+    pub(crate) fn lock(&self) -> Guard<'_, Lent<T>> {
         self.inner.hand.lock()
     }
 
     /// The same, unless a call has it.
     #[inline]
-    pub(crate) fn try_lock(&self) -> Option<Guard<'_, Hand<T>>> {
+    pub(crate) fn try_lock(&self) -> Option<Guard<'_, Lent<T>>> {
         self.inner.hand.try_lock()
     }
 
@@ -115,15 +138,22 @@ impl<T> SharedHand<T> {
     }
 
     #[inline]
-    pub(crate) fn get_with(&self, hand: Guard<'_, Hand<T>>) -> Result<Option<OwnedTag<T>>> {
+    pub(crate) fn get_with(&self, mut hand: Guard<'_, Lent<T>>) -> Result<Option<OwnedTag<T>>> {
         match hand.member.try_get() {
-            Some(held) => Ok(Some(OwnedTag::new(self.clone(), held))),
+            Some(held) => Ok(Some(self.tag(&mut hand, held))),
             None => self.outcome(hand),
         }
     }
 
-    #[inline(never)]
-    fn outcome(&self, hand: Guard<'_, Hand<T>>) -> Result<Option<OwnedTag<T>>> {
+    /// The tag that a call with the lock has come by.
+    #[inline]
+    pub(crate) fn tag(&self, hand: &mut Lent<T>, held: Held) -> OwnedTag<T> {
+        OwnedTag::new(self.loan(hand), held)
+    }
+
+    #[cold]
+    #[inline]
+    fn outcome(&self, hand: Guard<'_, Lent<T>>) -> Result<Option<OwnedTag<T>>> {
         let found = hand.after_get(hand.member.outcome());
         self.guard(hand, found)
     }
@@ -131,12 +161,13 @@ impl<T> SharedHand<T> {
     /// Ends a get: leaves the lock, and then wakes those who were told.
     fn guard(
         &self,
-        hand: Guard<'_, Hand<T>>,
+        mut hand: Guard<'_, Lent<T>>,
         (found, due): (Result<Option<Held>>, Due),
     ) -> Result<Option<OwnedTag<T>>> {
+        let tag = found.map(|found| found.map(|held| self.tag(&mut hand, held)));
         drop(hand);
         self.bell().wake(due);
-        Ok(found?.map(|held| OwnedTag::new(self.clone(), held)))
+        tag
     }
 
     /// Takes a free reserved tag, as [`Hand::get_reserved`] does.
@@ -144,21 +175,23 @@ impl<T> SharedHand<T> {
         self.get_reserved_with(self.lock())
     }
 
-    pub(crate) fn get_reserved_with(&self, hand: Guard<'_, Hand<T>>) -> Result<Option<OwnedTag<T>>> {
+    pub(crate) fn get_reserved_with(&self, hand: Guard<'_, Lent<T>>) -> Result<Option<OwnedTag<T>>> {
         let found = hand.after_get(hand.member.get_in(Kind::Reserved));
         self.guard(hand, found)
     }
 
     /// Takes a free ordinary tag out of a part of them, as [`Hand::get_shallow`] does.
     pub fn get_shallow(&self, depth: u32) -> Result<Option<OwnedTag<T>>> {
-        let found = self.lend(|hand| hand.after_get(hand.member.get_shallow(depth)))?;
-        Ok(found.map(|held| OwnedTag::new(self.clone(), held)))
+        let hand = self.lock();
+        let found = hand.after_get(hand.member.get_shallow(depth));
+        self.guard(hand, found)
     }
 
     /// Takes the tag with this number, if it is free, as [`Hand::get_exactly`] does.
     pub fn get_exactly(&self, number: u32) -> Result<Option<OwnedTag<T>>> {
-        let found = self.lend(|hand| hand.after_get(hand.member.get_exactly(number)))?;
-        Ok(found.map(|held| OwnedTag::new(self.clone(), held)))
+        let hand = self.lock();
+        let found = hand.after_get(hand.member.get_exactly(number));
+        self.guard(hand, found)
     }
 
     /// Returns a guard for a tag that this hand holds without one, as [`Hand::claim`] does.
@@ -176,8 +209,9 @@ impl<T> SharedHand<T> {
     /// # }
     /// ```
     pub fn claim(&self, number: u32) -> Result<OwnedTag<T>> {
-        let held = self.look(|hand| hand.claim(number))?;
-        Ok(OwnedTag::new(self.clone(), held))
+        let mut hand = self.lock();
+        let held = hand.member.claim(number)?;
+        Ok(self.tag(&mut hand, held))
     }
 
     /// Returns whether this hand holds the tag with this number.
@@ -187,8 +221,9 @@ impl<T> SharedHand<T> {
 
     /// Takes a tag that a hand of this pool has posted, as [`Hand::take`] does.
     pub fn take(&self, number: u32) -> Result<OwnedTag<T>> {
-        let held = self.look(|hand| hand.take(number))?;
-        Ok(OwnedTag::new(self.clone(), held))
+        let mut hand = self.lock();
+        let held = hand.member.take(number)?;
+        Ok(self.tag(&mut hand, held))
     }
 
     /// Gives all kept tags back, and wakes whoever waits for one, as [`Hand::flush`] does.
@@ -233,14 +268,6 @@ impl<T> Lends for SharedHand<T> {
 
     fn queue(&self, kind: Kind) -> &Queue {
         self.bell().queue(kind, self.inner.number)
-    }
-}
-
-impl<T> Clone for SharedHand<T> {
-    fn clone(&self) -> SharedHand<T> {
-        SharedHand {
-            inner: Arc::clone(&self.inner),
-        }
     }
 }
 

@@ -4,10 +4,9 @@ use crate::allocator::Member;
 use crate::base::lock::Guard;
 use crate::error::{Error, Result};
 use crate::future::Lends;
-use crate::hand::Hand;
 use crate::owned::OwnedTag;
 use crate::pool::Pool;
-use crate::shared::SharedHand;
+use crate::shared::{Lent, SharedHand};
 use alloc::sync::Arc;
 use alloc::vec::Vec;
 use core::fmt;
@@ -17,7 +16,7 @@ mod waits;
 /// Hands that any number of threads share, made by [`Pool::share`]: for more threads than hands, or threads that come
 /// and go. A clone is the same hands. Each call takes the hand of the processor that it runs on, or the next one that no
 /// other call has, and only while all are in calls it waits for one. So threads seldom take turns, as they do with one
-/// [`SharedHand`]; a thread with a [`Hand`] of its own is faster.
+/// [`SharedHand`]; a thread with a [`Hand`](crate::Hand) of its own is faster.
 ///
 /// Its tags borrow nothing: an [`OwnedTag`] is `Send`, goes back on whichever thread it is dropped, and keeps the hand
 /// alive that holds it. The hands go back to their pool once the last clone and the last tag are dropped.
@@ -122,7 +121,7 @@ impl<T> SharedHands<T> {
 
     /// Takes the lock of this processor's hand, or of the next one that no call has.
     #[inline]
-    fn enter(&self) -> (&SharedHand<T>, Guard<'_, Hand<T>>) {
+    fn enter(&self) -> (&SharedHand<T>, Guard<'_, Lent<T>>) {
         let (before, after) = self.inner.hands.split_at(self.own());
         for hand in after.iter().chain(before) {
             if let Some(guard) = hand.try_lock() {
@@ -132,21 +131,21 @@ impl<T> SharedHands<T> {
         (&after[0], after[0].lock())
     }
 
-    /// Takes a free ordinary tag, as [`Hand::get`] does.
+    /// Takes a free ordinary tag, as [`Hand::get`](crate::Hand::get) does.
     #[inline]
     pub fn get(&self) -> Result<Option<OwnedTag<T>>> {
         let (shared, hand) = self.enter();
         shared.get_with(hand)
     }
 
-    /// Takes a free reserved tag, as [`Hand::get_reserved`] does.
+    /// Takes a free reserved tag, as [`Hand::get_reserved`](crate::Hand::get_reserved) does.
     pub fn get_reserved(&self) -> Result<Option<OwnedTag<T>>> {
         let (shared, hand) = self.enter();
         shared.get_reserved_with(hand)
     }
 
-    /// Returns a guard for a tag that one of these hands holds without one, as [`Hand::claim`] does. It asks one hand
-    /// after another, so it takes longer with many.
+    /// Returns a guard for a tag that one of these hands holds without one, as [`Hand::claim`](crate::Hand::claim) does.
+    /// It asks one hand after another, so it takes longer with many.
     ///
     /// ```
     /// # use tags::{Error, Options, Pool};
@@ -167,15 +166,15 @@ impl<T> SharedHands<T> {
         found.unwrap_or(Err(Error::NotHeld))
     }
 
-    /// Takes a tag that a hand of this pool has posted, as [`Hand::take`] does.
+    /// Takes a tag that a hand of this pool has posted, as [`Hand::take`](crate::Hand::take) does.
     pub fn take(&self, number: u32) -> Result<OwnedTag<T>> {
-        let (shared, hand) = self.enter();
+        let (shared, mut hand) = self.enter();
         let held = hand.member.take(number)?;
-        drop(hand);
-        Ok(OwnedTag::new(shared.clone(), held))
+        Ok(shared.tag(&mut hand, held))
     }
 
-    /// Gives back what the hands keep, and wakes whoever waits for a tag, as [`Hand::flush`] does with each of them.
+    /// Gives back what the hands keep, and wakes whoever waits for a tag, as [`Hand::flush`](crate::Hand::flush) does
+    /// with each of them.
     pub fn flush(&self) {
         self.inner.hands.iter().for_each(SharedHand::flush);
     }

@@ -49,9 +49,13 @@ pub trait Sleeper: Send + Sync {
     /// Sleeps while the word is `expected`, until [`wake`](Sleeper::wake) is called for it, and at most until `end`, by
     /// the clock of [`now`](Sleeper::now). It may return at any time. A call for a word that is not `expected` returns
     /// at once, also if the word changes meanwhile: no wake is lost between a look at the word and the sleep.
+    ///
+    /// A panic ends a wait for a tag or a hand, in a queue or of a drain, as a limit does, and goes on to the caller.
+    /// In a sleep that others end in a moment, as behind a lock, it ends the program.
     fn sleep(&self, word: &AtomicU32, expected: u32, end: Option<Duration>);
 
-    /// Wakes all threads that sleep on the word, which has changed.
+    /// Wakes all threads that sleep on the word, which has changed. A panic ends the program, as some might sleep for
+    /// ever.
     fn wake(&self, word: &AtomicU32);
 
     /// Returns the time by a clock that never goes back, from any beginning. If it returns [`Duration::MAX`] there is
@@ -68,6 +72,28 @@ pub trait Sleeper: Send + Sync {
     fn processors(&self) -> usize {
         1
     }
+}
+
+/// Makes a call of the program's code that must not unwind, as others might then sleep for ever.
+pub(crate) fn or_end<R>(why: &'static str, call: impl FnOnce() -> R) -> R {
+    /// A panic while another one unwinds ends the program.
+    struct Ends(&'static str);
+
+    impl Drop for Ends {
+        fn drop(&mut self) {
+            panic!("{}", self.0);
+        }
+    }
+
+    let ends = Ends(why);
+    let answer = call();
+    core::mem::forget(ends);
+    answer
+}
+
+/// Wakes all threads that sleep on the word.
+pub(crate) fn wake(sleeper: &dyn Sleeper, word: &AtomicU32) {
+    or_end("a wake panicked", || sleeper.wake(word));
 }
 
 /// Returns how a pool's threads sleep if it was opened without a sleeper of the program's: by the system (a futex on

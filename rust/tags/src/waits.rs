@@ -1,14 +1,16 @@
 //! Waiting for a tag of a set, asleep: round by round, until a tag is won, or the time is up, or waits are stopped.
 
-use crate::allocator::{Due, Held, Next, Turn, Waiter};
+use crate::allocator::{Due, Next, Turn};
 use crate::bell::Stops;
 use crate::error::{Error, Result};
 use crate::future::GetAsync;
-use crate::gate::{deadline, is_past, Counted};
+use crate::gate::deadline;
 use crate::hand::Hand;
 use crate::options::Kind;
 use crate::tag::Tag;
 use core::time::Duration;
+
+mod sleeping;
 
 impl Kind {
     /// Why nobody waits for a tag of this kind where there are none.
@@ -103,31 +105,6 @@ impl<T> Hand<T> {
         }
         let won = self.sleep_until(kind, end)?;
         Ok(won.map(|held| Tag::new(self, held)))
-    }
-
-    fn sleep_until(&self, kind: Kind, end: Option<Duration>) -> Result<Option<Held>> {
-        let bell = &self.home.bell;
-        let begin = bell.stops();
-        let _counted = Counted::new(bell.waiting());
-        let (mut is_over, mut turn) = (false, Turn::Next);
-        loop {
-            let (next, due) = self.member.wait_on(kind, Waiter::Sleeper, is_over, turn);
-            bell.wake(due);
-            match next? {
-                Next::Won(held) => {
-                    self.see_to_lists();
-                    return Ok(Some(held));
-                }
-                Next::Over if bell.has_ended(begin) => return Err(Error::Stopped),
-                Next::Over => return Ok(None),
-                Next::Sleep => turn = Turn::Same,
-            }
-            is_over = bell.has_ended(begin) || is_past(bell.sleeper, end);
-            if !is_over {
-                bell.sleep(kind, self.member.number(), end);
-                is_over = bell.has_ended(begin);
-            }
-        }
     }
 
     /// Takes a free ordinary tag, and sleeps up to this long while there is none. `None` means that the time is up.

@@ -1,7 +1,9 @@
 //! Tags that are posted and taken together: all of them or none, with their slots and their values.
+use asleep::Asleep;
 use std::thread;
-use std::time::Duration;
 use tags::{Batch, Error, Hand, Numbers, Options, Pool, Shift};
+
+mod asleep;
 
 /// Two reserved tags, then ten ordinary ones in words of four.
 fn open() -> Pool<u64> {
@@ -105,7 +107,10 @@ fn what_is_left_of_a_batch_goes_back_as_one() {
     assert!((third.number(), busy(&hand)) == (4, 4) && batch.numbers().eq([2, 3, 5]));
     drop(third);
     assert_eq!((busy(&hand), batch.has(4), batch.read(4)), (3, false, None));
-    drop(batch);
+    let mut tags = batch.into_tags();
+    let first = tags.next();
+    drop(tags);
+    assert_eq!((busy(&hand), first.map(|tag| tag.number())), (1, Some(2)));
     assert_eq!(busy(&hand), 0);
 }
 
@@ -123,27 +128,23 @@ fn an_empty_batch_posts_nothing() {
 /// A post that finds somebody waiting gives back what the hand keeps.
 #[test]
 fn whoever_waits_is_told_of_a_kept_tag() {
+    static ASLEEP: Asleep = Asleep::new();
     let options = Options {
         shift: Shift::Of(2),
         cache: 2,
         ..Options::new(4, 2)
     };
-    let pool = Pool::open(&options).unwrap();
+    let pool = Pool::open_with_sleeper(&options, &ASLEEP, |_| ()).unwrap();
     let (hand, waiter) = (pool.join_in_place().unwrap(), pool.join().unwrap());
     let batch = hand.get_batch(3).unwrap().unwrap();
     drop(hand.get().unwrap().unwrap());
     assert_eq!(busy(&hand), 4);
-    let sleeper = thread::spawn(move || {
-        let tag = waiter.get_timeout(Duration::from_secs(60)).unwrap();
-        tag.map(|it| it.number())
-    });
     // A post before the other hand waits leaves the kept tag where it is.
-    let mut numbers = batch.post();
-    while !sleeper.is_finished() {
-        numbers = hand.take_batch(numbers).unwrap().post();
-        thread::sleep(Duration::from_millis(1));
-    }
-    assert_eq!(sleeper.join().unwrap(), Some(3));
+    let numbers = batch.post();
+    let sleeper = thread::spawn(move || waiter.get_blocking().map(|tag| tag.number()));
+    ASLEEP.wait_for(1);
+    let numbers = hand.take_batch(numbers).unwrap().post();
+    assert_eq!(sleeper.join().unwrap(), Ok(3));
     assert!(hand.take_batch(numbers).is_ok());
 }
 

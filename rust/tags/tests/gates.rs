@@ -1,8 +1,11 @@
 //! Waits for a hand, and for all tags or those of a list to be back.
+use asleep::Asleep;
 use std::sync::atomic::{AtomicBool, AtomicU32, AtomicU64, Ordering::SeqCst};
 use std::thread;
 use std::time::Duration;
 use tags::{Error, Options, Pool};
+
+mod asleep;
 
 /// Longer than any test takes.
 const LATE: Duration = Duration::from_secs(600);
@@ -50,6 +53,25 @@ fn a_resize_beside_joins() {
     });
 }
 
+/// Whoever gets and drops all hands finds all of them back, whichever thread dropped them before.
+#[test]
+fn all_hands_are_back_once_others_can_have_them() {
+    for round in 0..2000 {
+        let pool = Pool::open(&Options::new(64, 2)).unwrap();
+        let hand = pool.join().unwrap();
+        let shared = pool.join().unwrap().into_shared();
+        thread::scope(|threads| {
+            threads.spawn(move || drop(hand.get().unwrap()));
+            threads.spawn(move || drop(shared.get().unwrap()));
+            drop([(); 2].map(|()| pool.join_blocking().unwrap()));
+            match round % 2 {
+                0 => assert_eq!(pool.resize(128), Ok(())),
+                _ => assert!(pool.close().is_ok()),
+            }
+        });
+    }
+}
+
 fn drain_beside_threads(cache: u32) {
     let options = Options {
         cache,
@@ -87,13 +109,14 @@ fn drains() {
 
 #[test]
 fn a_stop_ends_waits_for_a_hand_and_no_drain() {
-    let pool = Pool::open(&Options::new(2, 1)).unwrap();
+    static ASLEEP: Asleep = Asleep::new();
+    let pool = Pool::open_with_sleeper(&Options::new(2, 1), &ASLEEP, |_| ()).unwrap();
     let hand = pool.join().unwrap();
     let number = hand.get().unwrap().unwrap().into_number();
     thread::scope(|threads| {
         let join = threads.spawn(|| pool.join_blocking().map(|_| ()));
         let drain = threads.spawn(|| pool.drain());
-        thread::sleep(Duration::from_millis(2));
+        ASLEEP.wait_for(2);
         pool.stop();
         assert_eq!(join.join().unwrap(), Err(Error::Stopped));
         assert!(!drain.is_finished());
@@ -102,14 +125,6 @@ fn a_stop_ends_waits_for_a_hand_and_no_drain() {
     });
     pool.resume();
     assert!(hand.get_blocking().is_ok());
-}
-
-/// Returns once so many wait, and sleep.
-fn await_waits(pool: &Pool, waiting: u32) {
-    while pool.waiting() < waiting {
-        thread::yield_now();
-    }
-    thread::sleep(Duration::from_millis(20));
 }
 
 #[test]
@@ -141,28 +156,32 @@ fn lists_and_their_limits() {
 /// A tag that was back is not waited for again, though it never was at the same time as the other.
 #[test]
 fn one_after_the_other() {
-    let pool = Pool::open(&Options::new(8, 1)).unwrap();
+    static ASLEEP: Asleep = Asleep::new();
+    let pool = Pool::open_with_sleeper(&Options::new(8, 1), &ASLEEP, |_| ()).unwrap();
     let hand = pool.join().unwrap();
     let get = |number| hand.get_exactly(number).unwrap().unwrap();
     let (mut first, mut second, third) = (get(2), get(3), get(4));
     thread::scope(|threads| {
         let last = threads.spawn(|| pool.drain_list(&[4]));
         let both = threads.spawn(|| pool.drain_list_timeout(&[2, 3, 2], LATE));
-        await_waits(&pool, 2);
+        ASLEEP.wait_for(2);
         while !both.is_finished() {
             drop(first);
             first = get(2);
-            thread::sleep(Duration::from_millis(2));
+            thread::yield_now();
             drop(second);
             second = get(3);
-            thread::sleep(Duration::from_millis(2));
+            thread::yield_now();
         }
         assert_eq!(both.join().unwrap(), Ok(true));
         // Neither another tag nor a stop ends the wait.
         drop((first, second));
         pool.stop();
         pool.resume();
-        thread::sleep(Duration::from_millis(20));
+        for _ in 0..1000 {
+            drop(get(2));
+            thread::yield_now();
+        }
         assert!(!last.is_finished());
         drop(third);
         assert_eq!(last.join().unwrap(), Ok(()));
@@ -173,19 +192,20 @@ fn one_after_the_other() {
 /// What a hand keeps is busy, until it goes back with the hand's next clear, or by a flush.
 #[test]
 fn lists_of_kept_tags() {
+    static ASLEEP: Asleep = Asleep::new();
     let options = Options {
         cache: 4,
         ..Options::new(8, 1)
     };
     for by_flush in [false, true] {
-        let pool = Pool::open(&options).unwrap();
+        let pool = Pool::open_with_sleeper(&options, &ASLEEP, |_| ()).unwrap();
         let hand = pool.join().unwrap();
         let other = hand.get_exactly(3).unwrap().unwrap();
         drop(hand.get_exactly(2).unwrap().unwrap());
         assert_eq!(pool.drain_list_timeout(&[2], Duration::from_millis(5)), Ok(false));
         thread::scope(|threads| {
             threads.spawn(|| pool.drain_list(&[2]).unwrap());
-            await_waits(&pool, 1);
+            ASLEEP.wait_for(1);
             if by_flush {
                 hand.flush();
             }
@@ -211,7 +231,7 @@ fn lists_beside_requests(cache: u32) {
             let tag = hand.get_blocking().unwrap();
             let request = &requests[tag.number() as usize];
             request.store(1 + begun.fetch_add(1, SeqCst), SeqCst);
-            thread::sleep(Duration::from_micros(u64::from(tag.number() % 2) * 50));
+            (0..tag.number() % 4).for_each(|_| thread::yield_now());
             request.store(0, SeqCst);
         }
     };

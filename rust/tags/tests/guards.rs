@@ -1,8 +1,11 @@
 //! Guards that give their tags back, and refused calls.
+use asleep::Asleep;
 use std::sync::atomic::{AtomicU64, Ordering::Relaxed};
 use std::thread;
 use std::time::Duration;
 use tags::{Error, Kind, Options, Pool, Shift};
+
+mod asleep;
 
 fn open(total: u32, reserved: u32, hands: u32) -> Pool {
     let options = Options {
@@ -142,16 +145,14 @@ fn a_waiter_gets_the_only_tag() {
 
 #[test]
 fn a_sleeper_gets_one_of_seven_tags() {
-    let pool = open(64, 0, 2);
+    static ASLEEP: Asleep = Asleep::new();
+    let pool = Pool::open_with_sleeper(&Options::new(64, 2), &ASLEEP, |_| ()).unwrap();
     let (hand, waiter) = (pool.join_in_place().unwrap(), pool.join().unwrap());
     let mut tags: Vec<_> = (0..64).map(|_| hand.get().unwrap().unwrap()).collect();
-    let sleeper = thread::spawn(move || {
-        let tag = waiter.get_timeout(Duration::from_secs(60)).unwrap();
-        tag.is_some()
-    });
-    thread::sleep(Duration::from_millis(20));
+    let sleeper = thread::spawn(move || waiter.get_blocking().map(|tag| tag.number() >= 57));
+    ASLEEP.wait_for(1);
     tags.truncate(57);
-    assert!(sleeper.join().unwrap());
+    assert_eq!(sleeper.join().unwrap(), Ok(true));
 }
 
 #[test]

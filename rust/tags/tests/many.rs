@@ -33,7 +33,6 @@ fn as_many_tags_are_taken_as_asked_for() {
     let (hand, other) = (pool.join_in_place().unwrap(), pool.join_in_place().unwrap());
     let six = hand.get_many(6).unwrap().unwrap();
     assert_eq!(numbers(&six), [2, 3, 4, 5, 6, 7]);
-    assert!(hand.get_many(0).unwrap().unwrap().is_empty());
     let four = other.get_many(4).unwrap().unwrap();
     assert_eq!(numbers(&four), [8, 9, 10, 11]);
     drop((six, four));
@@ -58,10 +57,10 @@ fn too_few_tags_are_left_to_others() {
 }
 
 #[test]
-fn more_than_all_ordinary_tags_are_refused() {
+fn no_tags_and_more_than_all_ordinary_ones_are_refused() {
     let pool = open();
     let hand = pool.join_in_place().unwrap();
-    for n in [11, 10_240, 10_241, u32::MAX] {
+    for n in [0, 11, 10_240, 10_241, u32::MAX] {
         assert_eq!(hand.get_many(n).unwrap_err(), Error::BadCount);
     }
     assert_eq!(busy(&hand), 0);

@@ -1,18 +1,14 @@
-//! As many threads as tags: in each round every thread gets a tag, meets the others, and gives its tag back. Nobody
-//! should ever wait for long, so a watchdog ends the program where no round ends for ten seconds.
+//! As many threads as tags: in each round every thread gets a tag, meets the others, and gives its tag back. If a
+//! wakeup is lost, no other round ends.
 use std::future::Future;
 use std::pin::pin;
-use std::process::exit;
-use std::sync::atomic::{AtomicBool, AtomicU64, Ordering::SeqCst};
 use std::sync::{Arc, Barrier};
 use std::task::{Context, Poll, Wake, Waker};
 use std::thread::{self, Thread};
-use std::time::{Duration, Instant};
+use std::time::Duration;
 use tags::{Hand, Options, Pool, SharedHand, Shift};
 
-/// How long each setting runs.
-const TIME: Duration = Duration::from_millis(600);
-const PATIENCE: Duration = Duration::from_secs(10);
+const ROUNDS: u32 = 4000;
 
 struct Unpark(Thread);
 
@@ -33,80 +29,41 @@ fn block_on<T>(future: impl Future<Output = T>) -> T {
     }
 }
 
-/// What the threads of a meeting share.
-struct Meeting {
-    barrier: Barrier,
-    rounds: AtomicU64,
-    is_over: AtomicBool,
-    ends: AtomicBool,
-}
-
-impl Meeting {
-    fn of(threads: usize) -> Meeting {
-        Meeting {
-            barrier: Barrier::new(threads),
-            rounds: AtomicU64::new(0),
-            is_over: AtomicBool::new(false),
-            ends: AtomicBool::new(false),
-        }
-    }
-
-    /// Gets a tag in each round, and gives it back once all threads have one.
-    fn attend<T>(&self, mut get: impl FnMut() -> T) {
-        while !self.ends.load(SeqCst) {
-            let tag = get();
-            if self.barrier.wait().is_leader() {
-                self.rounds.fetch_add(1, SeqCst);
-                self.ends.store(self.is_over.load(SeqCst), SeqCst);
-            }
-            drop(tag);
-            self.barrier.wait();
-        }
-    }
-
-    fn watch(&self, pool: &Pool) {
-        let watcher = pool.join().unwrap();
-        let (start, mut last, mut moved) = (Instant::now(), 0, Instant::now());
-        while start.elapsed() < TIME || moved.elapsed() > Duration::from_millis(300) {
-            thread::sleep(Duration::from_millis(50));
-            let now = self.rounds.load(SeqCst);
-            if now != last {
-                (last, moved) = (now, Instant::now());
-            } else if moved.elapsed() > PATIENCE {
-                let sizes = watcher.show(tags::Kind::Ordinary);
-                eprintln!("hung after {last} rounds: {sizes:?}");
-                exit(1);
-            }
-        }
-        self.is_over.store(true, SeqCst);
+/// Gets a tag in each round, and gives it back once all threads have one.
+fn attend<T>(meeting: &Barrier, mut get: impl FnMut() -> T) {
+    for _ in 0..ROUNDS {
+        let tag = get();
+        meeting.wait();
+        drop(tag);
+        meeting.wait();
     }
 }
 
 /// The four ways to wait with a hand of one's own.
-fn attend_alone(meeting: &Meeting, hand: &Hand, way: usize) {
+fn attend_alone(meeting: &Barrier, hand: &Hand, way: usize) {
     let long = Duration::from_secs(3600);
     match way % 3 {
-        0 => meeting.attend(|| hand.get_blocking().unwrap()),
-        1 => meeting.attend(|| hand.get_timeout(long).unwrap().unwrap()),
-        _ => meeting.attend(|| block_on(hand.get_async()).unwrap()),
+        0 => attend(meeting, || hand.get_blocking().unwrap()),
+        1 => attend(meeting, || hand.get_timeout(long).unwrap().unwrap()),
+        _ => attend(meeting, || block_on(hand.get_async()).unwrap()),
     }
 }
 
-fn attend_together(meeting: &Meeting, hand: &SharedHand, way: usize) {
+fn attend_together(meeting: &Barrier, hand: &SharedHand, way: usize) {
     match way % 2 {
-        0 => meeting.attend(|| hand.get_blocking().unwrap()),
-        _ => meeting.attend(|| block_on(hand.get_async()).unwrap()),
+        0 => attend(meeting, || hand.get_blocking().unwrap()),
+        _ => attend(meeting, || block_on(hand.get_async()).unwrap()),
     }
 }
 
 fn run(options: Options, ways: [usize; 2]) {
     let tags = options.total as usize;
     let pool = Pool::open(&Options {
-        hands: options.total + 2,
+        hands: options.total + 1,
         ..options
     });
     let pool = pool.unwrap();
-    let (meeting, shared) = (Meeting::of(tags), pool.join().unwrap().into_shared());
+    let (meeting, shared) = (Barrier::new(tags), pool.join().unwrap().into_shared());
     thread::scope(|scope| {
         for number in 0..tags {
             let (hand, shared, meeting) = (pool.join().unwrap(), shared.clone(), &meeting);
@@ -116,7 +73,6 @@ fn run(options: Options, ways: [usize; 2]) {
                 _ => attend_alone(meeting, &hand, way),
             });
         }
-        meeting.watch(&pool);
     });
     drop(shared);
     let totals = pool.close().unwrap();

@@ -1,4 +1,5 @@
 //! Tags that keep their hand alive, and the hand that they share.
+use std::sync::Barrier;
 use std::thread;
 use std::time::{Duration, Instant};
 use tags::{Error, Options, OwnedTag, Pool, SharedHand};
@@ -29,6 +30,39 @@ fn a_tag_keeps_its_hand_and_goes_back_on_any_thread() {
     assert!(pool.join().is_ok());
     let totals = pool.close().unwrap();
     assert_eq!((totals.got, totals.back), (3, 3));
+}
+
+/// In whichever order they are dropped, also where a tag makes a new handle after the others are gone.
+#[test]
+fn a_hand_goes_back_with_the_last_of_its_handles_and_tags() {
+    const TAGS: usize = 3;
+    let pool = open(TAGS as u32, 1);
+    for round in 0..2000 {
+        let hand = join(&pool);
+        let tags: Vec<OwnedTag> = (0..TAGS).map(|_| hand.get().unwrap().unwrap()).collect();
+        let begin = Barrier::new(TAGS + 1);
+        thread::scope(|threads| {
+            for (number, tag) in tags.into_iter().enumerate() {
+                let begin = &begin;
+                threads.spawn(move || {
+                    begin.wait();
+                    let handle = tag.hand().clone();
+                    if (round + number) % 2 == 0 {
+                        let _ = tag.into_number();
+                    } else {
+                        drop(tag);
+                    }
+                    drop(handle);
+                });
+            }
+            begin.wait();
+            drop(hand);
+        });
+        let hand = join(&pool);
+        (0..TAGS as u32).for_each(|number| hand.claim(number).map_or((), drop));
+    }
+    let totals = pool.close().unwrap();
+    assert_eq!((totals.got, totals.held), (totals.back, 0));
 }
 
 #[test]

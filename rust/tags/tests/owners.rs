@@ -194,7 +194,7 @@ fn clean_up(pool: &Pool<u32>, owners: &Owners) {
 fn run(options: Options) {
     let options = Options { hands: 5, ..options };
     let pool = Pool::open_with(&options, |number| number).unwrap();
-    let (owners, is_over) = (Owners::new(), AtomicBool::new(false));
+    let (owners, resized, is_over) = (Owners::new(), AtomicU32::new(0), AtomicBool::new(false));
     let barrier = Barrier::new(THREADS as usize);
     let work = |me: u32| {
         let mut random = Random(u64::from(me).wrapping_mul(0x9e37_79b9_7f4a_7c15));
@@ -214,21 +214,24 @@ fn run(options: Options) {
                 (0..CALLS).for_each(|_| call(&hand, &owners, me, &mut random));
                 drop(hand);
             }
-            // Now and then all hands and all tags are back.
+            // Now and then all hands and all tags are back, until a resize has found them so.
             if barrier.wait().is_leader() {
                 clean_up(&pool, &owners);
+                let before = resized.load(SeqCst);
+                while resized.load(SeqCst) == before {
+                    thread::yield_now();
+                }
             }
-            thread::sleep(Duration::from_micros(500));
+            barrier.wait();
         }
     };
-    let mut resized = 0;
     thread::scope(|threads| {
         let workers: Vec<_> = (1..=THREADS).map(|me| threads.spawn(move || work(me))).collect();
         threads.spawn(|| {
             while !is_over.load(SeqCst) {
                 let (sizes, busy) = (pool.show(Kind::Ordinary), pool.busy_tags().count());
                 assert!(sizes.busy <= sizes.depth && busy <= MOST && pool.waiting() < 64);
-                thread::sleep(Duration::from_micros(200));
+                thread::yield_now();
             }
         });
         let mut total = options.total;
@@ -239,10 +242,12 @@ fn run(options: Options) {
                 options.total
             };
             match pool.resize_with(total, |number| number) {
-                Ok(()) => resized += 1,
+                Ok(()) => {
+                    resized.fetch_add(1, SeqCst);
+                }
                 Err(error) => assert!(matches!(error, Error::HandsOut | Error::InUse)),
             }
-            thread::sleep(Duration::from_micros(100));
+            thread::yield_now();
         }
         is_over.store(true, SeqCst);
     });
@@ -250,8 +255,9 @@ fn run(options: Options) {
     pool.resize_with(options.total, |number| number).unwrap();
     let totals = pool.close().unwrap();
     assert_eq!((totals.got, totals.held, totals.posted), (totals.back, 0, 0));
+    let resized = resized.into_inner();
     println!("{} tags taken, {resized} resizes beside", totals.got);
-    assert!(totals.got > 1000 && resized > 0);
+    assert!(totals.got > 1000 && resized >= ROUNDS);
 }
 
 fn random_of(me: u32, round: u32) -> Random {

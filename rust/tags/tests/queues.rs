@@ -1,5 +1,6 @@
 //! Queues of submitted tags: who gets which tag, when threads and futures that wait are woken, what is refused, and threads that
 //! submit beside others that take tags.
+use asleep::Asleep;
 use std::future::Future;
 use std::pin::Pin;
 use std::sync::atomic::{AtomicUsize, Ordering::SeqCst};
@@ -8,6 +9,8 @@ use std::task::{Context, Poll, Wake};
 use std::thread;
 use std::time::Duration;
 use tags::{Error, Hand, Numbers, Options, Pool, Result, Tag, Totals};
+
+mod asleep;
 
 const SHORT: Duration = Duration::from_millis(5);
 const LONG: Duration = Duration::from_secs(3600);
@@ -216,7 +219,8 @@ fn a_batch_with_a_queued_tag_is_not_taken() -> Result<()> {
 
 #[test]
 fn a_submit_wakes_one_that_sleeps() {
-    let pool = Pool::open(&options(4, 4)).unwrap();
+    static ASLEEP: Asleep = Asleep::new();
+    let pool = Pool::open_with_sleeper(&options(4, 4), &ASLEEP, |_| ()).unwrap();
     let submitter = pool.join().unwrap();
     thread::scope(|threads| {
         let workers = [(); 3].map(|()| {
@@ -226,7 +230,7 @@ fn a_submit_wakes_one_that_sleeps() {
                 (tag.read(), tag.into_number())
             })
         });
-        thread::sleep(Duration::from_millis(30));
+        ASLEEP.wait_for(3);
         submit_some(&submitter, 3);
         let mut values = workers.map(|it| it.join().unwrap().0);
         values.sort_unstable();
@@ -250,7 +254,7 @@ fn those_that_wait_in_queues_are_counted() -> Result<()> {
     thread::scope(|threads| {
         threads.spawn(move || assert_eq!(hand.next_blocking(0).err(), Some(Error::Stopped)));
         while pool.waiting() < 3 {
-            thread::sleep(Duration::from_millis(1));
+            thread::yield_now();
         }
         drop(tag);
         assert_eq!(pool.waiting(), 2);
@@ -263,14 +267,15 @@ fn those_that_wait_in_queues_are_counted() -> Result<()> {
 
 #[test]
 fn a_sleep_ends_in_time_and_with_a_tag() {
-    let pool = Pool::open(&options(4, 2)).unwrap();
+    static ASLEEP: Asleep = Asleep::new();
+    let pool = Pool::open_with_sleeper(&options(4, 2), &ASLEEP, |_| ()).unwrap();
     let (hand, other) = (pool.join().unwrap(), pool.join().unwrap());
     for time in [Duration::ZERO, SHORT] {
         assert!(hand.next_timeout(0, time).unwrap().is_none());
     }
     thread::scope(|threads| {
         let waiter = threads.spawn(move || next_in_time(&hand));
-        thread::sleep(Duration::from_millis(30));
+        ASLEEP.wait_for(1);
         submit(&other, 0, 2);
         assert_eq!(waiter.join().unwrap(), Some(2));
     });
@@ -282,7 +287,8 @@ fn next_in_time(hand: &Hand) -> Option<u64> {
 
 #[test]
 fn a_stop_ends_each_sleep_and_leaves_what_is_queued() {
-    let pool = Pool::open(&options(4, 5)).unwrap();
+    static ASLEEP: Asleep = Asleep::new();
+    let pool = Pool::open_with_sleeper(&options(4, 5), &ASLEEP, |_| ()).unwrap();
     let submitter = pool.join().unwrap();
     thread::scope(|threads| {
         let [first, second, third] = [(); 3].map(|()| pool.join().unwrap());
@@ -291,7 +297,10 @@ fn a_stop_ends_each_sleep_and_leaves_what_is_queued() {
             threads.spawn(move || second.next_timeout(0, LONG).map(drop)),
             threads.spawn(move || block_on(third.next_async(0)).map(drop)),
         ];
-        thread::sleep(Duration::from_millis(30));
+        ASLEEP.wait_for(2);
+        while pool.waiting() < 3 {
+            thread::yield_now();
+        }
         pool.stop();
         for wait in waits {
             assert_eq!(wait.join().unwrap(), Err(Error::Stopped));

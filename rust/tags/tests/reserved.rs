@@ -1,4 +1,5 @@
 //! Waits for a reserved tag beside free ordinary ones, and who is told of which tag.
+use asleep::Asleep;
 use std::future::Future;
 use std::pin::Pin;
 use std::sync::atomic::{AtomicUsize, Ordering::SeqCst};
@@ -6,40 +7,39 @@ use std::sync::Arc;
 use std::task::{Context, Poll, Wake, Waker};
 use std::thread;
 use std::time::{Duration, Instant};
-use tags::{Error, Options, Pool, Result};
+use tags::{default_sleeper, Error, Options, Pool, Result, Sleeper};
+
+mod asleep;
 
 /// Two reserved tags, 0 and 1, then two ordinary ones.
-fn open(hands: u32, cache: u32) -> Pool {
+fn open_with(hands: u32, cache: u32, sleeper: &'static dyn Sleeper) -> Pool {
     let options = Options {
         reserved: 2,
         cache,
         ..Options::new(4, hands)
     };
-    Pool::open(&options).unwrap()
+    Pool::open_with_sleeper(&options, sleeper, |_| ()).unwrap()
 }
 
-fn wait_until_one_waits(pool: &Pool) {
-    while pool.waiting() == 0 {
-        thread::yield_now();
-    }
-    thread::sleep(Duration::from_millis(20));
+fn open(hands: u32, cache: u32) -> Pool {
+    open_with(hands, cache, default_sleeper())
 }
 
 #[test]
 fn a_sleeper_goes_past_ordinary_tags() {
+    static ASLEEP: Asleep = Asleep::new();
     for cache in [0, 2] {
-        let pool = open(3, cache);
+        let pool = open_with(3, cache, &ASLEEP);
         let [holder, waiter, other] = [(); 3].map(|()| pool.join().unwrap());
         let [first, second] = [(); 2].map(|()| holder.get_reserved().unwrap().unwrap());
         assert!(waiter.get_reserved().unwrap().is_none());
         thread::scope(|threads| {
             let waits = threads.spawn(move || waiter.get_reserved_blocking().map(|tag| tag.number()));
-            wait_until_one_waits(&pool);
+            ASLEEP.wait_for(1);
             for _ in 0..100 {
                 drop(other.get_blocking().unwrap());
                 drop(other.get_batch(2).unwrap());
             }
-            thread::sleep(Duration::from_millis(20));
             assert!(!waits.is_finished() && pool.waiting() == 1);
             drop(second);
             assert_eq!(waits.join().unwrap(), Ok(1));
@@ -51,12 +51,13 @@ fn a_sleeper_goes_past_ordinary_tags() {
 
 #[test]
 fn a_sleeper_for_an_ordinary_tag_goes_past_reserved_ones() {
-    let pool = open(2, 0);
+    static ASLEEP: Asleep = Asleep::new();
+    let pool = open_with(2, 0, &ASLEEP);
     let (holder, waiter) = (pool.join().unwrap(), pool.join().unwrap());
     let tags = holder.get_many(2).unwrap().unwrap();
     thread::scope(|threads| {
         let waits = threads.spawn(move || waiter.get_blocking().map(|tag| tag.number() >= 2));
-        wait_until_one_waits(&pool);
+        ASLEEP.wait_for(1);
         (0..100).for_each(|_| drop(holder.get_reserved_blocking().unwrap()));
         assert!(!waits.is_finished());
         drop(tags);
@@ -128,17 +129,18 @@ fn a_wait_that_can_not_be_is_refused() {
 
 #[test]
 fn a_pool_may_have_reserved_tags_alone() {
-    let pool = Pool::open(&Options {
+    static ASLEEP: Asleep = Asleep::new();
+    let options = Options {
         reserved: 1,
         ..Options::new(1, 2)
-    });
-    let pool = pool.unwrap();
+    };
+    let pool = Pool::open_with_sleeper(&options, &ASLEEP, |_| ()).unwrap();
     let (hand, waiter) = (pool.join().unwrap(), pool.join().unwrap());
     assert_eq!(hand.get_blocking().err(), Some(Error::NoSuchTag));
     let tag = hand.get_reserved_blocking().unwrap();
     thread::scope(|threads| {
         let waits = threads.spawn(move || waiter.get_reserved_blocking().map(|tag| tag.number()));
-        wait_until_one_waits(&pool);
+        ASLEEP.wait_for(1);
         drop(tag);
         assert_eq!(waits.join().unwrap(), Ok(0));
     });

@@ -1,9 +1,13 @@
 //! Hands that threads share: more threads than hands, threads that come and go, and tags that others drop.
-use std::sync::atomic::{AtomicBool, Ordering::Relaxed};
-use std::sync::Mutex;
+use std::cell::Cell;
+use std::future::Future;
+use std::pin::Pin;
+use std::sync::atomic::{AtomicBool, AtomicU32, Ordering::Relaxed};
+use std::sync::{Arc, Mutex};
+use std::task::{Context, Poll, Wake, Waker};
 use std::thread;
 use std::time::Duration;
-use tags::{Error, Options, OwnedTag, Pool, SharedHands};
+use tags::{default_sleeper, Error, Options, OwnedTag, Pool, SharedHands, Sleeper};
 
 const THREADS: usize = 12;
 
@@ -146,6 +150,65 @@ fn nobody_sleeps_beside_what_these_hands_keep() {
     hands.flush();
     assert!(own.get().unwrap().is_some());
     drop((hands, own));
+    close(pool);
+}
+
+/// Each thread says on which processor it runs.
+struct Processors;
+
+thread_local! {
+    static PROCESSOR: Cell<usize> = const { Cell::new(0) };
+}
+
+impl Sleeper for Processors {
+    fn sleep(&self, word: &AtomicU32, expected: u32, end: Option<Duration>) {
+        default_sleeper().sleep(word, expected, end);
+    }
+
+    fn wake(&self, word: &AtomicU32) {
+        default_sleeper().wake(word);
+    }
+
+    fn now(&self) -> Duration {
+        default_sleeper().now()
+    }
+
+    fn processor(&self) -> usize {
+        PROCESSOR.get()
+    }
+}
+
+#[derive(Default)]
+struct Woken(AtomicBool);
+
+impl Wake for Woken {
+    fn wake(self: Arc<Self>) {
+        self.0.store(true, Relaxed);
+    }
+}
+
+#[test]
+fn no_future_waits_beside_what_these_hands_keep() {
+    let options = Options {
+        cache: 2,
+        ..Options::new(1, 2)
+    };
+    let pool = Pool::open_with_sleeper(&options, &Processors, |_| ()).unwrap();
+    let hands = pool.share(2).unwrap();
+    for round in 0..4 {
+        // The hand of this processor keeps it, and that of the other one finds none.
+        PROCESSOR.set(round % 2);
+        drop(hands.get().unwrap().unwrap());
+        PROCESSOR.set(1 - round % 2);
+        assert!(hands.get().unwrap().is_none());
+        let (mut future, woken) = (hands.get_async(), Arc::<Woken>::default());
+        let waker = Waker::from(Arc::clone(&woken));
+        let mut poll = || Pin::new(&mut future).poll(&mut Context::from_waker(&waker));
+        assert!(poll().is_pending());
+        assert!(woken.0.load(Relaxed));
+        assert!(matches!(poll(), Poll::Ready(Ok(_))));
+    }
+    drop(hands);
     close(pool);
 }
 

@@ -1,9 +1,14 @@
 //! Pools whose threads sleep by means of the program's, as in a kernel.
+use asleep::Asleep;
+use std::cell::Cell;
+use std::panic::{catch_unwind, AssertUnwindSafe};
 use std::sync::atomic::{AtomicBool, AtomicU32, AtomicUsize, Ordering::SeqCst};
 use std::sync::{Condvar, Mutex};
 use std::thread;
 use std::time::{Duration, Instant};
-use tags::{default_sleeper, Error, Options, Pool, Sleeper};
+use tags::{default_sleeper, Error, Hand, Options, Pool, Sleeper};
+
+mod asleep;
 
 /// One list of all that sleep, which every wake wakes.
 struct Own {
@@ -84,8 +89,11 @@ fn each_kind_of_wait_sleeps_by_it() {
     assert!(!pool.drain_timeout(Duration::from_millis(5)));
     assert!(begin.elapsed() >= Duration::from_millis(10));
     thread::scope(|threads| {
+        let sleeps = OWN.sleeps.load(SeqCst);
         let drain = threads.spawn(|| pool.drain());
-        thread::sleep(Duration::from_millis(2));
+        while OWN.sleeps.load(SeqCst) == sleeps {
+            thread::yield_now();
+        }
         drop(tag);
         drain.join().unwrap();
     });
@@ -179,4 +187,87 @@ fn a_stop_ends_a_sleep_from_which_the_thread_wakes_after_the_resume() {
     });
     drop(tag);
     assert!(holder.get_blocking().is_ok());
+}
+
+thread_local! {
+    /// How many sleeps and looks at the clock of this thread succeed until one panics; below 0 none does.
+    static LEFT: Cell<i32> = const { Cell::new(-1) };
+}
+
+fn look() {
+    if LEFT.replace(LEFT.get() - 1) == 0 {
+        panic!("cancelled");
+    }
+}
+
+/// Panics as a runtime does that cancels a thread.
+struct Cancels(Asleep);
+
+static CANCELS: Cancels = Cancels(Asleep::new());
+
+impl Sleeper for Cancels {
+    fn sleep(&self, word: &AtomicU32, expected: u32, end: Option<Duration>) {
+        look();
+        self.0.sleep(word, expected, end);
+    }
+
+    fn wake(&self, word: &AtomicU32) {
+        self.0.wake(word);
+    }
+
+    fn now(&self) -> Duration {
+        look();
+        self.0.now()
+    }
+}
+
+const SHORT: Duration = Duration::from_millis(5);
+
+/// Each way in which a thread sleeps for what does not come.
+const WAITS: [fn(&Pool, Hand); 8] = [
+    |_, hand| drop(hand.get_timeout(SHORT)),
+    |_, hand| drop(hand.get_reserved_timeout(SHORT)),
+    |_, hand| drop(hand.next_timeout(0, SHORT)),
+    |_, hand| drop(hand.into_shared().get_timeout(SHORT)),
+    |_, hand| drop(hand.into_shared().get_reserved_timeout(SHORT)),
+    |pool, _hand| drop(pool.join_timeout(SHORT)),
+    |pool, _| assert!(!pool.drain_timeout(SHORT)),
+    |pool, _| assert_eq!(pool.drain_list_timeout(&[1], SHORT), Ok(false)),
+];
+
+/// A panic at each sleep and each look at the clock: nothing is left of the wait, and the next tag goes to one that
+/// sleeps.
+#[test]
+fn a_wait_ends_where_the_sleeper_panics() {
+    let options = Options {
+        reserved: 1,
+        queues: 1,
+        ..Options::new(2, 3)
+    };
+    for wait in WAITS {
+        let mut panics = 0;
+        loop {
+            let pool = Pool::open_with_sleeper(&options, &CANCELS, |_| ()).unwrap();
+            let [holder, other, hand] = [(); 3].map(|()| pool.join().unwrap());
+            let tags = (holder.get_blocking().unwrap(), holder.get_reserved_blocking().unwrap());
+            LEFT.set(panics);
+            let cancelled = catch_unwind(AssertUnwindSafe(|| wait(&pool, hand))).is_err();
+            LEFT.set(-1);
+            assert_eq!(pool.waiting(), 0);
+            let same = pool.join().unwrap();
+            thread::scope(|threads| {
+                let waits = threads.spawn(move || other.get_blocking().map(drop));
+                CANCELS.0.wait_for(1);
+                drop(tags);
+                assert_eq!(waits.join().unwrap(), Ok(()));
+            });
+            drop((holder, same));
+            assert_eq!(pool.resize(3), Ok(()));
+            if !cancelled {
+                break;
+            }
+            panics += 1;
+        }
+        assert!(panics > 1);
+    }
 }

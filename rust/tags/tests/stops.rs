@@ -1,4 +1,5 @@
 //! A stop ends each kind of wait, now and from then on, and tags still go back.
+use asleep::Asleep;
 use std::future::Future;
 use std::pin::{pin, Pin};
 use std::sync::Arc;
@@ -6,6 +7,8 @@ use std::task::{Context, Poll, Wake, Waker};
 use std::thread::{self, Thread};
 use std::time::Duration;
 use tags::{Error, Options, Pool, SharedHand};
+
+mod asleep;
 
 struct Unpark(Thread);
 
@@ -26,13 +29,21 @@ fn block_on<T>(future: impl Future<Output = T>) -> T {
     }
 }
 
+/// Waits until so many wait, futures among them.
+fn await_waits(pool: &Pool, count: u32) {
+    while pool.waiting() < count {
+        thread::yield_now();
+    }
+}
+
 #[test]
 fn each_kind_of_wait_ends() {
-    let pool = Pool::open(&Options {
+    static ASLEEP: Asleep = Asleep::new();
+    let options = Options {
         reserved: 1,
         ..Options::new(2, 8)
-    });
-    let pool = pool.unwrap();
+    };
+    let pool = Pool::open_with_sleeper(&options, &ASLEEP, |_| ()).unwrap();
     let holder = pool.join().unwrap();
     let tags = [holder.get().unwrap().unwrap(), holder.get_reserved().unwrap().unwrap()];
     let long = Duration::from_secs(3600);
@@ -57,7 +68,8 @@ fn each_kind_of_wait_ends() {
             scope.spawn(move || third.get_reserved_blocking().map(drop)),
             scope.spawn(move || block_on(fourth.get_reserved_async()).map(drop)),
         ];
-        thread::sleep(Duration::from_millis(30));
+        await_waits(&pool, 11);
+        ASLEEP.wait_for(7);
         pool.stop();
         for wait in waits.into_iter().chain(shared_waits) {
             assert_eq!(wait.join().unwrap(), Err(Error::Stopped));
@@ -75,7 +87,8 @@ fn each_kind_of_wait_ends() {
 
 #[test]
 fn a_wait_that_began_before_a_stop_ends_though_the_pool_is_resumed() {
-    let pool = Pool::open(&Options::new(1, 4)).unwrap();
+    static ASLEEP: Asleep = Asleep::new();
+    let pool = Pool::open_with_sleeper(&Options::new(1, 4), &ASLEEP, |_| ()).unwrap();
     let holder = pool.join().unwrap();
     let tag = holder.get().unwrap().unwrap();
     thread::scope(|scope| {
@@ -89,10 +102,8 @@ fn a_wait_that_began_before_a_stop_ends_though_the_pool_is_resumed() {
             scope.spawn(move || block_on(third.get_async()).map(drop)),
             scope.spawn(|| pool.join_blocking().map(drop)),
         ];
-        while pool.waiting() < 4 {
-            thread::yield_now();
-        }
-        thread::sleep(Duration::from_millis(30));
+        await_waits(&pool, 4);
+        ASLEEP.wait_for(3);
         pool.stop();
         pool.resume();
         for wait in waits.into_iter().take(4) {
@@ -133,7 +144,8 @@ fn a_stop_ends_no_wait_that_began_after_the_resume() {
 
 #[test]
 fn a_thread_sleeps_with_a_hand_whose_future_was_stopped_and_not_polled_since() {
-    let pool = Pool::open(&Options::new(1, 2)).unwrap();
+    static ASLEEP: Asleep = Asleep::new();
+    let pool = Pool::open_with_sleeper(&Options::new(1, 2), &ASLEEP, |_| ()).unwrap();
     let (hand, holder) = (pool.join().unwrap(), pool.join().unwrap());
     let number = holder.get_blocking().unwrap().into_number();
     let mut future = hand.get_async();
@@ -141,12 +153,8 @@ fn a_thread_sleeps_with_a_hand_whose_future_was_stopped_and_not_polled_since() {
     pool.stop();
     pool.resume();
     thread::scope(|scope| {
-        let pool = &pool;
         scope.spawn(move || {
-            while pool.waiting() == 0 {
-                thread::yield_now();
-            }
-            thread::sleep(Duration::from_millis(5));
+            ASLEEP.wait_for(1);
             drop(holder.claim(number).unwrap());
         });
         assert_eq!(hand.get_blocking().unwrap().number(), number);

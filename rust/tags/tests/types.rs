@@ -76,6 +76,31 @@ fn what_can_be_shown_and_moved() {
     is_unpin::<NextAsync<'static>>();
 }
 
+/// A refused submit and a refused close, by `?`.
+fn fail_at<E>(closes: bool) -> Result<(), E>
+where
+    E: From<Error> + for<'a> From<SubmitError<'a>> + From<CloseError>,
+{
+    let pool = Pool::open(&Options::new(1, 1))?;
+    let hand = pool.join()?;
+    if closes {
+        pool.close()?;
+    }
+    hand.get_blocking()?.submit(0)?;
+    Ok(())
+}
+
+#[test]
+fn each_refusal_converts() {
+    type Boxed = Box<dyn std::error::Error>;
+    type Sent = Box<dyn std::error::Error + Send + Sync>;
+    for (closes, error) in [(false, Error::NoSuchQueue), (true, Error::HandsOut)] {
+        assert_eq!(fail_at::<Error>(closes), Err(error));
+        assert_eq!(fail_at::<Boxed>(closes).unwrap_err().to_string(), error.to_string());
+        assert_eq!(fail_at::<Sent>(closes).unwrap_err().to_string(), error.to_string());
+    }
+}
+
 #[test]
 fn a_pool_is_used_after_a_panic() {
     let pool = Pool::open(&Options::new(2, 1)).unwrap();

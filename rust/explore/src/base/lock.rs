@@ -36,6 +36,12 @@ impl<T> Lock<T> {
     }
 }
 
+impl<T> Guard<'_, T> {
+    pub fn leave<K>(self, _: impl FnOnce() -> K) {
+        drop(self);
+    }
+}
+
 impl<T> Deref for Guard<'_, T> {
     type Target = T;
 

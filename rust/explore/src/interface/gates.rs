@@ -80,6 +80,31 @@ pub fn join_each(scenario: Scenario) {
     close(pool);
 }
 
+/// Each thread but the last one has a hand, which leaves. The last one waits for all of these hands, and once they are
+/// back closes the pool.
+pub fn close_after_all(scenario: Scenario) {
+    let hands = scenario.threads - 1;
+    let (pool, others) = stage(&Options {
+        hands: hands as u32,
+        ..scenario.options()
+    });
+    let pool = RefCell::new(Some(pool));
+    run(others.into_iter().map(Some).chain([None]), |_, hand| {
+        if hand.is_some() {
+            return drop(hand);
+        }
+        let Some(pool) = pool.take() else {
+            fault("the pool is closed once");
+        };
+        let all: Vec<_> = (0..hands).map(|_| pool.join_blocking()).collect();
+        if all.iter().any(Result::is_err) {
+            fault("a wait ended otherwise");
+        }
+        drop(all);
+        close(pool);
+    });
+}
+
 /// The last thread has the only hand, and stops all waits: the others wait for a hand.
 pub fn turn_away(scenario: Scenario) {
     let pool = open(&Options {

@@ -4,6 +4,7 @@ pub mod batches;
 pub mod caches;
 pub mod futures;
 pub mod gates;
+pub mod hands;
 pub mod lists;
 pub mod locks;
 pub mod notes;
@@ -16,6 +17,7 @@ pub mod waits;
 use crate::base::word::AtomicU32;
 use crate::error::Result;
 use crate::interface::sets::take_reserved;
+use crate::memory::running;
 use crate::options::{Kind, Options};
 use crate::owned::OwnedTag;
 use crate::scenarios::Scenario;
@@ -51,6 +53,11 @@ impl Sleeper for Explored {
         } else {
             Duration::ZERO
         }
+    }
+
+    /// Each thread has a processor of its own.
+    fn processor(&self) -> usize {
+        running().saturating_sub(1)
     }
 }
 

@@ -1,70 +1,53 @@
 //! Calls that give tags back. Those who wait for tags of their set are then to be told how many became free (`see_to`).
 
-use crate::allocator::way::{by_way, Cached, Plain, Way};
+use crate::allocator::way::{by_way, Way};
 use crate::allocator::{Core, Due, Freed, Held, HeldMask};
 use crate::options::Kind;
 
-impl Plain {
-    #[inline(never)]
-    fn clear(&mut self, core: &Core, held: Held) {
-        core.tags.clear_held_quietly(&mut self.hand, held.number());
-    }
-}
-
-impl Cached {
-    /// A tag that it keeps does not become free.
-    #[inline(always)]
-    fn clear(&mut self, core: &Core, held: Held) {
-        let number = held.number();
-        if self.cache.has_place(number) {
-            self.cache.clear_placed(&core.tags, number);
-            self.freed = 0;
-            return;
-        }
-        self.clear_any(core, number);
-    }
-
-    #[inline(never)]
-    fn clear_any(&mut self, core: &Core, number: u32) {
-        let freed = self.cache.clear_any(&core.tags, number);
-        debug_assert!(freed.is_ok(), "a guard's tag is held");
-        // The call counts ordinary tags alone.
-        self.freed = match core.kind(number) {
-            Kind::Ordinary => freed.unwrap_or(0),
-            Kind::Reserved => 1,
-        };
-    }
-}
-
 impl Way {
-    /// Gives a tag back. What became free `freed` says, so that a clear that tells nobody need not ask.
+    /// Gives a tag back if that is a step, or if the hand has a place for it, and otherwise returns it for `clear`. What
+    /// became free `freed` says, so that whoever tells nobody need not ask.
     #[inline(always)]
-    pub fn clear(&mut self, core: &Core, held: Held) {
+    pub fn try_clear(&mut self, core: &Core, held: Held) -> core::result::Result<(), Held> {
         match self {
-            Way::Plain(plain) => plain.clear(core, held),
-            other => other.clear_over(core, held),
+            Way::Plain(plain) => core.tags.clear_held_quietly(&mut plain.hand, held.number()),
+            Way::Cached(cached) if cached.cache.has_place(held.number()) => {
+                cached.cache.clear_placed(&core.tags, held.number());
+            }
+            _ => return Err(held),
         }
+        Ok(())
     }
 
-    // The test for a hand without a cache is alone in line, which takes an instruction fewer.
-    #[inline(never)]
-    fn clear_over(&mut self, core: &Core, held: Held) {
-        match self {
-            Way::Cached(cached) => cached.clear(core, held),
-            _ => unreachable!("a hand that has left is not used"),
-        }
-    }
-
-    /// What the last `clear` made free, which was of this tag.
+    /// What a `try_clear` of this tag made free. One that the hand keeps did not become free.
     pub fn freed(&self, core: &Core, number: u32) -> Freed {
-        let count = match self {
-            Way::Cached(cached) => cached.freed,
-            _ => 1,
-        };
-        Freed::of(core.kind(number), count)
+        match self {
+            Way::Plain(_) => Freed::of(core.kind(number), 1),
+            _ => Freed::NONE,
+        }
+    }
+
+    /// Gives any tag back. Returns what became free.
+    #[inline]
+    pub fn clear(&mut self, core: &Core, held: Held) -> Freed {
+        let (kind, tags) = (core.kind(held.number()), &core.tags);
+        let freed = by_way!(self,
+            hand => {
+                tags.clear_held_quietly(hand, held.number());
+                1
+            },
+            cache => {
+                let freed = cache.clear_any(tags, held.number());
+                debug_assert!(freed.is_ok(), "a guard's tag is held");
+                // The call counts ordinary tags alone, of which it may give several back.
+                if kind == Kind::Ordinary { freed.unwrap_or(0) } else { 1 }
+            }
+        );
+        Freed::of(kind, freed)
     }
 
     /// Gives tags back together.
+    #[inline]
     pub fn clear_mask(&mut self, core: &Core, held: HeldMask) -> Freed {
         let (first, mask) = (held.numbers().first(), held.numbers().mask());
         let freed = by_way!(self,

@@ -37,7 +37,7 @@ fn gotten<A, H>(kind: Kind, found: Answer<A>, hold: impl FnOnce(A) -> H) -> Gott
 // What a get does after its first try is out of line and called last, with numbers alone: the first try then needs no
 // memory, and saves few registers.
 impl Plain {
-    #[inline(never)]
+    #[inline]
     fn try_get(&mut self, core: &Core) -> Option<Held> {
         match core.tags.begin_get(&mut self.hand) {
             Ok(tag) => Some(Held::new(tag)),
@@ -47,20 +47,23 @@ impl Plain {
         }
     }
 
-    #[inline(never)]
+    #[cold]
+    #[inline]
     fn get_whole(&mut self, core: &Core) -> Option<Held> {
         won(core.tags.get_quietly(&mut self.hand), &mut self.outcome)
     }
 
     /// Goes on after a first try that found the hint's word full.
-    #[inline(never)]
+    #[cold]
+    #[inline]
     fn get_past_full(&mut self, core: &Core) -> Option<Held> {
         let found = core.tags.finish_get(&mut self.hand, Unfinished::Full);
         won(Ok(found), &mut self.outcome)
     }
 
     /// Goes on after a first try that lost its claim, at the place `from` of the word as the claim found it.
-    #[inline(never)]
+    #[cold]
+    #[inline]
     fn get_past_lost(&mut self, core: &Core, from: u32, found: u64) -> Option<Held> {
         let found = core.tags.finish_get(&mut self.hand, Unfinished::Lost { from, found });
         won(Ok(found), &mut self.outcome)
@@ -68,7 +71,8 @@ impl Plain {
 }
 
 impl Cached {
-    #[inline(never)]
+    #[cold]
+    #[inline]
     fn get_any(&mut self, core: &Core) -> Option<Held> {
         won(self.cache.get_quietly(&core.tags), &mut self.outcome)
     }
@@ -76,7 +80,7 @@ impl Cached {
 
 impl Way {
     /// Takes a tag. Without one `outcome` says what the get did.
-    #[inline(always)]
+    #[inline]
     pub fn try_get(&mut self, core: &Core) -> Option<Held> {
         match self {
             Way::Plain(plain) => plain.try_get(core),
@@ -87,7 +91,28 @@ impl Way {
     }
 
     /// What a `try_get` did that did not simply win a tag.
-    pub fn outcome(&mut self) -> Gotten<Held> {
+    pub fn outcome(&mut self, core: &Core) -> Gotten<Held> {
+        let first = self.first_outcome();
+        self.wrap(core, first, Way::get_once)
+    }
+
+    /// Under round robin a get that found no tag is made once more. It tries no tag of its first word before its start, but
+    /// has moved that to the first tag.
+    fn wrap<H>(
+        &mut self,
+        core: &Core,
+        first: Gotten<H>,
+        again: impl FnOnce(&mut Way, &Core) -> Gotten<H>,
+    ) -> Gotten<H> {
+        let (Ok(None), left) = first else { return first };
+        if !core.round_robin {
+            return first;
+        }
+        let (found, more) = again(self, core);
+        (found, left.and(more))
+    }
+
+    fn first_outcome(&mut self) -> Gotten<Held> {
         let outcome = match self {
             Way::Plain(plain) => plain.outcome.take(),
             Way::Cached(cached) => cached.outcome.take(),
@@ -107,11 +132,23 @@ impl Way {
     fn get(&mut self, core: &Core) -> Gotten<Held> {
         match self.try_get(core) {
             Some(held) => (Ok(Some(held)), Freed::NONE),
-            None => self.outcome(),
+            None => self.outcome(core),
+        }
+    }
+
+    fn get_once(&mut self, core: &Core) -> Gotten<Held> {
+        match self.try_get(core) {
+            Some(held) => (Ok(Some(held)), Freed::NONE),
+            None => self.first_outcome(),
         }
     }
 
     fn get_reserved(&mut self, core: &Core) -> Gotten<Held> {
+        let first = self.get_reserved_once(core);
+        self.wrap(core, first, Way::get_reserved_once)
+    }
+
+    fn get_reserved_once(&mut self, core: &Core) -> Gotten<Held> {
         let tags = &core.tags;
         let found = by_way!(self,
             hand => tags.get_reserved_quietly(hand),
@@ -138,6 +175,7 @@ impl Way {
         gotten(core.kind(number), found, Held::new)
     }
 
+    #[inline]
     pub fn get_batch(&mut self, core: &Core, n: u32) -> Gotten<HeldMask> {
         let tags = &core.tags;
         let found = by_way!(self,
@@ -151,6 +189,11 @@ impl Way {
 
     /// Fills in the numbers of as many tags as there are places, or takes none.
     pub fn get_many(&mut self, core: &Core, numbers: &mut [u32]) -> Gotten<()> {
+        let first = self.get_many_once(core, numbers);
+        self.wrap(core, first, |way, core| way.get_many_once(core, numbers))
+    }
+
+    fn get_many_once(&mut self, core: &Core, numbers: &mut [u32]) -> Gotten<()> {
         let tags = &core.tags;
         let found = by_way!(self,
             hand => tags.get_many_quietly(hand, numbers),

@@ -1,7 +1,7 @@
 //! A hand that is out.
 
 use crate::allocator::way::{Terms, Way};
-use crate::allocator::{Core, Due, Freed, Gotten, Held, HeldMask, Next, Roster, Set, Turn, Waiter, MAX_TOTAL};
+use crate::allocator::{Core, Due, Freed, Gotten, Held, HeldMask, Next, Roster, Set, Turn, Waiter};
 use crate::batch::Numbers;
 use crate::cells::Own;
 use crate::error::{Error, Result};
@@ -9,7 +9,6 @@ use crate::notes::Note;
 use crate::options::{Kind, Sizes};
 use crate::proved::tag_pool::Hand;
 use alloc::sync::Arc;
-use alloc::vec;
 use alloc::vec::Vec;
 
 /// A hand with the tags that it belongs to: it is never used with others.
@@ -20,6 +19,8 @@ pub(crate) struct Member<T> {
     /// A bit for each tag that the hand holds and that has no guard: 1 is loose.
     loose: Own<Vec<u64>>,
     number: usize,
+    /// Whether a note ends before its tag goes back. It is here beside what each clear uses.
+    has_notes: bool,
 }
 
 impl<T> Member<T> {
@@ -27,6 +28,7 @@ impl<T> Member<T> {
         let way = Way::new(hand, terms);
         Member {
             number: way.number() as usize,
+            has_notes: set.notes.is_some(),
             way: Own::new(way),
             set,
             loose: Own::new(loose),
@@ -55,22 +57,22 @@ impl<T> Member<T> {
         &self.set
     }
 
-    /// Gives the hand back to its pool, once it keeps nothing (`flush`).
-    pub fn leave(&self, roster: &mut Roster<T>) {
+    /// Gives the hand back to its pool, once it keeps nothing (`flush`), and with it its share of the tags.
+    pub fn leave(self, roster: &mut Roster<T>) {
         if let Some(hand) = self.call(Way::leave) {
-            roster.take_back(hand, &self.set);
+            roster.take_back(hand, self.set);
         }
     }
 
     /// Takes a tag. Without one `outcome` says what the get did.
-    #[inline]
+    #[inline(always)]
     pub fn try_get(&self) -> Option<Held> {
         self.call(Way::try_get)
     }
 
     /// What a `try_get` did that did not simply win a tag.
     pub fn outcome(&self) -> Gotten<Held> {
-        self.call(|way, _| way.outcome())
+        self.call(Way::outcome)
     }
 
     /// Takes a tag of this kind.
@@ -87,16 +89,18 @@ impl<T> Member<T> {
     }
 
     /// `n` is at most the tags of a word, or the call is refused.
+    #[inline]
     pub fn get_batch(&self, n: u32) -> Gotten<HeldMask> {
         self.call(|way, core| way.get_batch(core, n))
     }
 
-    /// More than all ordinary tags are refused.
-    pub fn get_many(&self, n: u32) -> Gotten<Vec<Held>> {
-        let mut numbers = vec![0; n.min(MAX_TOTAL + 1) as usize];
-        let (found, left) = self.call(|way, core| way.get_many(core, &mut numbers));
-        let hold_all = |()| numbers.into_iter().map(Held::new).collect();
-        (found.map(|all| all.map(hold_all)), left)
+    /// Takes as many tags as there is room for their numbers, each for a guard that is made at once, or none.
+    pub fn get_many(&self, numbers: &mut [u32], guard: impl FnMut(Held)) -> Gotten<()> {
+        let (found, left) = self.call(|way, core| way.get_many(core, numbers));
+        if let Ok(Some(())) = found {
+            numbers.iter().copied().map(Held::new).for_each(guard);
+        }
+        (found, left)
     }
 
     /// Publishes the note of a tag for its guard, in one call at a time.
@@ -106,24 +110,41 @@ impl<T> Member<T> {
         Ok(())
     }
 
-    /// Gives a tag back, whose note ends before.
+    /// Gives a tag back if that takes little, and otherwise returns it for `clear`.
+    #[inline(always)]
+    pub fn try_clear(&self, held: Held) -> core::result::Result<(), Held> {
+        if self.has_notes {
+            return Err(held);
+        }
+        self.call(|way, core| way.try_clear(core, held))
+    }
+
+    /// Gives a tag back, whose note ends before. Returns what became free.
     #[inline]
-    pub fn clear(&self, held: Held) {
+    pub fn clear(&self, held: Held) -> Freed {
         if let Some(notes) = &self.set.notes {
             notes.end(held.number());
         }
-        self.call(|way, core| way.clear(core, held));
+        self.call(|way, core| way.clear(core, held))
     }
 
-    /// What the last `clear` made free, which was of this tag.
+    /// What a `try_clear` of this tag made free.
     pub fn freed(&self, number: u32) -> Freed {
         self.call(|way, core| way.freed(core, number))
     }
 
-    /// Gives tags back together. Returns what became free, as the calls below do.
-    pub fn clear_mask(&self, held: HeldMask) -> Freed {
+    #[cold]
+    fn end_notes(&self, numbers: Numbers) {
         if let Some(notes) = &self.set.notes {
-            held.numbers().iter().for_each(|number| notes.end(number));
+            numbers.iter().for_each(|number| notes.end(number));
+        }
+    }
+
+    /// Gives tags back together. Returns what became free, as the calls below do.
+    #[inline]
+    pub fn clear_mask(&self, held: HeldMask) -> Freed {
+        if self.has_notes {
+            self.end_notes(held.numbers());
         }
         self.call(|way, core| way.clear_mask(core, held))
     }

@@ -52,7 +52,10 @@ impl<T> Roster<T> {
         let (tags, mut idle) = Pool::open(Global, asked_for(options), 0)?;
         idle.reverse();
         let set = Set {
-            core: Core { tags },
+            core: Core {
+                tags,
+                round_robin: options.round_robin,
+            },
             values: Values::new(0..options.total, make)?,
             notes: options.notes.then(|| Notes::new(options.total)).transpose()?,
             queues: Queues::open(options, sleeper)?,

@@ -14,18 +14,21 @@ fn expect<A>(answer: core::result::Result<A, TagFault>) -> A {
 
 impl Way {
     /// For a tag that has a guard.
+    #[inline]
     pub fn read(&mut self, core: &Core, number: u32) -> u64 {
         let tags = &core.tags;
         by_way!(self, hand => tags.read_held(hand, number), cache => expect(cache.read(tags, number)))
     }
 
     /// For a tag that has a guard.
+    #[inline]
     pub fn write(&mut self, core: &Core, number: u32, value: u64) -> u64 {
         let tags = &core.tags;
         by_way!(self, hand => tags.write_held(hand, number, value), cache => expect(cache.write(tags, number, value)))
     }
 
     /// For a tag that had a guard, which ends by this. Returns what went back that was kept only beside it.
+    #[inline]
     pub fn post(&mut self, core: &Core, number: u32) -> Freed {
         let tags = &core.tags;
         let freed = by_way!(self,
@@ -42,6 +45,7 @@ impl Way {
         numbers.fold(Freed::NONE, |freed, number| freed.and(self.post(core, number)))
     }
 
+    #[inline]
     pub fn take(&mut self, core: &Core, number: u32) -> Result<Held> {
         let tags = &core.tags;
         by_way!(self, hand => tags.take(hand, number), cache => cache.take(tags, number))?;

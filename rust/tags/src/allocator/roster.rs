@@ -43,9 +43,10 @@ impl<T> Roster<T> {
         Ok(Member::new(set, hand, loose, self.terms))
     }
 
-    /// Takes a hand back, which then must not be used any more: `Member::leave` gives it.
-    pub fn take_back(&mut self, hand: Hand<u64>, set: &Arc<Set<T>>) {
-        assert!(Arc::ptr_eq(self.set(), set), "a hand goes back to its own pool");
+    /// Takes a hand back, which then must not be used any more: `Member::leave` gives it. Its share of the tags ends
+    /// here, so that whoever finds all hands back has the tags alone.
+    pub fn take_back(&mut self, hand: Hand<u64>, set: Arc<Set<T>>) {
+        assert!(Arc::ptr_eq(self.set(), &set), "a hand goes back to its own pool");
         self.idle.push_reserved(hand);
     }
 
@@ -59,11 +60,7 @@ impl<T> Roster<T> {
             return Err(Error::HandsOut);
         }
         let set = self.set.take().expect("a roster has its tags until it is closed");
-        // A hand that has just come back may not have let go of them yet.
-        Arc::try_unwrap(set).map_err(|set| {
-            self.set = Some(set);
-            Error::HandsOut
-        })
+        Ok(Arc::into_inner(set).expect("a hand that is back has let go of them"))
     }
 
     /// Changes the number of tags, with other values for the ordinary ones, if all hands are back and no tag is in use.

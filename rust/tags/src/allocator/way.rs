@@ -32,8 +32,6 @@ pub(super) struct Plain {
 pub(super) struct Cached {
     pub cache: Cache<u64>,
     pub outcome: Outcome,
-    /// How many tags the last clear made free, of the set of its tag.
-    pub freed: u32,
 }
 
 /// How a get ended that did not simply win a tag.
@@ -59,7 +57,6 @@ impl Way {
             most => Way::Cached(Cached {
                 cache: Cache::with_keeping(hand, most, terms.keeping),
                 outcome: None,
-                freed: 0,
             }),
         }
     }

@@ -1,11 +1,13 @@
 //! A lock over a word on which threads sleep.
 
 use crate::base::word::{touch, AtomicU32, LOOKS};
-use crate::sleep::Sleeper;
+use crate::sleep::{or_end, wake, Sleeper};
 use core::cell::UnsafeCell;
 use core::hint::spin_loop;
 use core::marker::PhantomData;
+use core::mem::ManuallyDrop;
 use core::ops::{Deref, DerefMut};
+use core::ptr::NonNull;
 use core::sync::atomic::Ordering::{Acquire, Relaxed, Release};
 
 // The states of the word.
@@ -26,9 +28,10 @@ unsafe impl<T: Send> Sync for Lock<T> {}
 
 /// The right to use the value of a lock.
 pub struct Guard<'a, T> {
-    lock: &'a Lock<T>,
+    /// A pointer, as whoever has left the lock by `leave` has no right to it any more.
+    lock: NonNull<Lock<T>>,
     /// It is sent to no other thread.
-    own: PhantomData<*mut T>,
+    own: PhantomData<(&'a Lock<T>, *mut T)>,
 }
 
 impl<T> Lock<T> {
@@ -45,19 +48,21 @@ impl<T> Lock<T> {
         if !self.takes(FREE, HELD) {
             self.wait();
         }
-        Guard {
-            lock: self,
-            own: PhantomData,
-        }
+        self.guard()
     }
 
     /// Takes the lock if it is free.
     #[inline]
     pub fn try_lock(&self) -> Option<Guard<'_, T>> {
-        self.takes(FREE, HELD).then(|| Guard {
-            lock: self,
+        self.takes(FREE, HELD).then(|| self.guard())
+    }
+
+    #[inline]
+    fn guard(&self) -> Guard<'_, T> {
+        Guard {
+            lock: NonNull::from(self),
             own: PhantomData,
-        })
+        }
     }
 
     #[inline]
@@ -75,7 +80,8 @@ impl<T> Lock<T> {
             spin_loop();
         }
         while self.state.swap(AWAITED, Acquire) != FREE {
-            self.sleeper.sleep(&self.state, AWAITED, None);
+            let sleep = || self.sleeper.sleep(&self.state, AWAITED, None);
+            or_end("a sleep panicked behind a lock", sleep);
         }
     }
 
@@ -88,7 +94,7 @@ impl<T> Lock<T> {
 
     #[cold]
     fn wake(&self) {
-        self.sleeper.wake(&self.state);
+        wake(self.sleeper, &self.state);
     }
 
     /// For its guard alone.
@@ -100,13 +106,37 @@ impl<T> Lock<T> {
     }
 }
 
+impl<T> Guard<'_, T> {
+    #[inline]
+    fn lock(&self) -> &Lock<T> {
+        // SAFETY: the lock is there as long as it is held.
+        unsafe { self.lock.as_ref() }
+    }
+
+    /// Leaves a lock that others may end as soon as it is free. Where a thread may sleep, and so is woken after that,
+    /// `keep` makes what keeps the lock meanwhile.
+    #[inline]
+    pub fn leave<K>(self, keep: impl FnOnce() -> K) {
+        let guard = ManuallyDrop::new(self);
+        if guard
+            .lock()
+            .state
+            .compare_exchange(HELD, FREE, Release, Relaxed)
+            .is_err()
+        {
+            let _kept = keep();
+            guard.lock().free();
+        }
+    }
+}
+
 impl<T> Deref for Guard<'_, T> {
     type Target = T;
 
     #[inline]
     fn deref(&self) -> &T {
         // SAFETY: the lock is held as long as the guard lives, which lends the value no longer.
-        unsafe { &*self.lock.value() }
+        unsafe { &*self.lock().value() }
     }
 }
 
@@ -114,21 +144,23 @@ impl<T> DerefMut for Guard<'_, T> {
     #[inline]
     fn deref_mut(&mut self) -> &mut T {
         // SAFETY: as in `deref`, and nothing else borrows the guard.
-        unsafe { &mut *self.lock.value() }
+        unsafe { &mut *self.lock().value() }
     }
 }
 
 impl<T> Drop for Guard<'_, T> {
     #[inline]
     fn drop(&mut self) {
-        self.lock.free();
+        self.lock().free();
     }
 }
 
-#[cfg(test)]
+#[cfg(all(test, feature = "std"))]
 mod tests {
-    use super::Lock;
+    use super::{Lock, AWAITED};
     use crate::sleep::default_sleeper;
+    use core::sync::atomic::Ordering::Relaxed;
+    use std::sync::Arc;
     use std::thread;
 
     #[test]
@@ -138,6 +170,21 @@ mod tests {
         assert!(held.is_some() && lock.try_lock().is_none() && lock.try_lock().is_none());
         drop(held);
         assert!(lock.try_lock().is_some() && lock.try_lock().is_some());
+    }
+
+    #[test]
+    fn who_leaves_wakes_one_that_sleeps_and_keeps_the_lock_meanwhile() {
+        let lock = Arc::new(Lock::new(0, default_sleeper()));
+        let (held, other) = (lock.lock(), Arc::clone(&lock));
+        let waiter = thread::spawn(move || *other.lock() += 1);
+        while lock.state.load(Relaxed) != AWAITED {
+            thread::yield_now();
+        }
+        let mut kept = 0;
+        held.leave(|| kept += 1);
+        waiter.join().unwrap();
+        lock.lock().leave(|| kept += 1);
+        assert_eq!((*lock.lock(), kept), (1, 1));
     }
 
     #[test]

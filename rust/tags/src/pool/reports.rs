@@ -144,7 +144,7 @@ impl<T> Pool<T> {
     ///
     /// ```
     /// # use tags::{Options, Pool};
-    /// # use std::{thread, time::Duration};
+    /// # use std::thread;
     /// # fn main() -> tags::Result<()> {
     /// let pool = Pool::open(&Options::new(1, 2))?;
     /// let (first, second) = (pool.join()?, pool.join()?);
@@ -152,7 +152,7 @@ impl<T> Pool<T> {
     /// thread::scope(|scope| {
     ///     scope.spawn(move || second.get_blocking().is_ok());
     ///     while pool.waiting() == 0 {
-    ///         thread::sleep(Duration::from_millis(1));
+    ///         thread::yield_now();
     ///     }
     ///     drop(tag);
     /// });

@@ -114,7 +114,8 @@ impl<T> Pool<T> {
     /// others get it again at once. One that is got again between two looks is busy to the second one, and has to be
     /// found by a later one.
     ///
-    /// It returns [`NoSuchTag`](Error::NoSuchTag) if the pool has no tag of one of these numbers.
+    /// It returns [`NoSuchTag`](Error::NoSuchTag) if the pool has no tag of one of these numbers, and
+    /// [`NoMemory`](Error::NoMemory) if it can't note them.
     ///
     /// ```
     /// # use std::time::Duration;

@@ -10,7 +10,8 @@ use crate::thread::wait_for;
 use core::time::Duration;
 
 impl<T> SharedHand<T> {
-    /// Takes a free ordinary tag, and sleeps while there is none. Other threads can use the hand meanwhile.
+    /// Takes a free ordinary tag, and sleeps while there is none, for which it [allocates](crate#memory). Other threads
+    /// can use the hand meanwhile.
     pub fn get_blocking(&self) -> Result<OwnedTag<T>> {
         self.block_for(Kind::Ordinary)
     }

@@ -97,9 +97,13 @@ impl<T> SharedHands<T> {
     }
 
     /// Takes a free ordinary tag, and while there is none, waits without blocking a thread, as [`SharedHand::get_async`]
-    /// does, behind the hand of this processor. If hands keep tags, [`flush`](SharedHands::flush) before they are idle.
+    /// does, behind the hand of this processor. Hands that keep tags keep none while it waits.
     pub fn get_async(&self) -> GetAsyncOwned<T> {
-        self.hand().get_async()
+        let hand = self.hand().clone();
+        if self.inner.is_cached {
+            return GetAsyncOwned::among(hand, self.clone());
+        }
+        GetAsyncOwned::new(hand, Kind::Ordinary)
     }
 
     /// Takes a free reserved tag, and while there is none, waits without blocking a thread, as

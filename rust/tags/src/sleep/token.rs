@@ -2,7 +2,7 @@
 
 use crate::base::word::AtomicU32;
 use crate::gate::is_past;
-use crate::sleep::Sleeper;
+use crate::sleep::{wake, Sleeper};
 use core::sync::atomic::Ordering::SeqCst;
 use core::time::Duration;
 
@@ -21,7 +21,7 @@ impl Token {
     /// Gives the token, and wakes the thread if it sleeps.
     pub fn give(&self, sleeper: &dyn Sleeper) {
         if self.0.swap(GIVEN, SeqCst) == ASLEEP {
-            sleeper.wake(&self.0);
+            wake(sleeper, &self.0);
         }
     }
 

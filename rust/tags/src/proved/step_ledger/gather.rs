@@ -17,6 +17,7 @@ pub trait Gather {
 }
 
 /// Gathers all these members, from the last to the first.
+#[inline]
 pub fn gather_each<T: Gather>(table: &T, mut members: Vec<T::Member>) -> T::Gathering {
     let Some(last) = members.pop() else { unreachable!() };
     let mut gathering = table.take_first(last);

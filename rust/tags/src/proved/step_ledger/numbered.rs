@@ -17,6 +17,7 @@ pub trait Numbered {
 }
 
 /// Establishes that each number below `count` is that of a member, or returns why not.
+#[inline]
 pub fn all_there<M: Numbered>(members: &Vec<M>, count: u32) -> Result<(), GatherCause> {
     match least_missing(members.as_slice(), count) {
         None => Ok(()),
@@ -25,6 +26,7 @@ pub fn all_there<M: Numbered>(members: &Vec<M>, count: u32) -> Result<(), Gather
 }
 
 /// Returns the least number below `count` that none of these members has.
+#[inline]
 pub fn least_missing<M: Numbered>(members: &[M], count: u32) -> Option<u32> {
     for number in 0..count {
         let Some(_) = index_of(members, number) else {
@@ -35,6 +37,7 @@ pub fn least_missing<M: Numbered>(members: &[M], count: u32) -> Option<u32> {
 }
 
 /// Returns the index of a member with this number.
+#[inline]
 pub fn index_of<M: Numbered>(members: &[M], number: u32) -> Option<usize> {
     for (index, member) in members.iter().enumerate() {
         if member.number() == number {

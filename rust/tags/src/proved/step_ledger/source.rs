@@ -14,6 +14,7 @@ pub trait MemberSource {
 }
 
 /// Returns all members, in the order of their numbers.
+#[inline]
 pub fn hand_out<T: MemberSource>(
     alloc: Global,
     table: &T,

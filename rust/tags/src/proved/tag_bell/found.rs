@@ -21,6 +21,7 @@ pub(crate) struct Masks {
 
 impl Masks {
     /// Only those that come.
+    #[inline]
     pub(crate) fn of_coming(coming: u64) -> Masks {
         Masks {
             sleepers: 0,
@@ -30,6 +31,7 @@ impl Masks {
     }
 
     /// Notes what was found at the berth of this number.
+    #[inline]
     pub(crate) fn note(&mut self, number: u32, berth: Berth) {
         match berth {
             Berth::Listed(waiter, _) => match waiter {
@@ -55,6 +57,7 @@ pub(crate) struct Found {
 
 impl Found {
     /// Notes what was found at the berth of this number, which was not noted as listed before.
+    #[inline]
     pub(crate) fn note(&mut self, number: u32, berth: Berth) {
         self.masks.note(number, berth);
         if let Berth::Listed(_, turn) = berth {
@@ -64,6 +67,7 @@ impl Found {
 }
 
 /// Looks once at the berth of each caller that was found waiting. Returns whom it finds listed, and who comes.
+#[inline]
 pub(crate) fn look_at_each<R>(map: &Map<R>, caller: &mut Caller<R>, waiting: u64) -> Masks {
     let mut masks = Masks::of_coming(0);
     for number in 0..bits_of(waiting) {
@@ -76,6 +80,7 @@ pub(crate) fn look_at_each<R>(map: &Map<R>, caller: &mut Caller<R>, waiting: u64
 }
 
 /// Looks once more at the berth of each of these callers, and notes the turns of those that it finds listed.
+#[inline]
 pub(crate) fn look_again<R>(map: &Map<R>, caller: &mut Caller<R>, listed: u64, found: &mut Found) {
     for number in 0..bits_of(listed) {
         if listed >> number & 1 == 1 {
@@ -86,6 +91,7 @@ pub(crate) fn look_again<R>(map: &Map<R>, caller: &mut Caller<R>, listed: u64, f
 }
 
 /// Returns the number of bits of a mask up to its highest 1: no caller from there on is in it.
+#[inline]
 pub(crate) fn bits_of(callers: u64) -> u32 {
     MAX_CALLERS - callers.leading_zeros()
 }

@@ -19,7 +19,7 @@ pub fn settle<R>(map: &Map<R>, caller: &mut Caller<R>) -> Told {
 
 /// Looks for a free tag, and tells one caller of each kind if it sees one. A word without one needs no telling: the
 /// looks show it.
-#[inline(never)]
+#[inline]
 fn look_through<R>(map: &Map<R>, caller: &mut Caller<R>) -> Told {
     for word in 0..map.layout().words() {
         if has_free(map, caller, word) {
@@ -30,6 +30,7 @@ fn look_through<R>(map: &Map<R>, caller: &mut Caller<R>) -> Told {
 }
 
 /// Returns whether it sees a free tag in a word or in its cleared set. Two looks.
+#[inline]
 fn has_free<R>(map: &Map<R>, caller: &mut Caller<R>, word: u32) -> bool {
     let usable = map.layout().usable(word);
     let taken = map.look(caller, word);

@@ -17,6 +17,7 @@ pub struct Woken {
 
 impl Woken {
     /// Nobody.
+    #[inline]
     pub fn none() -> Woken {
         Woken {
             roused: Roused::none(),
@@ -25,16 +26,19 @@ impl Woken {
     }
 
     /// Returns whether nobody was told.
+    #[inline]
     pub fn is_none(&self) -> bool {
         self.sleepers() == 0 && self.listeners() == 0
     }
 
     /// Returns the sleepers that were told and woken, a bit for the number of each.
+    #[inline]
     pub fn sleepers(&self) -> u64 {
         self.roused.callers()
     }
 
     /// Returns the listeners that were told, a bit for the number of each.
+    #[inline]
     pub fn listeners(&self) -> u64 {
         self.listeners.callers()
     }
@@ -43,6 +47,7 @@ impl Woken {
 /// Sleeps until the caller finds itself told. It may sleep only if it waits as a sleeper, has tried each tag in vain since it
 /// listed itself, and has nothing to see to. It looks at its berth before each time that it sleeps, and once more after the
 /// last.
+#[inline]
 pub fn sleep<W: Wait, R>(rt: &W, map: &Map<R>, caller: &mut Caller<R>) {
     for _ in rt.forever() {
         let berth = map.look_at_own(caller);
@@ -56,6 +61,7 @@ pub fn sleep<W: Wait, R>(rt: &W, map: &Map<R>, caller: &mut Caller<R>) {
 }
 
 /// Wakes the sleepers among those that a call told. It makes no step.
+#[inline]
 pub fn wake<R>(map: &Map<R>, told: Told) -> Woken {
     let Told { sleepers, listeners } = told;
     Woken {
@@ -65,6 +71,7 @@ pub fn wake<R>(map: &Map<R>, told: Told) -> Woken {
 }
 
 /// Rouses each of those told.
+#[inline]
 fn rouse_each<R>(map: &Map<R>, told: Unroused) -> Roused {
     let mut roused = Roused::none();
     if told.callers() == 0 {

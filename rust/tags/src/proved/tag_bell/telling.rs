@@ -27,7 +27,7 @@ pub fn finds_waiters<R>(map: &Map<R>, caller: &mut Caller<R>) -> bool {
 }
 
 /// Looks once at each berth of those that were found waiting, and tells callers of each kind, if any is to be told.
-#[inline(never)]
+#[inline]
 fn tell_each<R>(map: &Map<R>, caller: &mut Caller<R>, freed: u32, waiting: u64) -> Told {
     let masks = look_at_each(map, caller, waiting);
     if has_nobody_to_tell(map, &masks) {
@@ -38,13 +38,14 @@ fn tell_each<R>(map: &Map<R>, caller: &mut Caller<R>, freed: u32, waiting: u64) 
 
 /// Returns whether nobody is to be told: no listener was found listed, and either no sleeper was, or as many come as
 /// there are tags.
+#[inline]
 fn has_nobody_to_tell<R>(map: &Map<R>, masks: &Masks) -> bool {
     masks.listeners == 0 && (masks.sleepers == 0 || room_beside(map, masks.coming) == 0)
 }
 
 /// Looks once more at each berth of those that were found listed, and tells callers of each kind. Only these looks note
 /// turns: mostly the first ones find nobody to be told.
-#[inline(never)]
+#[inline]
 fn tell_listed<R>(map: &Map<R>, caller: &mut Caller<R>, freed: u32, masks: &Masks) -> Told {
     let mut found = Found {
         masks: Masks::of_coming(masks.coming),
@@ -59,6 +60,7 @@ fn tell_listed<R>(map: &Map<R>, caller: &mut Caller<R>, freed: u32, masks: &Mask
 
 /// Tells up to `most` of the sleepers that were found listed, unless those that come, together with them, would be more
 /// than there are tags. A listener that was told may never learn of it, so for those nobody is left out.
+#[inline]
 fn tell_sleepers<R>(map: &Map<R>, caller: &mut Caller<R>, most: u32, found: &Found) -> Unroused {
     let room = most.min(room_beside(map, found.masks.coming));
     if room == 0 {
@@ -68,6 +70,7 @@ fn tell_sleepers<R>(map: &Map<R>, caller: &mut Caller<R>, most: u32, found: &Fou
 }
 
 /// Returns how many sleepers can be told beside those that come: with these, as many as there are tags.
+#[inline]
 fn room_beside<R>(map: &Map<R>, coming: u64) -> u32 {
     let tags = map.layout().depth();
     tags.saturating_sub(coming.count_ones())
@@ -75,6 +78,7 @@ fn room_beside<R>(map: &Map<R>, coming: u64) -> u32 {
 
 /// Tells up to `most` of those that were found listed as this waiter, in the order of their turns. One that listed itself
 /// anew meanwhile is passed over, and the next is told in its place.
+#[inline]
 fn tell_in_turn<R>(
     map: &Map<R>,
     caller: &mut Caller<R>,
@@ -99,6 +103,7 @@ fn tell_in_turn<R>(
 }
 
 /// Returns the one of these callers that has the lowest turn.
+#[inline]
 fn earliest(callers: u64, turns: &[u64; ROOM]) -> u32 {
     let mut first = callers.trailing_zeros();
     for number in 0..bits_of(callers) {

@@ -15,6 +15,7 @@ pub struct Told {
 
 impl Told {
     /// Nobody.
+    #[inline]
     pub fn none() -> Told {
         Told {
             sleepers: Unroused::none(),
@@ -23,16 +24,19 @@ impl Told {
     }
 
     /// Returns whether nobody was told.
+    #[inline]
     pub fn is_none(&self) -> bool {
         self.sleepers() == 0 && self.listeners() == 0
     }
 
     /// Returns those that were told as sleepers.
+    #[inline]
     pub fn sleepers(&self) -> u64 {
         self.sleepers.callers()
     }
 
     /// Returns those that were told as listeners.
+    #[inline]
     pub fn listeners(&self) -> u64 {
         self.listeners.callers()
     }

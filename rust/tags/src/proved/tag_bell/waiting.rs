@@ -15,6 +15,7 @@ pub enum Turn {
 
 /// Lists the caller among those that wait, as this waiter: among all of them, and then in its berth. Afterwards it has to
 /// try each tag before it may sleep. A caller that does not wait yet takes the next turn in each case.
+#[inline]
 pub fn list_self<R>(map: &Map<R>, caller: &mut Caller<R>, waiter: Waiter, turn: Turn) {
     if let Some(turn) = own_turn(map, caller, turn) {
         map.enlist(caller, waiter, turn);
@@ -26,6 +27,7 @@ pub fn list_self<R>(map: &Map<R>, caller: &mut Caller<R>, waiter: Waiter, turn: 
 }
 
 /// Returns the turn with which the caller waits, if it is to keep it and does wait.
+#[inline]
 fn own_turn<R>(map: &Map<R>, caller: &mut Caller<R>, turn: Turn) -> Option<u64> {
     if turn == Turn::Next {
         return None;
@@ -39,6 +41,7 @@ fn own_turn<R>(map: &Map<R>, caller: &mut Caller<R>, turn: Turn) -> Option<u64> 
 
 /// Ends the caller's wait, and returns whether somebody had told it. One that was told has to see to each tag: it settles
 /// (`settle`) unless it finds none.
+#[inline]
 pub fn get_up<R>(map: &Map<R>, caller: &mut Caller<R>) -> bool {
     let berth = map.get_up(caller);
     map.leave(caller);
@@ -47,6 +50,7 @@ pub fn get_up<R>(map: &Map<R>, caller: &mut Caller<R>) -> bool {
 
 /// Looks whether the caller was told: returns whether it does not find itself listed, so also if it does not wait. One
 /// step.
+#[inline]
 pub fn is_told<R>(map: &Map<R>, caller: &mut Caller<R>) -> bool {
     let berth = map.look_at_own(caller);
     !berth.is_listed()

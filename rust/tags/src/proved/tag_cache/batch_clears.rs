@@ -11,6 +11,7 @@ impl<R: Copy> Cache<R> {
     /// are kept only while the user holds one, and it is known to hold none but these. `NotHeld` also means that a tag is
     /// kept. `BadCount` means no tag, or more than 64; `NoSuchTag` that a number is not below the total, or a tag is
     /// reserved. Nothing changes on an error.
+    #[inline]
     pub fn clear_batch_quietly(&mut self, pool: &Pool<R>, list: &[u32]) -> Result<u32, TagFault> {
         pool.check_batch(&self.hand, list)?;
         if !self.keeps_none_of(list) {
@@ -20,6 +21,7 @@ impl<R: Copy> Cache<R> {
     }
 
     /// Gives back a list of tags that the user holds, after all kept ones if none may be kept any more.
+    #[inline]
     fn give_back_list(&mut self, pool: &Pool<R>, list: &[u32]) -> u32 {
         let left = self.known_without_all(list);
         if self.goes_on(left) {
@@ -31,7 +33,7 @@ impl<R: Copy> Cache<R> {
 
     /// Gives all kept tags back and then a list of tags that the user holds, after which it is known to hold only the
     /// tags that are `left`.
-    #[inline(never)]
+    #[inline]
     fn give_back_kept_and_list(&mut self, pool: &Pool<R>, left: u64, list: &[u32]) -> u32 {
         let kept = self.leave(pool, left);
         pool.clear_batch_held_quietly(&mut self.hand, list);
@@ -41,6 +43,7 @@ impl<R: Copy> Cache<R> {
 
 impl<R> Cache<R> {
     /// Returns whether none of the tags is kept.
+    #[inline]
     fn keeps_none_of(&self, list: &[u32]) -> bool {
         for tag in list {
             if self.keeps(*tag) {
@@ -51,6 +54,7 @@ impl<R> Cache<R> {
     }
 
     /// Returns the mask of the tags that the user is known to hold, without these.
+    #[inline]
     fn known_without_all(&self, list: &[u32]) -> u64 {
         let mut left = self.known;
         for tag in list {

@@ -31,6 +31,7 @@ impl<R> Cache<R> {
 impl<R: Copy> Cache<R> {
     /// Gives all kept tags back, and says that the user is known to hold only the tags of this mask. Returns how many went
     /// back.
+    #[inline]
     pub(crate) fn leave(&mut self, pool: &Pool<R>, left: u64) -> u32 {
         let freed = self.give_back_kept(pool);
         self.known = left;

@@ -8,16 +8,19 @@ use crate::proved::tag_pool::{Kind, Pool, Told, Turn, Waiter};
 
 impl<R: Copy> Cache<R> {
     /// Lists the hand among those that wait, as `Pool::list_self` does. A get that finds no tag keeps none either.
+    #[inline]
     pub fn list_self(&mut self, pool: &Pool<R>, kind: Kind, waiter: Waiter, turn: Turn) {
         pool.list_self(&mut self.hand, kind, waiter, turn);
     }
 
     /// Ends the hand's wait, and returns whether somebody had told it, as `Pool::get_up` does.
+    #[inline]
     pub fn get_up(&mut self, pool: &Pool<R>, kind: Kind) -> bool {
         pool.get_up(&mut self.hand, kind)
     }
 
     /// Looks whether the hand was told, as `Pool::is_told` does.
+    #[inline]
     pub fn is_told(&mut self, pool: &Pool<R>, kind: Kind) -> bool {
         pool.is_told(&mut self.hand, kind)
     }
@@ -50,7 +53,7 @@ impl<R: Copy> Cache<R> {
     }
 
     /// Gives all kept tags back, and tells as many as became free by that, or by what was given back before.
-    #[inline(never)]
+    #[inline]
     fn give_back_and_tell(&mut self, pool: &Pool<R>, freed: u32) -> Told {
         let kept = self.flush_quietly(pool);
         pool.see_to(&mut self.hand, Kind::Ordinary, freed.max(kept))
@@ -58,6 +61,7 @@ impl<R: Copy> Cache<R> {
 
     /// Sees to all that the hand has to see to, after it was told and got up, and won another tag or gave up, as
     /// `Pool::see_to_all` does. Returns those told, who are to be woken.
+    #[inline]
     pub fn see_to_all(&mut self, pool: &Pool<R>, kind: Kind) -> Told {
         pool.see_to_all(&mut self.hand, kind)
     }

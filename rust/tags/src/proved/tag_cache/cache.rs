@@ -34,11 +34,13 @@ pub struct Cache<R> {
 
 impl<R> Cache<R> {
     /// A cache that keeps no tag, and later up to `most` of them, at most 64, as `Keeping::Always` says.
+    #[inline]
     pub fn new(hand: Hand<R>, most: u32) -> Cache<R> {
         Cache::with_keeping(hand, most, Keeping::Always)
     }
 
     /// Like `new`, but tags are kept as `keeping` says.
+    #[inline]
     pub fn with_keeping(hand: Hand<R>, most: u32, keeping: Keeping) -> Cache<R> {
         let most = most.min(WINDOW);
         Cache {

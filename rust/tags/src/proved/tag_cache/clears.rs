@@ -29,7 +29,7 @@ impl<R: Copy> Cache<R> {
     }
 
     /// Makes `clear_any` out of line, so that a clear is short where its tag has a place.
-    #[inline(never)]
+    #[inline]
     fn clear_unplaced(&mut self, pool: &Pool<R>, tag: u32) -> Result<u32, TagFault> {
         self.clear_any(pool, tag)
     }
@@ -64,7 +64,7 @@ impl<R: Copy> Cache<R> {
     }
 
     /// Gives all kept tags back and keeps this one instead of them. Returns how many went back.
-    #[inline(never)]
+    #[inline]
     fn keep_instead(&mut self, pool: &Pool<R>, tag: u32) -> u32 {
         let freed = self.give_back_kept(pool);
         self.keep(tag);
@@ -72,14 +72,14 @@ impl<R: Copy> Cache<R> {
     }
 
     /// Gives a tag back that the user holds, and keeps the same tags.
-    #[inline(never)]
+    #[inline]
     fn give_back(&mut self, pool: &Pool<R>, tag: u32) {
         self.forget(tag);
         pool.clear_held_quietly(&mut self.hand, tag);
     }
 
     /// Gives all kept tags back, and then a tag that the user holds. Returns how many went back.
-    #[inline(never)]
+    #[inline]
     fn give_back_all(&mut self, pool: &Pool<R>, tag: u32) -> u32 {
         if self.keeps_none() {
             self.give_back(pool, tag);

@@ -8,12 +8,13 @@ use crate::proved::tag_pool::{Hand, Pool};
 impl<R: Copy> Cache<R> {
     /// Gives all kept tags back, by one step for each word as `Pool::clear_mask` does, and tells nobody. Returns how many
     /// they were, which the caller has to see to. If nothing is kept it makes no step.
+    #[inline]
     pub fn flush_quietly(&mut self, pool: &Pool<R>) -> u32 {
         self.give_back_kept(pool)
     }
 
     /// Gives all kept tags back, and returns how many they were. The window stays where it is.
-    #[inline(never)]
+    #[inline]
     pub(crate) fn give_back_kept(&mut self, pool: &Pool<R>) -> u32 {
         let kept = self.kept;
         if kept == 0 {
@@ -27,6 +28,7 @@ impl<R: Copy> Cache<R> {
 
     /// Gives all kept tags back, as `flush_quietly` does. Returns the hand, which holds what the user holds, and how many
     /// they were.
+    #[inline]
     pub fn into_hand_quietly(mut self, pool: &Pool<R>) -> (Hand<R>, u32) {
         let freed = self.flush_quietly(pool);
         let Cache { hand, .. } = self;

@@ -20,7 +20,7 @@ impl<R: Copy> Cache<R> {
     }
 
     /// Has the hand get a tag. It is out of line, so that a get is short where a tag is kept.
-    #[inline(never)]
+    #[inline]
     fn win(&mut self, pool: &Pool<R>) -> Result<Got<Option<u32>>, TagFault> {
         let Got { answer, woken } = pool.get(&mut self.hand)?;
         let Some(tag) = answer else {
@@ -35,6 +35,7 @@ impl<R: Copy> Cache<R> {
 
     /// Takes a free reserved tag as `Pool::get_reserved` does, and sees to what it left free as that does. `NoReserved` means
     /// that there are none, `Spent` that the hand's life in the reserved set is used up.
+    #[inline]
     pub fn get_reserved(&mut self, pool: &Pool<R>) -> Result<Got<Option<u32>>, TagFault> {
         pool.get_reserved(&mut self.hand)
     }
@@ -42,6 +43,7 @@ impl<R: Copy> Cache<R> {
     /// Takes a free ordinary tag as `Pool::get_shallow` does: never one that is kept, which may lie beyond the depth.
     /// `TooShallow` means that `depth` is 0 or below the minimum shallow depth, `Spent` that the hand's life is used
     /// up.
+    #[inline]
     pub fn get_shallow(&mut self, pool: &Pool<R>, depth: u32) -> Result<Got<Option<u32>>, TagFault> {
         pool.get_shallow(&mut self.hand, depth)
     }
@@ -49,6 +51,7 @@ impl<R: Copy> Cache<R> {
     /// Takes up to `n` free ordinary tags out of `n` consecutive ones of one word, as `Pool::get_batch` does. It takes
     /// none of the kept tags, so it may find more after a `flush`. `BadCount` means an `n` out of range, `Spent` that
     /// the hand's life does not suffice for `n` more tags.
+    #[inline]
     pub fn get_batch(&mut self, pool: &Pool<R>, n: u32) -> Result<Got<Option<(u32, u64)>>, TagFault> {
         pool.get_batch(&mut self.hand, n)
     }
@@ -57,6 +60,7 @@ impl<R: Copy> Cache<R> {
     /// does, and sees to what it left free as that does. It takes none of the kept tags, so it may find enough after a
     /// `flush`. `BadCount` means that there are fewer ordinary tags than places, `Spent` that the hand's life does not
     /// suffice for so many more tags.
+    #[inline]
     pub fn get_many(&mut self, pool: &Pool<R>, tags: &mut [u32]) -> Result<Got<bool>, TagFault> {
         pool.get_many(&mut self.hand, tags)
     }

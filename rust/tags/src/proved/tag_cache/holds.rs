@@ -7,6 +7,7 @@ use crate::proved::tag_pool::{Kind, Pool, TagFault};
 
 impl<R> Cache<R> {
     /// Returns whether the user holds the tag: the hand does, and it is not kept. This makes no step.
+    #[inline]
     pub fn holds(&self, tag: u32) -> bool {
         self.hand.holds(tag) && !self.keeps(tag)
     }
@@ -24,6 +25,7 @@ impl<R: Copy> Cache<R> {
     }
 
     /// Places the hand's hints as `Pool::place` does.
+    #[inline]
     pub fn place(&mut self, pool: &Pool<R>) {
         pool.place(&mut self.hand);
     }

@@ -44,6 +44,7 @@ impl<R> Cache<R> {
     }
 
     /// Hands a kept tag to the user.
+    #[inline]
     pub(crate) fn hand_out(&mut self, tag: u32) {
         let offset = self.offset(tag);
         self.hand_out_at(tag, offset);
@@ -59,6 +60,7 @@ impl<R> Cache<R> {
     }
 
     /// Returns whether the tag may be kept where no other is.
+    #[inline]
     pub(crate) fn can_keep(&self, tag: u32) -> bool {
         if self.most == 0 {
             return false;

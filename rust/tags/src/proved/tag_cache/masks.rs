@@ -40,7 +40,7 @@ impl<R: Copy> Cache<R> {
 
     /// Gives all kept tags back and then those of a mask that the user holds, after which it is known to hold only the
     /// tags that are `left`.
-    #[inline(never)]
+    #[inline]
     fn give_back_kept_and_mask(&mut self, pool: &Pool<R>, left: u64, first: u32, mask: u64) -> u32 {
         let kept = self.leave(pool, left);
         pool.clear_mask_held_quietly(&mut self.hand, first, mask);

@@ -6,6 +6,7 @@ use crate::proved::step_ledger::Numbered;
 use crate::proved::tag_cache::cache::Cache;
 
 impl<R> Numbered for Cache<R> {
+    #[inline]
     fn number(&self) -> u32 {
         self.hand.number()
     }

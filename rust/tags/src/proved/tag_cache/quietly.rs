@@ -27,7 +27,7 @@ impl<R: Copy> Cache<R> {
     }
 
     /// Has the hand get a tag. It is out of line, so that a get is short where a tag is kept.
-    #[inline(never)]
+    #[inline]
     fn win_quietly(&mut self, pool: &Pool<R>) -> Result<Found<u32>, TagFault> {
         let Found { answer, left } = pool.get_quietly(&mut self.hand)?;
         let Some(tag) = answer else {
@@ -42,16 +42,19 @@ impl<R: Copy> Cache<R> {
 
     /// Like `get_reserved`, but tells nobody (see `get_quietly`): `left` counts reserved tags. It is refused as `get_reserved`
     /// is: `NoReserved`, `Spent`.
+    #[inline]
     pub fn get_reserved_quietly(&mut self, pool: &Pool<R>) -> Result<Found<u32>, TagFault> {
         pool.get_reserved_quietly(&mut self.hand)
     }
 
     /// Like `get_shallow`, but tells nobody (see `get_quietly`). It is refused as `get_shallow` is: `TooShallow`, `Spent`.
+    #[inline]
     pub fn get_shallow_quietly(&mut self, pool: &Pool<R>, depth: u32) -> Result<Found<u32>, TagFault> {
         pool.get_shallow_quietly(&mut self.hand, depth)
     }
 
     /// Like `get_batch`, but tells nobody (see `get_quietly`). It is refused as `get_batch` is: `BadCount`, `Spent`.
+    #[inline]
     pub fn get_batch_quietly(&mut self, pool: &Pool<R>, n: u32) -> Result<Found<(u32, u64)>, TagFault> {
         pool.get_batch_quietly(&mut self.hand, n)
     }
@@ -59,6 +62,7 @@ impl<R: Copy> Cache<R> {
     /// Like `get_many`, but tells nobody: after its answer it returns the sum of how many ordinary tags each of its gets left
     /// free, and of those that it gave back. The caller sees to so many (`see_to`, `wake`). It is refused as `get_many` is:
     /// `BadCount`, `Spent`.
+    #[inline]
     pub fn get_many_quietly(&mut self, pool: &Pool<R>, tags: &mut [u32]) -> Result<(bool, u64), TagFault> {
         pool.get_many_quietly(&mut self.hand, tags)
     }

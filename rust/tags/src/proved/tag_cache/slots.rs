@@ -31,14 +31,14 @@ impl<R: Copy> Cache<R> {
     }
 
     /// Checks that the user holds a tag that it is not known to hold. It is out of line, so that other writes are short.
-    #[inline(never)]
+    #[inline]
     fn check_unknown(&self, pool: &Pool<R>, tag: u32) -> Result<(), TagFault> {
         let _ = self.find_held(pool, tag)?;
         Ok(())
     }
 
     /// Writes the slot of a tag that the user holds, and returns its former value.
-    #[inline(never)]
+    #[inline]
     fn write_unknown(&mut self, pool: &Pool<R>, tag: u32, value: R) -> R {
         pool.write_held(&mut self.hand, tag, value)
     }
@@ -64,6 +64,7 @@ impl<R: Copy> Cache<R> {
     }
 
     /// Gives up a tag that the user is not known to hold.
+    #[inline]
     fn post_other(&mut self, pool: &Pool<R>, tag: u32, note: u64) -> Result<(), TagFault> {
         if self.keeps(tag) {
             return Err(TagFault::NotHeld);
@@ -73,6 +74,7 @@ impl<R: Copy> Cache<R> {
 
     /// Gives up a tag that the user is known to hold. If it is the last, all kept tags go back first. Returns how many went
     /// back.
+    #[inline]
     fn post_known(&mut self, pool: &Pool<R>, tag: u32, note: u64) -> u32 {
         if self.is_last(tag) {
             let freed = self.flush_quietly(pool);
@@ -84,6 +86,7 @@ impl<R: Copy> Cache<R> {
     }
 
     /// Gives up a tag that the user is known to hold, and no kept tag with it. If it is the last, none is kept.
+    #[inline]
     fn post_alone(&mut self, pool: &Pool<R>, tag: u32, note: u64) {
         self.forget(tag);
         let Ok(()) = pool.post_noted(&mut self.hand, tag, note) else {

@@ -12,6 +12,7 @@ impl<R: Copy> Cache<R> {
     /// reserved one it tells others of that one alone. It wakes the sleepers. Returns whom it told. `NoSuchTag` means that
     /// the number is not below the total, `NotHeld` that the user does not hold the tag, as where it is kept; nothing
     /// changes then.
+    #[inline]
     pub fn clear(&mut self, pool: &Pool<R>, tag: u32) -> Result<Woken, TagFault> {
         let freed = self.freed_with(pool, tag);
         self.clear_quietly(pool, tag)?;
@@ -20,6 +21,7 @@ impl<R: Copy> Cache<R> {
 
     /// Clears 1 to 64 ordinary tags that the user holds as `clear_batch_quietly` does, and then tells and wakes as `clear`
     /// does. It is refused as `clear_batch_quietly` is: `BadCount`, `NoSuchTag`, `NotHeld`; nothing changes then.
+    #[inline]
     pub fn clear_batch(&mut self, pool: &Pool<R>, list: &[u32]) -> Result<Woken, TagFault> {
         let kept = self.count();
         self.clear_batch_quietly(pool, list)?;
@@ -28,6 +30,7 @@ impl<R: Copy> Cache<R> {
 
     /// Clears the ordinary tags of a mask that the user holds as `clear_mask_quietly` does, and then tells and wakes as
     /// `clear` does. It is refused as `clear_mask_quietly` is: `BadCount`, `NoSuchTag`, `NotHeld`; nothing changes then.
+    #[inline]
     pub fn clear_mask(&mut self, pool: &Pool<R>, first: u32, mask: u64) -> Result<Woken, TagFault> {
         let kept = self.count();
         self.clear_mask_quietly(pool, first, mask)?;
@@ -37,12 +40,14 @@ impl<R: Copy> Cache<R> {
     /// Gives up a tag that the user holds with its slot as `post_quietly` does, and then sees to the kept tags that went back,
     /// if any did, and wakes those whom this told. `NoSuchTag` means that the number is not below the total, `NotHeld`
     /// that the user does not hold the tag, as where it is kept; nothing changes then.
+    #[inline]
     pub fn post(&mut self, pool: &Pool<R>, tag: u32) -> Result<Woken, TagFault> {
         self.post_noted(pool, tag, 0)
     }
 
     /// Gives up a tag as `post` does, with a note that any hand may read until the tag is taken, at most
     /// `tag_core::MOST_NOTE`.
+    #[inline]
     pub fn post_noted(&mut self, pool: &Pool<R>, tag: u32, note: u64) -> Result<Woken, TagFault> {
         let freed = self.post_noted_quietly(pool, tag, note)?;
         Ok(self.wake_for(pool, Kind::Ordinary, freed))
@@ -51,6 +56,7 @@ impl<R: Copy> Cache<R> {
     /// Gives all kept tags back, by one step for each word as `Pool::clear_mask` does, and sees to them: it tells others
     /// as `Pool::see_to` does, of as many tags as became free, and wakes the sleepers. If nothing is kept it makes no step.
     /// Call it before the thread is idle or sleeps: what it keeps nobody else finds.
+    #[inline]
     pub fn flush(&mut self, pool: &Pool<R>) -> Woken {
         let freed = self.flush_quietly(pool);
         self.wake_for(pool, Kind::Ordinary, freed)
@@ -58,6 +64,7 @@ impl<R: Copy> Cache<R> {
 
     /// Gives all kept tags back and sees to them, as `flush` does. Returns the hand, which holds what the user holds, and
     /// whom this told.
+    #[inline]
     pub fn into_hand(mut self, pool: &Pool<R>) -> (Hand<R>, Woken) {
         let woken = self.flush(pool);
         let Cache { hand, .. } = self;

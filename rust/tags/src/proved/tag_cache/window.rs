@@ -50,6 +50,7 @@ impl<R> Cache<R> {
 
     /// Moves the window to the tag if nothing is kept and the tag is outside. What the user holds in the former window is
     /// known no more.
+    #[inline]
     pub(crate) fn aim(&mut self, tag: u32) {
         if self.kept != 0 {
             return;
@@ -63,6 +64,7 @@ impl<R> Cache<R> {
 
     /// Moves the window to a tag that is cleared as `aim` does, unless tags are kept only while the user is known to hold
     /// another.
+    #[inline]
     pub(crate) fn follow(&mut self, tag: u32) {
         match self.keeping {
             Keeping::Always => self.aim(tag),
@@ -71,12 +73,14 @@ impl<R> Cache<R> {
     }
 
     /// Says that the user holds an ordinary tag, where nothing is kept. The window moves there first.
+    #[inline]
     pub(crate) fn learn(&mut self, tag: u32) {
         self.aim(tag);
         self.note(tag);
     }
 
     /// Says that the user holds an ordinary tag, if it is in the window.
+    #[inline]
     fn note(&mut self, tag: u32) {
         let offset = self.offset(tag);
         if offset >= WINDOW {

@@ -17,6 +17,7 @@ pub enum Waiter {
 
 impl Waiter {
     /// Its bit in the word of a berth, bit 2.
+    #[inline]
     fn bit(self) -> u64 {
         match self {
             Waiter::Sleeper => 0,
@@ -25,6 +26,7 @@ impl Waiter {
     }
 
     /// The waiter of which the word of a berth tells.
+    #[inline]
     fn of_word(word: u64) -> Waiter {
         if word / 4 % 2 == 0 {
             Waiter::Sleeper
@@ -47,6 +49,7 @@ pub enum Berth {
 
 impl Berth {
     /// Returns whether the caller waits, and nobody has told it.
+    #[inline]
     pub fn is_listed(self) -> bool {
         match self {
             Berth::Up => false,
@@ -56,6 +59,7 @@ impl Berth {
     }
 
     /// Returns whether somebody has told the caller.
+    #[inline]
     pub fn is_told(self) -> bool {
         match self {
             Berth::Up => false,
@@ -66,6 +70,7 @@ impl Berth {
 
     /// Its word: in bits 0 and 1 0 for `Up`, 1 for `Listed` and 2 for `Told`, in bit 2 the waiter, and in bits 3 to 63
     /// the turn.
+    #[inline]
     pub(crate) fn to_word(self) -> u64 {
         match self {
             Berth::Up => 0,
@@ -75,6 +80,7 @@ impl Berth {
     }
 
     /// The berth of which a word tells.
+    #[inline]
     pub(crate) fn of_word(word: u64) -> Berth {
         let waiter = Waiter::of_word(word);
         match word % 4 {

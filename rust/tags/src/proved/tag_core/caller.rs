@@ -34,6 +34,7 @@ pub struct Caller<R> {
 }
 
 impl<R> Numbered for Caller<R> {
+    #[inline]
     fn number(&self) -> u32 {
         self.number
     }
@@ -41,11 +42,13 @@ impl<R> Numbered for Caller<R> {
 
 impl<R> Caller<R> {
     /// Number of tags that this caller has won so far, at most its life. No step.
+    #[inline]
     pub fn won(&self) -> u64 {
         self.won
     }
 
     /// Number of tags that this caller has put or given back so far, including tags that it took from others. No step.
+    #[inline]
     pub fn back(&self) -> u64 {
         self.back
     }

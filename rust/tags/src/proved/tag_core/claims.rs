@@ -22,6 +22,7 @@ pub struct Spent;
 impl<R> Map<R> {
     /// Sets the bits of the mask in a word, and wins the tags whose bits were 0. One step, `fetch_or`. `Spent`: the
     /// mask has more bits than the caller may still win within its life; nothing changes then.
+    #[inline]
     pub fn claim(&self, caller: &mut Caller<R>, word: u32, mask: u64) -> Result<Claim, Spent> {
         let asked = mask.count_ones();
         if !caller.room(asked) {
@@ -72,6 +73,7 @@ fn count_part(part: u64, mask: u64, all: u32) -> u32 {
 
 impl<R> Caller<R> {
     /// Returns whether the caller may win this many more tags within its life. No step.
+    #[inline]
     pub fn room(&self, tags: u32) -> bool {
         tags as u64 <= self.life - self.won
     }

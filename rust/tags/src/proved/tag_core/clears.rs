@@ -8,6 +8,7 @@ use crate::proved::tag_core::spots::{aside_spot, word_spot};
 
 impl<R> Map<R> {
     /// Frees held tags of one word at once: clears their bits. One step, `fetch_sub`: the bits are known to be 1.
+    #[inline]
     pub fn give(&self, caller: &mut Caller<R>, word: u32, mask: u64) {
         let table = &self.table.shared;
         // The caller holds all of these tags, so each of their bits is 1 there: a difference clears them in one instruction.
@@ -21,6 +22,7 @@ impl<R> Map<R> {
     /// Sets a held tag aside: its bit in the word stays 1, its bit in the cleared set becomes 1, and the next sweep of
     /// the word frees it. One step, like `sbitmap_deferred_clear_bit` (include/linux/sbitmap.h): `fetch_add`, where the
     /// kernel has `set_bit`, since the bit is known to be 0.
+    #[inline]
     pub fn put(&self, caller: &mut Caller<R>, tag: u32) {
         let word = caller.layout.word_of(tag);
         let bit = 1u64 << caller.layout.place_of(tag);

@@ -13,6 +13,7 @@ use crate::proved::tag_core::together::Gathering;
 use crate::proved::tag_layout::Layout;
 use crate::proved::tag_model::Totals;
 
+#[inline]
 fn count_posted<R>(ended: &Ended<R>, layout: Layout) -> u64 {
     let mut posted = 0u64;
     for tag in 0..layout.depth() {
@@ -24,6 +25,7 @@ fn count_posted<R>(ended: &Ended<R>, layout: Layout) -> u64 {
 }
 
 /// The slots, in the order of their tags, in memory that was set aside for them when the map was opened.
+#[inline]
 fn take_out<R>(mut ended: Ended<R>, mut room: Vec<R>) -> Vec<R> {
     let mut i = 0;
     while i < ended.slot_count() {
@@ -35,6 +37,7 @@ fn take_out<R>(mut ended: Ended<R>, mut room: Vec<R>) -> Vec<R> {
 }
 
 /// Ends the map, with all records on one seat.
+#[inline]
 fn end<R>(map: Map<R>, all: Gathering<R>) -> Closed<R> {
     let Map { table, shape, room } = map;
     let Gathering { seat, won, back, held } = all;
@@ -55,6 +58,7 @@ fn end<R>(map: Map<R>, all: Gathering<R>) -> Closed<R> {
 
 impl<R> Map<R> {
     /// Ends the map once all its callers are gathered, and returns their totals. No step.
+    #[inline]
     pub fn finish(self, gathering: Gathering<R>) -> Closed<R> {
         end(self, gathering)
     }
@@ -62,6 +66,7 @@ impl<R> Map<R> {
 
 impl<R> Map<R> {
     /// Ends the map if all its callers are present, in any order, and returns their totals.
+    #[inline]
     pub fn gather(self, callers: Vec<Caller<R>>) -> Result<Closed<R>, GatherFault<R>> {
         if let Err(cause) = all_there(&callers, self.shape.callers) {
             return Err(GatherFault {
@@ -80,10 +85,12 @@ impl<R> Gather for Map<R> {
 
     type Gathering = Gathering<R>;
 
+    #[inline]
     fn take_first(&self, caller: Caller<R>) -> Gathering<R> {
         self.start_gathering(caller)
     }
 
+    #[inline]
     fn take_next(&self, gathering: &mut Gathering<R>, caller: Caller<R>) {
         gathering.add(self, caller);
     }

@@ -31,6 +31,7 @@ pub struct Loans<R> {
 impl<R> Gathering<R> {
     /// Returns the totals of all callers of the map, which have lent their records: tags won, given back, held and
     /// posted.
+    #[inline]
     pub fn settle(self, map: &Map<R>) -> (Loans<R>, Totals) {
         let Gathering {
             mut seat,
@@ -49,6 +50,7 @@ impl<R> Gathering<R> {
     }
 
     /// Returns who waits, while all callers of the map are together: a bit is 1 if the caller of that number does.
+    #[inline]
     pub fn waiting(&mut self, map: &Map<R>) -> u64 {
         let table = &map.table.shared;
         table.load(&mut self.seat, waiters_spot())
@@ -57,6 +59,7 @@ impl<R> Gathering<R> {
 
 impl<R> Loans<R> {
     /// Returns the caller that lent its record last, unchanged.
+    #[inline]
     pub fn give_back(&mut self, map: &Map<R>, lender: Lender<R>) -> Caller<R> {
         let Lender {
             mut seat,

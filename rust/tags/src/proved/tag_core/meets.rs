@@ -6,6 +6,7 @@ use crate::proved::tag_core::spots::SPARE;
 
 impl<R> Map<R> {
     /// Establishes that two callers hold no tag in common.
+    #[inline]
     pub fn meet(&self, first: &mut Caller<R>, second: &mut Caller<R>) {
         let table = &self.table.shared;
         let mut both = table.split_seat(&mut first.seat);
@@ -19,6 +20,7 @@ impl<R> Map<R> {
 
     /// Establishes that the second caller doesn't hold a tag that the first holds. It makes no load: the second's own mask
     /// doesn't have the tag, since two callers that both held it could not meet.
+    #[inline]
     pub fn apart(&self, first: &mut Caller<R>, second: &mut Caller<R>, tag: u32) {
         if second.holds(tag) {
             self.meet(first, second);

@@ -26,6 +26,7 @@ pub enum OpenFault {
 }
 
 /// An empty mask for each word, in a block of memory that shares no cache line with another caller's.
+#[inline]
 pub(crate) fn none_held(alloc: Global, words: usize) -> Result<Vec<u64>, AllocError> {
     let mut held = Vec::with_capacity(alloc, words + APART)?;
     held.resize(words, 0u64)?;
@@ -37,6 +38,7 @@ impl<R> MemberSource for Map<R> {
 
     type Rest = Seat<R>;
 
+    #[inline]
     fn next_member(&self, alloc: Global, rest: &mut Seat<R>, number: u32) -> Result<Caller<R>, AllocError> {
         let layout = self.shape.layout;
         let held = none_held(alloc, layout.words() as usize)?;
@@ -57,6 +59,7 @@ impl<R> MemberSource for Map<R> {
 
 /// A map of this shape with all tags free, and the seat that has the records of all its callers. The slots come back if
 /// memory runs out.
+#[inline]
 pub(crate) fn new_map<R>(alloc: Global, shape: Shape, slots: Vec<R>) -> Result<(Map<R>, Seat<R>), Vec<R>> {
     let Ok(room) = Vec::with_capacity(alloc, shape.layout.depth() as usize) else {
         return Err(slots);
@@ -71,6 +74,7 @@ pub(crate) fn new_map<R>(alloc: Global, shape: Shape, slots: Vec<R>) -> Result<(
 }
 
 /// A map and its callers, after the arguments were tested: only want of memory refuses it.
+#[inline]
 fn lay_out<R>(alloc: Global, shape: Shape, slots: Vec<R>) -> Result<(Map<R>, Vec<Caller<R>>), AllocError> {
     let Ok((map, rest)) = new_map(alloc, shape, slots) else {
         return Err(AllocError);
@@ -83,6 +87,7 @@ impl<R> Map<R> {
     /// Opens a map of free tags, each with a slot, for 1 to 64 callers, each of which may win at most `life` tags. The
     /// causes are tested in this order: `CallerCount`, not 1 to 64 callers; `LifeTooLong`, a life above 2^48;
     /// `SlotCount`, not one slot for each tag; `Memory`. The slots are dropped then.
+    #[inline]
     pub fn open(
         alloc: Global,
         layout: Layout,

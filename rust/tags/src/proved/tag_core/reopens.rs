@@ -14,6 +14,7 @@ use crate::proved::tag_core::spots::first_state;
 use crate::proved::tag_layout::Layout;
 
 /// For each caller, an empty mask for each word.
+#[inline]
 fn spare_masks(alloc: Global, count: usize, words: usize) -> Result<Vec<Vec<u64>>, AllocError> {
     let mut masks = Vec::new(alloc);
     for _ in 0..count {
@@ -26,6 +27,7 @@ fn spare_masks(alloc: Global, count: usize, words: usize) -> Result<Vec<Vec<u64>
 }
 
 /// The shape of the next map: each caller starts with the counts that it has now.
+#[inline]
 fn next_shape(shape: &Shape, layout: Layout) -> Shape {
     Shape {
         layout,
@@ -35,6 +37,7 @@ fn next_shape(shape: &Shape, layout: Layout) -> Shape {
 }
 
 /// Moves a caller to the next map, from the seat that has its record there and those of greater numbers.
+#[inline]
 fn reseat<R>(tags: &Map<R>, rest: &mut Seat<R>, caller: &mut Caller<R>, held: Vec<u64>) {
     caller.seat = tags.table.shared.split_seat(rest);
     caller.layout = tags.shape.layout;
@@ -43,6 +46,7 @@ fn reseat<R>(tags: &Map<R>, rest: &mut Seat<R>, caller: &mut Caller<R>, held: Ve
 }
 
 /// Moves all callers to the next map, in their order.
+#[inline]
 fn reseat_all<R>(tags: &Map<R>, mut rest: Seat<R>, callers: &mut Vec<Caller<R>>, mut masks: Vec<Vec<u64>>) {
     for number in 0..tags.shape.callers {
         let Some(i) = index_of(callers.as_slice(), number) else {
@@ -54,6 +58,7 @@ fn reseat_all<R>(tags: &Map<R>, mut rest: Seat<R>, callers: &mut Vec<Caller<R>>,
 }
 
 /// What the next map is made with: its shape, and an empty mask for each word and caller.
+#[inline]
 fn prepare<R>(alloc: Global, settled: &Settled<R>, layout: Layout) -> Result<(Shape, Vec<Vec<u64>>), AllocError> {
     let shape = next_shape(&settled.tags.shape, layout);
     let masks = spare_masks(alloc, shape.callers as usize, layout.words() as usize)?;
@@ -63,6 +68,7 @@ fn prepare<R>(alloc: Global, settled: &Settled<R>, layout: Layout) -> Result<(Sh
 impl<R> Settled<R> {
     /// Opens a new map of free tags for the same callers, who keep their counts of tags won and given back. It fails
     /// only if memory runs out, and then returns everything it was given, unchanged.
+    #[inline]
     pub fn reopen(
         self,
         alloc: Global,

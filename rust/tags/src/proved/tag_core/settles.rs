@@ -13,6 +13,7 @@ use crate::proved::tag_core::together::Gathering;
 use crate::proved::tag_model::Totals;
 
 /// Has these callers lend their records to those gathered.
+#[inline]
 fn settle_rest<R>(tags: &Map<R>, mut all: Gathering<R>, callers: &mut Vec<Caller<R>>) -> (Loans<R>, Totals) {
     let Some(last) = callers.pop() else {
         return all.settle(tags);
@@ -25,6 +26,7 @@ fn settle_rest<R>(tags: &Map<R>, mut all: Gathering<R>, callers: &mut Vec<Caller
 }
 
 /// Returns the totals of all callers, which stay unchanged.
+#[inline]
 fn settle_all<R>(tags: &Map<R>, callers: &mut Vec<Caller<R>>) -> Totals {
     let Some(last) = callers.pop() else { unreachable!() };
     let (all, lender) = tags.start_lending(last);
@@ -37,6 +39,7 @@ fn settle_all<R>(tags: &Map<R>, callers: &mut Vec<Caller<R>>) -> Totals {
 impl<R> Map<R> {
     /// Brings all callers of the map together, in any order, so that nobody else acts on it. If one is missing,
     /// `GatherFault` has the map and all callers back, unchanged.
+    #[inline]
     pub fn settle(self, mut callers: Vec<Caller<R>>) -> Result<Settled<R>, GatherFault<R>> {
         if let Err(cause) = all_there(&callers, self.shape.callers) {
             return Err(GatherFault {
@@ -56,16 +59,19 @@ impl<R> Map<R> {
 
 impl<R> Settled<R> {
     /// Number of tags that the callers hold.
+    #[inline]
     pub fn held(&self) -> u64 {
         self.totals.held
     }
 
     /// Number of tags that are posted.
+    #[inline]
     pub fn posted(&self) -> u64 {
         self.totals.posted
     }
 
     /// Returns the map and its callers, in the order in which they were brought together.
+    #[inline]
     pub fn back(self) -> (Map<R>, Vec<Caller<R>>) {
         (self.tags, self.callers)
     }

@@ -16,11 +16,13 @@ pub struct Roused {
 
 impl Roused {
     /// Nobody.
+    #[inline]
     pub fn none() -> Roused {
         Roused { callers: 0 }
     }
 
     /// Returns the callers that were roused.
+    #[inline]
     pub fn callers(&self) -> u64 {
         self.callers
     }
@@ -29,6 +31,7 @@ impl Roused {
 impl<R> Map<R> {
     /// Sleeps until the caller is roused, unless it was told since it found itself listed so. Until it is told nobody
     /// changes its berth, on the low half of which it sleeps: so it misses no wakeup. It may also return for no reason.
+    #[inline]
     pub fn sleep<W: Wait>(&self, rt: &W, caller: &Caller<R>, listed: Berth) {
         let expected = (listed.to_word() & u32::MAX as u64) as u32;
         let table = &self.table.shared;
@@ -37,6 +40,7 @@ impl<R> Map<R> {
 
     /// Rouses the caller of this number, if it is among those told: if it sleeps, it wakes. A tell changed the low half of
     /// its berth, so if it is about to sleep it does not.
+    #[inline]
     pub fn rouse(&self, number: u32, told: &Unroused, roused: &mut Roused) {
         if told.callers() >> number & 1 == 0 {
             return;

@@ -11,6 +11,7 @@ impl<R> Map<R> {
     /// Frees the tags in a word's cleared set, as `sbitmap_deferred_clear` (lib/sbitmap.c) does: empties the set, and
     /// then clears the bits of its tags in the word. Two steps, `swap` and `fetch_sub`. Returns the mask of the tags
     /// freed: 0, after the first step, if the set was empty.
+    #[inline]
     pub fn sweep(&self, caller: &mut Caller<R>, word: u32) -> u64 {
         let table = &self.table.shared;
         let mask = table.swap(&mut caller.seat, aside_spot(word), 0);
@@ -25,6 +26,7 @@ impl<R> Map<R> {
     /// Takes the tags in a word's cleared set, of which the least stays with the caller, and frees the others: `swap`, and
     /// `fetch_sub` only where there are others. What is kept stands in the caller's list as a step of its own, behind the
     /// swap, which makes it too. `None`, after the swap alone, if the set was empty.
+    #[inline]
     pub fn keep_least(&self, caller: &mut Caller<R>, word: u32) -> Option<Kept> {
         let table = &self.table.shared;
         let mask = table.swap(&mut caller.seat, aside_spot(word), 0);

@@ -22,6 +22,7 @@ pub struct Gathering<R> {
 }
 
 /// Number of bits that are 1 in these masks.
+#[inline]
 pub(crate) fn count_tags(masks: &[u64]) -> u64 {
     let mut size = 0u64;
     for mask in masks {
@@ -32,6 +33,7 @@ pub(crate) fn count_tags(masks: &[u64]) -> u64 {
 
 impl<R> Map<R> {
     /// Starts to gather the map's callers with this one. The slots of its tags stay in the table, each with some value.
+    #[inline]
     pub fn start_gathering(&self, caller: Caller<R>) -> Gathering<R> {
         let (first, _) = self.start_lending(caller);
         first
@@ -39,6 +41,7 @@ impl<R> Map<R> {
 
     /// Starts to bring the map's callers together for a while, with this one: it lends its record, and keeps the slots
     /// of its tags.
+    #[inline]
     pub fn start_lending(&self, caller: Caller<R>) -> (Gathering<R>, Lender<R>) {
         let Caller {
             mut seat,
@@ -75,11 +78,13 @@ impl<R> Map<R> {
 
 impl<R> Gathering<R> {
     /// Adds another caller of the map to those gathered.
+    #[inline]
     pub fn add(&mut self, map: &Map<R>, caller: Caller<R>) {
         self.lend(map, caller);
     }
 
     /// Has another caller of the map lend its record to those gathered.
+    #[inline]
     pub fn lend(&mut self, map: &Map<R>, caller: Caller<R>) -> Lender<R> {
         let (first, lender) = map.start_lending(caller);
         let Gathering {

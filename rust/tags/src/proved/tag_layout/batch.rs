@@ -13,6 +13,7 @@ impl Layout {
     /// Number of completions that are charged together, 1 to 8: an eighth of the depth, or of the least shallow depth
     /// if that is less. `None` means that there is no least shallow depth. It is one of the whole map; in Linux 6.12
     /// `sbq_calc_wake_batch` (lib/sbitmap.c) takes it for each word.
+    #[inline]
     pub fn wake_batch(self, min_shallow: Option<u32>) -> u32 {
         let least = match min_shallow {
             Some(shallow) => shallow.min(self.depth()),

@@ -3,6 +3,7 @@
 //! The search for a 0 bit in one word.
 
 /// Returns the least place in `from .. limit` whose bit is 0. `limit` is at most 64.
+#[inline]
 pub fn first_clear(bits: u64, from: u32, limit: u32) -> Option<u32> {
     if from >= limit {
         return None;

@@ -11,6 +11,7 @@ impl Layout {
     /// Returns how many places of a word a get of shallow depth `shallow` may use, possibly 0: the word's share of
     /// `shallow`, in proportion to its tags. The shares of all words add up to `shallow`, or to the depth if that is
     /// less.
+    #[inline]
     pub fn shallow_limit(self, word: u32, shallow: u32) -> u32 {
         let shallow = shallow.min(self.depth());
         let first = word << self.shift();
@@ -21,6 +22,7 @@ impl Layout {
     }
 
     /// n / depth is n * reciprocal >> SCALE_BITS, up to n = depth * depth.
+    #[inline]
     fn share_of(self, shallow: u32, tags: u32, reciprocal: u64) -> u32 {
         let product = u64::from(shallow) * u64::from(tags.min(self.depth()));
         ((product * reciprocal) >> SCALE_BITS) as u32

@@ -22,6 +22,7 @@ pub(crate) struct Entries {
 
 impl Entries {
     /// Entries of a layout's tags, all of which are free.
+    #[inline]
     pub(crate) fn open(alloc: Global, layout: Layout) -> Result<Entries, AllocError> {
         Ok(Entries {
             layout,
@@ -32,11 +33,13 @@ impl Entries {
     }
 
     /// The layout of the tags.
+    #[inline]
     pub(crate) fn layout(&self) -> Layout {
         self.layout
     }
 
     /// Where the tag is.
+    #[inline]
     pub(crate) fn place(&self, tag: u32) -> Place {
         let at = tag as usize;
         if is_turned(&self.turned, self.layout, tag) {
@@ -47,6 +50,7 @@ impl Entries {
     }
 
     /// How many tags are held.
+    #[inline]
     pub(crate) fn held(&self) -> u64 {
         let mut held = 0u64;
         for tag in 0..self.layout().depth() {
@@ -58,6 +62,7 @@ impl Entries {
     }
 
     /// How many tags are posted.
+    #[inline]
     pub(crate) fn posted(&self) -> u64 {
         let mut posted = 0u64;
         for tag in 0..self.layout().depth() {
@@ -69,6 +74,7 @@ impl Entries {
     }
 
     /// Brings the tags that the event names to their new places, if each of them is where the event needs it.
+    #[inline]
     pub(crate) fn bring(&mut self, event: Event) -> bool {
         if !self.prepare(event) {
             return false;
@@ -80,6 +86,7 @@ impl Entries {
     }
 
     /// Tests the tags that the event names one after another, and makes the next place of each ready.
+    #[inline]
     fn prepare(&mut self, event: Event) -> bool {
         let layout = self.layout();
         let span = event.span(layout);
@@ -96,6 +103,7 @@ impl Entries {
     }
 
     /// Writes the tag's entry that doesn't count.
+    #[inline]
     fn make_ready(&mut self, tag: u32, place: Place) {
         let at = tag as usize;
         if is_turned(&self.turned, self.layout, tag) {
@@ -106,6 +114,7 @@ impl Entries {
     }
 
     /// Makes what is ready for the tags of the mask count, all at once.
+    #[inline]
     fn turn(&mut self, word: u32, mask: u64) {
         let at = word as usize;
         let turned = self.turned[at] ^ mask;
@@ -114,6 +123,7 @@ impl Entries {
 }
 
 /// Whether the tag's odd entry counts.
+#[inline]
 fn is_turned(turned: &[u64], layout: Layout, tag: u32) -> bool {
     (turned[layout.word_of(tag) as usize] >> layout.place_of(tag)) & 1 == 1
 }

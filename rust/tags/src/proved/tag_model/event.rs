@@ -51,6 +51,7 @@ pub enum EventFault {
 
 impl Event {
     /// Who makes the event. A look is anybody's, so the first caller's.
+    #[inline]
     pub(crate) fn caller(self) -> u32 {
         match self {
             Event::Look => 0,
@@ -66,6 +67,7 @@ impl Event {
     }
 
     /// How many tags its caller wins by it.
+    #[inline]
     pub(crate) fn won(self) -> u32 {
         match self {
             Event::Win(_, _, mask) => mask.count_ones(),
@@ -75,6 +77,7 @@ impl Event {
     }
 
     /// How many tags its caller gives back by it.
+    #[inline]
     pub(crate) fn back(self) -> u32 {
         match self {
             Event::Put(_, _) => 1,
@@ -84,6 +87,7 @@ impl Event {
     }
 
     /// Whether the layout has all tags, words and bits that it names.
+    #[inline]
     pub(crate) fn is_in(self, layout: Layout) -> bool {
         match self {
             Event::Look => true,
@@ -99,6 +103,7 @@ impl Event {
     }
 
     /// Tags among which are all that it names.
+    #[inline]
     pub(crate) fn span(self, layout: Layout) -> Range<u32> {
         match self {
             Event::Look => 0..0,
@@ -114,6 +119,7 @@ impl Event {
     }
 
     /// Whether it names the tag.
+    #[inline]
     pub(crate) fn names(self, layout: Layout, tag: u32) -> bool {
         match self {
             Event::Look => false,
@@ -129,6 +135,7 @@ impl Event {
     }
 
     /// The tags that it names as a word and a mask, if it names any.
+    #[inline]
     pub(crate) fn mask(self, layout: Layout) -> Option<(u32, u64)> {
         match self {
             Event::Look => None,
@@ -144,6 +151,7 @@ impl Event {
     }
 
     /// Whether a tag that it names may be there.
+    #[inline]
     pub(crate) fn accepts(self, place: Place) -> bool {
         match self {
             Event::Look | Event::Sweep(_, _) | Event::Spill(_, _) => true,
@@ -157,6 +165,7 @@ impl Event {
     }
 
     /// Where it brings a tag that it names.
+    #[inline]
     pub(crate) fn brings(self, place: Place) -> Place {
         match self {
             Event::Look => place,
@@ -172,6 +181,7 @@ impl Event {
     }
 
     /// Returns the fault of an event one of whose tags is elsewhere.
+    #[inline]
     pub(crate) fn missing(self) -> EventFault {
         match self {
             Event::Win(_, _, _) => EventFault::NotFree,

@@ -19,16 +19,19 @@ pub enum Place {
 
 impl Place {
     /// Whether somebody holds the tag.
+    #[inline]
     pub(crate) fn is_held(self) -> bool {
         matches!(self, Place::Held(_))
     }
 
     /// Whether the tag is posted.
+    #[inline]
     pub(crate) fn is_posted(self) -> bool {
         matches!(self, Place::Posted)
     }
 
     /// The place after the caller took what is aside.
+    #[inline]
     pub(crate) fn swept_by(self, caller: u32) -> Place {
         match self {
             Place::Aside => Place::Sweep(caller),
@@ -37,6 +40,7 @@ impl Place {
     }
 
     /// The place after the caller freed what it swept.
+    #[inline]
     pub(crate) fn spilled_by(self, caller: u32) -> Place {
         match self {
             Place::Sweep(by) if by == caller => Place::Free,

@@ -36,6 +36,7 @@ pub struct World {
 impl World {
     /// Opens a world in which all tags are free, for 1 to `MAX_CALLERS` callers. `CallerCount` means that their number
     /// is out of range; `Memory` comes last.
+    #[inline]
     pub fn open(alloc: Global, layout: Layout, callers: u32) -> Result<World, ModelFault> {
         if callers == 0 || callers > MAX_CALLERS {
             return Err(ModelFault::CallerCount);
@@ -46,6 +47,7 @@ impl World {
         }
     }
 
+    #[inline]
     fn all_free(alloc: Global, layout: Layout, callers: u32) -> Result<World, AllocError> {
         Ok(World {
             entries: Entries::open(alloc, layout)?,
@@ -55,11 +57,13 @@ impl World {
     }
 
     /// Where the tag is.
+    #[inline]
     pub fn place(&self, tag: u32) -> Place {
         self.entries.place(tag)
     }
 
     /// The sums over all callers and tags.
+    #[inline]
     pub fn totals(&self) -> Totals {
         Totals {
             got: sum_of(&self.won),
@@ -70,6 +74,7 @@ impl World {
     }
 
     /// One event. A fault leaves the world as it was.
+    #[inline]
     pub fn apply(&mut self, event: Event) -> Result<(), EventFault> {
         self.test(event)?;
         if !self.entries.bring(event) {
@@ -82,6 +87,7 @@ impl World {
 
     /// Events one after another, up to the first that can't happen: its index in the list, from 0, and its fault.
     /// The world then stands after the events before it.
+    #[inline]
     pub fn run(&mut self, events: &[Event]) -> Result<Totals, (usize, EventFault)> {
         for (index, event) in events.iter().enumerate() {
             if let Err(fault) = self.apply(*event) {
@@ -92,6 +98,7 @@ impl World {
     }
 
     /// Checks the numbers that the event names and its caller's room, but not where its tags are.
+    #[inline]
     fn test(&self, event: Event) -> Result<(), EventFault> {
         if !event.is_in(self.entries.layout()) {
             return Err(EventFault::NoSuchTag);
@@ -108,12 +115,14 @@ impl World {
 }
 
 /// More at one caller's count.
+#[inline]
 fn add_at(counts: &mut [u64], caller: u32, more: u32) {
     let at = caller as usize;
     let count = counts[at] + u64::from(more);
     counts[at] = count;
 }
 
+#[inline]
 fn sum_of(counts: &[u64]) -> u64 {
     counts.iter().sum()
 }

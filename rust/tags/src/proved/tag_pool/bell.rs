@@ -14,18 +14,21 @@ use crate::proved::tag_pool::pool::Pool;
 impl<R: Copy> Pool<R> {
     /// Lists the hand among those that wait for a tag of this kind, as this waiter. Afterwards it has to try each tag, by a get
     /// that finds none, before it may sleep. Four steps at most.
+    #[inline]
     pub fn list_self(&self, hand: &mut Hand<R>, kind: Kind, waiter: Waiter, turn: Turn) {
         crate::proved::tag_bell::list_self(self.map(kind), &mut hand.side_mut(kind).caller, waiter, turn);
     }
 
     /// Ends the hand's wait, and returns whether somebody had told it. One that was told has to see to each tag
     /// (`see_to_all`), unless its next get finds none. Two steps.
+    #[inline]
     pub fn get_up(&self, hand: &mut Hand<R>, kind: Kind) -> bool {
         crate::proved::tag_bell::get_up(self.map(kind), &mut hand.side_mut(kind).caller)
     }
 
     /// Looks whether the hand was told: returns whether it does not find itself listed, so also if it does not wait. One that
     /// was told gets up. One step.
+    #[inline]
     pub fn is_told(&self, hand: &mut Hand<R>, kind: Kind) -> bool {
         crate::proved::tag_bell::is_told(self.map(kind), &mut hand.side_mut(kind).caller)
     }

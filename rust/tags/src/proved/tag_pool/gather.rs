@@ -23,6 +23,7 @@ impl<R: Copy> Pool<R> {
     /// Closes the pool and returns its totals, if all hands are passed in, in any order, even those that wait or hold
     /// tags: tags won and given back since the pool was opened, over all its resizes, and tags now held and posted, all
     /// over both sets. Otherwise it names the least missing number and hands everything back.
+    #[inline]
     pub fn gather(pool: Pool<R>, hands: Vec<Hand<R>>) -> Result<Totals, PoolGatherFault<R>> {
         if let Err(cause) = all_there(&hands, pool.ordinary.callers()) {
             return Err(PoolGatherFault { cause, pool, hands });
@@ -31,6 +32,7 @@ impl<R: Copy> Pool<R> {
     }
 
     /// Closes the pool with all its hands.
+    #[inline]
     fn close(self, hands: Vec<Hand<R>>) -> Totals {
         let Together { reserved, ordinary } = gather_each(&self, hands);
         let Pool {
@@ -42,6 +44,7 @@ impl<R: Copy> Pool<R> {
     }
 
     /// Drops the pool with the values in its slots, without totals.
+    #[inline]
     pub fn discard(self) {
         let Pool { reserved, ordinary, .. } = self;
         drop(reserved);
@@ -50,6 +53,7 @@ impl<R: Copy> Pool<R> {
 }
 
 /// Returns the sums over both sets.
+#[inline]
 fn add_up(one: Totals, other: Totals) -> Totals {
     Totals {
         got: one.got + other.got,

@@ -38,6 +38,7 @@ impl<R: Copy> Pool<R> {
     /// Like `get`, but limited to `depth` of the ordinary tags, which are shared out among the words in proportion. A
     /// word's share may be 0. `TooShallow` means that `depth` is 0 or below the minimum shallow depth. `Spent` is that
     /// of `get`.
+    #[inline]
     pub fn get_shallow(&self, hand: &mut Hand<R>, depth: u32) -> Result<Got<Option<u32>>, TagFault> {
         let Found { answer, left } = self.get_shallow_quietly(hand, depth)?;
         let woken = self.look_after(hand, Kind::Ordinary, left);
@@ -48,6 +49,7 @@ impl<R: Copy> Pool<R> {
     /// word. Returns the first of them and the mask of those won, in which bit 0 is that first tag, and tells those that
     /// wait as `get` does. Under round robin it returns `None` and makes no step, as in the kernel (lib/sbitmap.c).
     /// `BadCount` means an `n` out of that range, `Spent` that the life does not suffice for `n` more tags.
+    #[inline]
     pub fn get_batch(&self, hand: &mut Hand<R>, n: u32) -> Result<Got<Option<(u32, u64)>>, TagFault> {
         let Found { answer, left } = self.get_batch_quietly(hand, n)?;
         let woken = self.look_after(hand, Kind::Ordinary, left);
@@ -56,6 +58,7 @@ impl<R: Copy> Pool<R> {
 
     /// Takes a free reserved tag as `get` takes an ordinary one, and then tells those that wait for a reserved tag.
     /// `NoReserved` means that there are none. `Spent` means that the hand's life in the reserved set is used up.
+    #[inline]
     pub fn get_reserved(&self, hand: &mut Hand<R>) -> Result<Got<Option<u32>>, TagFault> {
         let Found { answer, left } = self.get_reserved_quietly(hand)?;
         let woken = self.look_after(hand, Kind::Reserved, left);
@@ -74,7 +77,7 @@ impl<R: Copy> Pool<R> {
 
     /// The same where some were left. It is out of line, so that a get is short where none was.
     #[cold]
-    #[inline(never)]
+    #[inline]
     fn look_after_some(&self, hand: &mut Hand<R>, kind: Kind, left: u64) -> Woken {
         // No more than 64 hands wait.
         self.wake(hand, kind, left.min(64) as u32)

@@ -16,6 +16,7 @@ pub struct Hand<R> {
 }
 
 impl<R> Numbered for Hand<R> {
+    #[inline]
     fn number(&self) -> u32 {
         self.ordinary.number
     }
@@ -41,6 +42,7 @@ impl<R> Hand<R> {
     }
 
     /// Returns whether the hand holds the tag. This makes no step.
+    #[inline]
     pub fn holds(&self, tag: u32) -> bool {
         self.holds_past(self.reserved_count, tag)
     }

@@ -31,6 +31,7 @@ pub(crate) struct Lent<R> {
 
 impl<R> Side<R> {
     /// Starts to bring the map's callers together, with that of this side.
+    #[inline]
     fn start_lending(self, map: &Map<R>) -> (Gathering<R>, LentSide<R>) {
         let Side { hint, number, caller } = self;
         let (first, lender) = map.start_lending(caller);
@@ -39,6 +40,7 @@ impl<R> Side<R> {
     }
 
     /// Has the side's caller lend its record to those gathered.
+    #[inline]
     fn lend(self, map: &Map<R>, all: &mut Gathering<R>) -> LentSide<R> {
         let Side { hint, number, caller } = self;
         let lender = all.lend(map, caller);
@@ -48,6 +50,7 @@ impl<R> Side<R> {
 
 impl<R> LentSide<R> {
     /// Returns the side, whose caller lent its record last, with its record.
+    #[inline]
     fn take_back(self, map: &Map<R>, loans: &mut Loans<R>) -> Side<R> {
         let LentSide { hint, number, lender } = self;
         let caller = loans.give_back(map, lender);
@@ -57,6 +60,7 @@ impl<R> LentSide<R> {
 
 impl<R> Pool<R> {
     /// Starts to bring the pool's hands together, with this one.
+    #[inline]
     pub(crate) fn start_lending(&self, hand: Hand<R>) -> (Together<R>, LentHand<R>) {
         let Hand {
             reserved_count,
@@ -80,6 +84,7 @@ impl<R> Pool<R> {
 
 impl<R> Together<R> {
     /// Has a hand lend its records to those gathered.
+    #[inline]
     pub(crate) fn lend(&mut self, pool: &Pool<R>, hand: Hand<R>) -> LentHand<R> {
         let Hand {
             reserved_count,
@@ -96,6 +101,7 @@ impl<R> Together<R> {
 
 impl<R> Lent<R> {
     /// Returns the hand that lent its records last, unchanged.
+    #[inline]
     pub(crate) fn give_back(&mut self, pool: &Pool<R>, hand: LentHand<R>) -> Hand<R> {
         let LentHand {
             reserved_count,

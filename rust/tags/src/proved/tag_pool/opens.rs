@@ -20,6 +20,7 @@ impl<R: Copy> Pool<R> {
     /// hands are in the order of their numbers. The causes are tested in this order: `TotalTooLarge`, more than 10,240
     /// tags; `ReservedTooLarge`, more reserved tags than tags; `ShiftTooLarge`, a shift above 6; `CallerCount`, not 1 to
     /// 64 hands; `LifeTooLong`, a life above 2^48; `Memory`.
+    #[inline]
     pub fn open(alloc: Global, options: Options, fill: R) -> Result<(Pool<R>, Vec<Hand<R>>), OpenFault> {
         if options.depth > MAX_DEPTH {
             return Err(OpenFault::TotalTooLarge);
@@ -49,6 +50,7 @@ impl<R: Copy> Pool<R> {
 }
 
 /// Allocates a pool and its hands for arguments that are valid, so it fails only if memory runs out.
+#[inline]
 fn lay_out<R: Copy>(
     alloc: Global,
     first: Layout,
@@ -76,6 +78,7 @@ fn lay_out<R: Copy>(
 }
 
 /// Opens the map of one set, with its callers.
+#[inline]
 fn open_set<R: Copy>(
     alloc: Global,
     layout: Layout,
@@ -90,6 +93,7 @@ fn open_set<R: Copy>(
 }
 
 /// Puts hands together from these callers, in the same order.
+#[inline]
 fn join<R>(
     alloc: Global,
     reserved_count: u32,

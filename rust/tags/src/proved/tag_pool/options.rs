@@ -30,6 +30,7 @@ impl Options {
     /// Returns the options for this many tags, at most 10,240, and hands, 1 to 64, and otherwise the defaults: no reserved
     /// tags, the shift that fits the depth by the kernel's rule, no round robin, no minimum shallow depth, and the
     /// greatest life.
+    #[inline]
     pub fn new(depth: u32, hands: u32) -> Options {
         Options {
             depth,
@@ -44,6 +45,7 @@ impl Options {
     }
 
     /// Returns the number of hands that the words are for: all of them, or four by the kernel's rule.
+    #[inline]
     pub(crate) fn counted_hands(&self) -> u32 {
         if self.by_hands {
             self.hands
@@ -53,11 +55,13 @@ impl Options {
     }
 
     /// Returns these options with this many of the tags reserved.
+    #[inline]
     pub fn with_reserved(self, reserved: u32) -> Options {
         Options { reserved, ..self }
     }
 
     /// Returns these options with words of `2^shift` bits, where `shift` is 0 to 6.
+    #[inline]
     pub fn with_shift(self, shift: u32) -> Options {
         Options {
             shift: Some(shift),
@@ -67,11 +71,13 @@ impl Options {
 
     /// Returns these options with words for their number of hands, where they name no shift: each set has as many whole
     /// words as hands, if it has the tags, and at least four.
+    #[inline]
     pub fn with_words_by_hands(self) -> Options {
         Options { by_hands: true, ..self }
     }
 
     /// Returns these options with round robin gets.
+    #[inline]
     pub fn with_round_robin(self) -> Options {
         Options {
             round_robin: true,
@@ -80,6 +86,7 @@ impl Options {
     }
 
     /// Returns these options with this minimum shallow depth.
+    #[inline]
     pub fn with_min_shallow(self, depth: u32) -> Options {
         Options {
             min_shallow: Some(depth),

@@ -10,6 +10,7 @@ use crate::proved::tag_pool::shown::Shown;
 impl<R: Copy> Pool<R> {
     /// Sets bit `t % 64` of `into[t / 64]` for each busy tag `t`, clears all other bits, and returns the number of busy
     /// tags, as `busy` does but without a hand.
+    #[inline]
     pub fn peek_busy(&self, into: &mut [u64]) -> u32 {
         into.fill(0);
         let reserved = self.peek_set(Kind::Reserved, 0, into);
@@ -19,6 +20,7 @@ impl<R: Copy> Pool<R> {
 
     /// Returns the sizes of a set, and how many of its tags are busy and how many set aside, as `show` does but without a
     /// hand.
+    #[inline]
     pub fn peek_show(&self, kind: Kind) -> Shown {
         let layout = self.layout(kind);
         let mut busy = 0u32;
@@ -39,6 +41,7 @@ impl<R: Copy> Pool<R> {
     }
 
     /// Sets the bits of the busy tags of a set, whose first tag has bit `first`, and returns how many they are.
+    #[inline]
     fn peek_set(&self, kind: Kind, first: u32, into: &mut [u64]) -> u32 {
         let layout = self.layout(kind);
         let mut count = 0u32;
@@ -53,6 +56,7 @@ impl<R: Copy> Pool<R> {
     }
 
     /// Loads a word of a set (1 is taken) and then its cleared set (1 is set aside): two loads, one after the other.
+    #[inline]
     fn peek_both(&self, kind: Kind, word: u32) -> (u64, u64) {
         let map = self.map(kind);
         let found = map.peek(word);

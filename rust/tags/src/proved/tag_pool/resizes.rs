@@ -56,6 +56,7 @@ impl<R: Copy> Pool<R> {
     /// are new and free, and their slots contain the initial value; the reserved set is unchanged. All hands must be passed
     /// in, in any order; no tag of either set may be held or posted, and no hand may wait, for a tag of either set. A refusal
     /// hands everything back.
+    #[inline]
     pub fn resize(
         alloc: Global,
         pool: Pool<R>,
@@ -69,6 +70,7 @@ impl<R: Copy> Pool<R> {
     }
 
     /// Returns the layout of the next map, if nothing but memory can prevent the resize.
+    #[inline]
     fn next_layout(&self, hands: &mut Vec<Hand<R>>, total: u32) -> Result<Layout, ResizeCause> {
         if let Err(GatherCause::Missing(number)) = all_there(hands, self.ordinary.callers()) {
             return Err(ResizeCause::Missing(number));
@@ -88,6 +90,7 @@ impl<R: Copy> Pool<R> {
     }
 
     /// Returns what prevents the resize while all hands are present: tags in use, or hands that wait.
+    #[inline]
     fn busy_for(&self, hands: &mut Vec<Hand<R>>) -> Option<ResizeCause> {
         let usage = self.usage(hands);
         let held = usage.ordinary.totals.held + usage.reserved.totals.held;
@@ -106,6 +109,7 @@ impl<R: Copy> Pool<R> {
 
 impl<R> Pool<R> {
     /// Returns how many of these hands have their bit in a mask.
+    #[inline]
     fn count_in(&self, hands: &[Hand<R>], mask: u64) -> u32 {
         let mut count = 0u32;
         for hand in hands {

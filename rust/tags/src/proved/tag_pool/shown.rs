@@ -25,6 +25,7 @@ impl<R: Copy> Pool<R> {
     /// Returns the sizes of a set, and how many of its tags are busy and how many set aside. The hand's list has one
     /// load of each word, and then one of its cleared set; so while other hands act, the sums are not a snapshot of a
     /// single moment.
+    #[inline]
     pub fn show(&self, hand: &mut Hand<R>, kind: Kind) -> Shown {
         let layout = self.layout(kind);
         let mut busy = 0u32;

@@ -19,12 +19,14 @@ pub struct Side<R> {
 
 impl<R> Side<R> {
     /// Returns the side of this caller, with this hint.
+    #[inline]
     pub(crate) fn new(caller: Caller<R>, hint: Hint) -> Side<R> {
         let number = caller.number();
         Side { hint, number, caller }
     }
 
     /// Returns the caller alone.
+    #[inline]
     pub(crate) fn into_caller(self) -> Caller<R> {
         let Side {
             hint: _,
@@ -37,6 +39,7 @@ impl<R> Side<R> {
 
 impl<R: Copy> Side<R> {
     /// Moves the hint to the first tag of the hand's own part of the set. This makes no step.
+    #[inline]
     pub(crate) fn place(&mut self, map: &Map<R>) {
         let depth = u64::from(map.layout().depth());
         let first = u64::from(self.number) * depth / u64::from(map.callers());
@@ -44,6 +47,7 @@ impl<R: Copy> Side<R> {
     }
 
     /// Loads a word of the set (1 is taken) and then its cleared set (1 is set aside): two loads, one after the other.
+    #[inline]
     pub(crate) fn look_both(&mut self, map: &Map<R>, word: u32) -> (u64, u64) {
         let found = map.look(&mut self.caller, word);
         (found, map.look_aside(&mut self.caller, word))

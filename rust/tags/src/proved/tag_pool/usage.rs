@@ -26,6 +26,7 @@ pub(crate) struct Usage {
 }
 
 /// Returns what all callers of a set, which have lent their records, have in use, and who of them waits.
+#[inline]
 fn usage_of_set<R>(mut all: Gathering<R>, map: &Map<R>) -> (Loans<R>, SetUsage) {
     let waiting = all.waiting(map);
     let (loans, totals) = all.settle(map);
@@ -34,6 +35,7 @@ fn usage_of_set<R>(mut all: Gathering<R>, map: &Map<R>) -> (Loans<R>, SetUsage) 
 
 impl<R> Together<R> {
     /// Returns what all hands of the pool, which have lent their records, have in use, and who waits.
+    #[inline]
     fn usage(self, pool: &Pool<R>) -> (Lent<R>, Usage) {
         let Together { reserved, ordinary } = self;
         let (first, reserved) = usage_of_set(reserved, &pool.reserved);
@@ -47,6 +49,7 @@ impl<R> Together<R> {
 }
 
 /// Has these hands lend their records to those gathered.
+#[inline]
 fn usage_of_rest<R>(pool: &Pool<R>, mut all: Together<R>, hands: &mut Vec<Hand<R>>) -> (Lent<R>, Usage) {
     let Some(last) = hands.pop() else {
         return all.usage(pool);
@@ -60,6 +63,7 @@ fn usage_of_rest<R>(pool: &Pool<R>, mut all: Together<R>, hands: &mut Vec<Hand<R
 
 impl<R> Pool<R> {
     /// Brings all hands together for a moment, and returns what they have in use and who waits. The hands are unchanged.
+    #[inline]
     pub(crate) fn usage(&self, hands: &mut Vec<Hand<R>>) -> Usage {
         let Some(last) = hands.pop() else { unreachable!() };
         let (all, lender) = self.start_lending(last);

@@ -33,7 +33,7 @@ fn search_on<P: Port>(port: &mut P, layout: Layout, first: u32) -> Option<u32> {
 }
 
 /// Visits the words after the first, and then those before it.
-#[inline(never)]
+#[inline]
 fn search_others<P: Port>(port: &mut P, layout: Layout, first: u32) -> Option<u32> {
     let scan = Scan::of_words(layout, first);
     match scan.visit_between(port, first + 1, layout.words()) {

@@ -58,6 +58,7 @@ pub fn after_clear(hint: &mut Hint, tag: u32) {
 
 /// Reduces a hint at or past the depth modulo the depth, where lib/sbitmap.c draws a random tag instead.
 #[cold]
+#[inline]
 fn reduce(at: u32, depth: u32) -> u32 {
     if depth == 0 {
         0
@@ -67,6 +68,7 @@ fn reduce(at: u32, depth: u32) -> u32 {
 }
 
 /// Returns the tag after this one, or 0 if that would be the last tag or past it.
+#[inline]
 fn next_hint(depth: u32, tag: u32) -> u32 {
     if tag + 1 < depth - 1 {
         tag + 1

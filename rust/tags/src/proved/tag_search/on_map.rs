@@ -37,7 +37,7 @@ pub fn begin<R>(map: &Map<R>, caller: &mut Caller<R>, hint: &mut Hint) -> Result
 
 /// Finishes a get that won nothing at its first try. It is out of line and makes a port of its own: the port of the first
 /// try then needs no memory.
-#[inline(never)]
+#[inline]
 pub fn finish<R>(map: &Map<R>, caller: &mut Caller<R>, hint: &mut Hint, rest: Unfinished) -> Found<u32> {
     let mut port = Shared::new(map, caller);
     let answer = search::finish(&mut port, hint, rest);

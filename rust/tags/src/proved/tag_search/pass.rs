@@ -51,7 +51,7 @@ pub fn pass<P: Port>(port: &mut P, word: u32, rank: Rank) -> Option<u32> {
 }
 
 /// Goes on after a lost claim, which found these bits in the word, with the places `from .. limit` and `0 .. then`.
-#[inline(never)]
+#[inline]
 fn pass_on<P: Port>(port: &mut P, word: u32, from: u32, limit: u32, then: u32, lost: u64) -> Option<u32> {
     let mut found = lost;
     let mut left = Rank { from, limit, then };

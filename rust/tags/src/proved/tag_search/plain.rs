@@ -17,6 +17,7 @@ pub struct PlainPort {
 
 impl PlainPort {
     /// Opens words with all tags free.
+    #[inline]
     pub fn open(alloc: Global, layout: Layout) -> Result<PlainPort, AllocError> {
         let count = layout.words() as usize;
         let word = Vec::filled(alloc, 0u64, count)?;
@@ -25,6 +26,7 @@ impl PlainPort {
     }
 
     /// Returns whether the tag is taken and not set aside.
+    #[inline]
     pub fn taken(&self, tag: u32) -> bool {
         let word = self.layout.word_of(tag) as usize;
         let bit = bit_of(self.layout, tag);
@@ -32,11 +34,13 @@ impl PlainPort {
     }
 
     /// Returns the cleared set of a word: 1 is set aside.
+    #[inline]
     pub fn look_aside(&mut self, word: u32) -> u64 {
         self.cleared[word as usize]
     }
 
     /// Sets a taken tag aside, for a later sweep to free.
+    #[inline]
     pub fn put(&mut self, tag: u32) {
         let word = self.layout.word_of(tag) as usize;
         let bit = bit_of(self.layout, tag);
@@ -44,6 +48,7 @@ impl PlainPort {
     }
 
     /// Frees the taken tags of the mask at once.
+    #[inline]
     pub fn give(&mut self, word: u32, mask: u64) {
         self.word[word as usize] &= !mask;
     }

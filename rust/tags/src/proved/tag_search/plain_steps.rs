@@ -8,10 +8,12 @@ use crate::proved::tag_search::plain::PlainPort;
 use crate::proved::tag_search::port::Port;
 
 impl Port for PlainPort {
+    #[inline]
     fn layout(&self) -> Layout {
         self.layout
     }
 
+    #[inline]
     fn room(&self, _n: u32) -> bool {
         true
     }
@@ -40,6 +42,7 @@ impl Port for PlainPort {
         }
     }
 
+    #[inline]
     fn sweep(&mut self, word: u32) -> u64 {
         let at = word as usize;
         let mask = self.cleared[at];
@@ -51,6 +54,7 @@ impl Port for PlainPort {
         mask
     }
 
+    #[inline]
     fn sweep_keeping(&mut self, word: u32) -> Option<u32> {
         let at = word as usize;
         let mask = self.cleared[at];

@@ -17,6 +17,7 @@ pub struct Rank {
 
 impl Rank {
     /// Returns the places from `start` to `limit` and then, if `wrap` is set, those before `start`.
+    #[inline]
     pub fn new(start: u32, limit: u32, wrap: bool) -> Rank {
         let then = if wrap { start.min(limit) } else { 0 };
         Rank {

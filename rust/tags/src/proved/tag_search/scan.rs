@@ -37,6 +37,7 @@ impl Scan {
     }
 
     /// Returns the scan of whole words from `first` on.
+    #[inline]
     pub fn of_words(layout: Layout, first: u32) -> Scan {
         Scan {
             layout,

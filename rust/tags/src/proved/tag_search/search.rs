@@ -85,7 +85,7 @@ fn finish_try<P: Port>(port: &mut P, hint: &mut Hint, layout: Layout, missed: Mi
 }
 
 /// Makes a get from any hint, with round robin or without.
-#[inline(never)]
+#[inline]
 fn get_by_scan<P: Port>(port: &mut P, hint: &mut Hint, layout: Layout) -> Option<u32> {
     let from = hint.reduced(layout.depth());
     let answer = Scan::plain(layout, hint.round_robin, from).search(port);
@@ -94,6 +94,7 @@ fn get_by_scan<P: Port>(port: &mut P, hint: &mut Hint, layout: Layout) -> Option
 }
 
 /// As `get`, limited to `depth` tags, which are distributed over the words. The share of a word may be 0.
+#[inline]
 pub fn get_shallow<P: Port>(port: &mut P, hint: &mut Hint, depth: u32) -> Result<Option<u32>, Spent> {
     if !port.room(1) {
         return Err(Spent);
@@ -107,6 +108,7 @@ pub fn get_shallow<P: Port>(port: &mut P, hint: &mut Hint, depth: u32) -> Result
 
 /// Takes up to `n` adjacent free tags of one word. Returns the first tag of the run and the mask of those won, whose
 /// lowest bit is that tag. Under round robin it returns `None` without a step.
+#[inline]
 pub fn get_batch<P: Port>(port: &mut P, hint: &mut Hint, n: u32) -> Result<Option<(u32, u64)>, Spent> {
     if hint.round_robin {
         return Ok(None);

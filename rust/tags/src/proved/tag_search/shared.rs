@@ -22,6 +22,7 @@ pub struct Shared<'a, R> {
 
 impl<'a, R> Shared<'a, R> {
     /// Returns a port for `caller`, which is one of the callers of `map`.
+    #[inline]
     pub fn new(map: &'a Map<R>, caller: &'a mut Caller<R>) -> Shared<'a, R> {
         Shared {
             map,

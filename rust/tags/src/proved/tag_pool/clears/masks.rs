@@ -20,6 +20,7 @@ impl<R: Copy> Pool<R> {
     /// `clear_batch` on these tags in order, by one step for each word that has any of them. `BadCount` means that the
     /// mask is empty; `NoSuchTag` that a number is not below the total or its tag is reserved; `NotHeld` that the hand does
     /// not hold a tag. Nothing changes on an error.
+    #[inline]
     pub fn clear_mask(&self, hand: &mut Hand<R>, first: u32, mask: u64) -> Result<Woken, TagFault> {
         self.clear_mask_quietly(hand, first, mask)?;
         Ok(self.wake(hand, Kind::Ordinary, mask.count_ones()))

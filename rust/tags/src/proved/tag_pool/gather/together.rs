@@ -18,6 +18,7 @@ impl<R> Gather for Pool<R> {
 
     type Gathering = Together<R>;
 
+    #[inline]
     fn take_first(&self, hand: Hand<R>) -> Together<R> {
         let Hand {
             reserved_count: _,
@@ -30,6 +31,7 @@ impl<R> Gather for Pool<R> {
         }
     }
 
+    #[inline]
     fn take_next(&self, together: &mut Together<R>, hand: Hand<R>) {
         let Hand {
             reserved_count: _,

@@ -15,6 +15,7 @@ use crate::proved::tag_pool::pool::Pool;
 impl Kind {
     /// Returns the fault of a wait for a tag of this kind if there are no such tags: `NoSuchTag`, or `NoReserved` for a
     /// reserved one.
+    #[inline]
     pub fn no_tag(self) -> TagFault {
         match self {
             Kind::Ordinary => TagFault::NoSuchTag,
@@ -27,17 +28,20 @@ impl<R: Copy> Pool<R> {
     /// Takes a free ordinary tag like `get`, and waits by the bell as long as it finds none. Once it has a tag it sees to
     /// all others, and wakes the sleepers whom this told. Nothing promises that it returns. `NoSuchTag` means that there are
     /// no ordinary tags, `Spent` that the hand's life in the ordinary set is used up.
+    #[inline]
     pub fn get_blocking<W: Wait>(&self, rt: &W, hand: &mut Hand<R>) -> Result<Got<u32>, TagFault> {
         self.block_for(rt, hand, Kind::Ordinary)
     }
 
     /// Takes a free reserved tag like `get_reserved`, and waits for one as `get_blocking` does for an ordinary tag.
     /// `NoReserved` means that there are no reserved tags, `Spent` that the hand's life in the reserved set is used up.
+    #[inline]
     pub fn get_reserved_blocking<W: Wait>(&self, rt: &W, hand: &mut Hand<R>) -> Result<Got<u32>, TagFault> {
         self.block_for(rt, hand, Kind::Reserved)
     }
 
     /// Takes a free tag of this kind, and waits as long as it finds none.
+    #[inline]
     fn block_for<W: Wait>(&self, rt: &W, hand: &mut Hand<R>, kind: Kind) -> Result<Got<u32>, TagFault> {
         self.check_blocking(hand, kind)?;
         let (answer, told) = self.win(rt, hand, kind);
@@ -46,6 +50,7 @@ impl<R: Copy> Pool<R> {
     }
 
     /// Wins a tag, at once or after it slept for one, and sees to all others.
+    #[inline]
     fn win<W: Wait>(&self, rt: &W, hand: &mut Hand<R>, kind: Kind) -> (u32, Told) {
         if let Some(tag) = self.try_get(hand, kind) {
             return (tag, self.see_to_all(hand, kind));
@@ -54,6 +59,7 @@ impl<R: Copy> Pool<R> {
     }
 
     /// Sleeps until the hand wins a tag, after a get that found none.
+    #[inline]
     fn sleep_for_tag<W: Wait>(&self, rt: &W, hand: &mut Hand<R>, kind: Kind) -> (u32, Told) {
         let mut turn = Turn::Next;
         for _ in rt.forever() {
@@ -68,6 +74,7 @@ impl<R: Copy> Pool<R> {
 
     /// Returns whether a get of this kind may wait. `NoSuchTag` means that there are no ordinary tags and `NoReserved` that
     /// there are no reserved ones, for which it would wait for ever, `Spent` that the hand's life in the set is used up.
+    #[inline]
     pub(super) fn check_blocking(&self, hand: &Hand<R>, kind: Kind) -> Result<(), TagFault> {
         if self.map(kind).layout().depth() == 0 {
             return Err(kind.no_tag());
@@ -80,6 +87,7 @@ impl<R: Copy> Pool<R> {
 
     /// Makes a get for a hand that may win one more tag of this kind. Whoever calls it sees to the tags that its sweeps left
     /// free.
+    #[inline]
     pub(super) fn try_get(&self, hand: &mut Hand<R>, kind: Kind) -> Option<u32> {
         let Ok(found) = self.get_in_quietly(hand, kind) else {
             unreachable!()

@@ -14,6 +14,7 @@ impl<R: Copy> Pool<R> {
     /// counts as free, and a reserved one is taken like an ordinary one. Then it tells those that wait for
     /// a tag of its kind as `get` does, whatever it answers. The hint stays where it is. `NoSuchTag` means that the number
     /// is not below the total, `Spent` that the hand's life in the tag's set is used up.
+    #[inline]
     pub fn get_exactly(&self, hand: &mut Hand<R>, tag: u32) -> Result<Got<Option<u32>>, TagFault> {
         let Found { answer, left } = self.get_exactly_quietly(hand, tag)?;
         let woken = self.look_after(hand, self.kind(tag), left);
@@ -21,6 +22,7 @@ impl<R: Copy> Pool<R> {
     }
 
     /// Like `get_exactly`, but tells nobody (see `get_quietly`). It is refused as `get_exactly` is: `NoSuchTag`, `Spent`.
+    #[inline]
     pub fn get_exactly_quietly(&self, hand: &mut Hand<R>, tag: u32) -> Result<Found<u32>, TagFault> {
         self.find(tag)?;
         if tag < self.reserved_count {

@@ -16,6 +16,7 @@ impl<R: Copy> Pool<R> {
     /// of those that wait as its gets left tags free and it gave tags back, and wakes the sleepers among them. `BadCount`
     /// means that there are fewer ordinary tags than places, `Spent` that the life does not suffice for so many more tags;
     /// nothing changes then.
+    #[inline]
     pub fn get_many(&self, hand: &mut Hand<R>, tags: &mut [u32]) -> Result<Got<bool>, TagFault> {
         let (answer, left) = self.get_many_quietly(hand, tags)?;
         let woken = self.look_after(hand, Kind::Ordinary, left);
@@ -25,12 +26,14 @@ impl<R: Copy> Pool<R> {
     /// Like `get_many`, but tells nobody: after its answer it returns the sum of how many ordinary tags each of its gets left
     /// free, and of those that it gave back. The caller sees to so many (`see_to`, `wake`). It is refused as `get_many` is:
     /// `BadCount`, `Spent`.
+    #[inline]
     pub fn get_many_quietly(&self, hand: &mut Hand<R>, tags: &mut [u32]) -> Result<(bool, u64), TagFault> {
         self.check_many(hand, tags.len())?;
         Ok(self.win_many(hand, tags))
     }
 
     /// Returns `Ok` if `get_many` would take so many tags or none, and otherwise its refusal. This makes no step.
+    #[inline]
     fn check_many(&self, hand: &Hand<R>, n: usize) -> Result<(), TagFault> {
         if n > self.ordinary.layout().depth() as usize {
             return Err(TagFault::BadCount);
@@ -42,6 +45,7 @@ impl<R: Copy> Pool<R> {
     }
 
     /// Wins a tag for each place of the slice, or none. Returns whether it won them, and how many tags to see to.
+    #[inline]
     fn win_many(&self, hand: &mut Hand<R>, tags: &mut [u32]) -> (bool, u64) {
         let mut left = 0u64;
         for i in 0..tags.len() {
@@ -59,6 +63,7 @@ impl<R: Copy> Pool<R> {
     }
 
     /// Frees ordinary tags that the hand holds, however many there are.
+    #[inline]
     fn free_all(&self, hand: &mut Hand<R>, tags: &[u32]) {
         if !tags.is_empty() {
             hand.ordinary.give_list(&self.ordinary, self.reserved_count, tags);

@@ -23,6 +23,7 @@ impl<R: Copy> Pool<R> {
 
     /// Like `get_reserved`, but tells nobody (see `get_quietly`): `left` counts reserved tags. It is refused as `get_reserved`
     /// is: `NoReserved`, `Spent`.
+    #[inline]
     pub fn get_reserved_quietly(&self, hand: &mut Hand<R>) -> Result<Found<u32>, TagFault> {
         if self.reserved_count == 0 {
             return Err(TagFault::NoReserved);
@@ -76,6 +77,7 @@ impl<R: Copy> Pool<R> {
     }
 
     /// Like `get_shallow`, but tells nobody (see `get_quietly`). It is refused as `get_shallow` is: `TooShallow`, `Spent`.
+    #[inline]
     pub fn get_shallow_quietly(&self, hand: &mut Hand<R>, depth: u32) -> Result<Found<u32>, TagFault> {
         if depth < self.shallowest {
             return Err(TagFault::TooShallow);

@@ -33,6 +33,7 @@ pub trait Sleeper<R> {
 impl<R> Hand<R> {
     /// Returns whether the hand can wait for a tag of this kind (`wait_on`): it may win one more, and its next get tries each,
     /// as each get does that is not round robin, and each that follows one that found none. This makes no step.
+    #[inline]
     pub fn can_wait(&self, kind: Kind) -> bool {
         let side = self.side(kind);
         let Hint { at, round_robin } = side.hint;
@@ -45,6 +46,7 @@ impl<R: Copy> Pool<R> {
     /// wait: it gives up for no other reason before 2^64 - 1 sleeps. Returns the tag, and whom it told, who are to be woken:
     /// with a tag or without one it sees to all tags first.
     /// `NoSuchTag` means that there are no ordinary tags, `Spent` that the hand's life in the ordinary set is used up.
+    #[inline]
     pub fn get_until<S: Sleeper<R>>(
         &self,
         sleeper: &mut S,
@@ -55,6 +57,7 @@ impl<R: Copy> Pool<R> {
 
     /// Takes a free reserved tag like `get_reserved`, and waits for one as `get_until` does for an ordinary tag.
     /// `NoReserved` means that there are no reserved tags, `Spent` that the hand's life in the reserved set is used up.
+    #[inline]
     pub fn get_reserved_until<S: Sleeper<R>>(
         &self,
         sleeper: &mut S,
@@ -64,6 +67,7 @@ impl<R: Copy> Pool<R> {
     }
 
     /// Takes a free tag of this kind, and as long as it finds none waits until the sleeper ends the wait.
+    #[inline]
     fn wait_for<S: Sleeper<R>>(
         &self,
         sleeper: &mut S,
@@ -78,6 +82,7 @@ impl<R: Copy> Pool<R> {
     }
 
     /// Sleeps until the hand wins a tag or the sleeper ends the wait, after a get that found none.
+    #[inline]
     fn sleep_until<S: Sleeper<R>>(&self, sleeper: &mut S, hand: &mut Hand<R>, kind: Kind) -> (Option<u32>, Told) {
         let mut is_over = false;
         let mut turn = Turn::Next;
@@ -96,6 +101,7 @@ impl<R: Copy> Pool<R> {
     /// One round of a wait for a tag of this kind: lists the hand as this waiter and tries each tag, or ends the wait. If it
     /// answers `Sleep`, the hand may sleep, and can wait again. Otherwise it waits no more and has nothing to see to, and
     /// those told are to be woken.
+    #[inline]
     pub fn wait_on(&self, hand: &mut Hand<R>, kind: Kind, waiter: Waiter, is_over: bool, turn: Turn) -> (Next, Told) {
         if is_over {
             return (Next::Over, self.give_up(hand, kind));
@@ -107,6 +113,7 @@ impl<R: Copy> Pool<R> {
     }
 
     /// Lists the hand and tries each tag. If it wins one it ends the wait, and otherwise it may sleep.
+    #[inline]
     pub(super) fn try_listed(&self, hand: &mut Hand<R>, kind: Kind, waiter: Waiter, turn: Turn) -> (Option<u32>, Told) {
         self.list_self(hand, kind, waiter, turn);
         let Some(tag) = self.try_get(hand, kind) else {
@@ -116,6 +123,7 @@ impl<R: Copy> Pool<R> {
     }
 
     /// Ends a wait: gets up, and then sees to all tags.
+    #[inline]
     fn give_up(&self, hand: &mut Hand<R>, kind: Kind) -> Told {
         self.get_up(hand, kind);
         self.see_to_all(hand, kind)

@@ -12,6 +12,7 @@ impl<R: Copy> Pool<R> {
     /// tags. A tag is busy if it was found taken and then not set aside. `into` must have a bit for each tag of both
     /// sets. The hand's list has one load of each word, and then one of its cleared set; so while other hands act, the
     /// tags are not a snapshot of a single moment.
+    #[inline]
     pub fn busy(&self, hand: &mut Hand<R>, into: &mut [u64]) -> u32 {
         into.fill(0);
         let reserved = self.list_set(hand, Kind::Reserved, 0, into);
@@ -20,6 +21,7 @@ impl<R: Copy> Pool<R> {
     }
 
     /// Sets the bits of the busy tags of a set, whose first tag has bit `first`, and returns how many they are.
+    #[inline]
     fn list_set(&self, hand: &mut Hand<R>, kind: Kind, first: u32, into: &mut [u64]) -> u32 {
         let layout = self.layout(kind);
         let mut count = 0u32;

@@ -12,6 +12,7 @@ impl<R: Copy> Pool<R> {
     /// then not set aside. Returns the number of those bytes, `ceil(depth / 8)`. The last one is padded with zeros, and
     /// the bytes after it are unchanged. The hand's list has one load of each word, and then one of its cleared set; so
     /// while other hands act, the bytes are not a snapshot of a single moment.
+    #[inline]
     pub fn dump(&self, hand: &mut Hand<R>, kind: Kind, into: &mut [u8]) -> u32 {
         let count = self.layout(kind).depth().div_ceil(8);
         self.pack(hand, kind, &mut into[..count as usize]);
@@ -19,6 +20,7 @@ impl<R: Copy> Pool<R> {
     }
 
     /// Sets the bits of the busy tags of a set, and clears all others.
+    #[inline]
     fn pack(&self, hand: &mut Hand<R>, kind: Kind, bytes: &mut [u8]) {
         let layout = self.layout(kind);
         bytes.fill(0);

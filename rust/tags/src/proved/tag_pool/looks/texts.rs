@@ -11,6 +11,7 @@ const LINE_BYTES: usize = 16;
 
 /// Writes five lines: `depth=`, `busy=`, `cleared=`, `bits_per_word=` and `map_nr=`, each followed by its number. It
 /// fails only if the writer does, which may then have taken a part of the text.
+#[inline]
 pub fn write_show<W: Write>(shown: &Shown, writer: &mut W) -> Result<()> {
     write_field(writer, b"depth=", shown.depth)?;
     write_field(writer, b"\nbusy=", shown.busy)?;
@@ -21,6 +22,7 @@ pub fn write_show<W: Write>(shown: &Shown, writer: &mut W) -> Result<()> {
     Ok(())
 }
 
+#[inline]
 fn write_field<W: Write>(writer: &mut W, words: &[u8], number: u32) -> Result<()> {
     let mut buffer = Buffer::new();
     writer.write_all(words)?;
@@ -30,6 +32,7 @@ fn write_field<W: Write>(writer: &mut W, words: &[u8], number: u32) -> Result<()
 /// Writes the bytes in hexadecimal, sixteen in a line after the offset of the first, as `sbitmap_bitmap_show`
 /// (lib/sbitmap.c) does. It writes one digit at a time, so pass it a buffered writer. It fails only if the writer does,
 /// which may then have taken a part of the text.
+#[inline]
 pub fn write_dump<W: Write>(bytes: &[u8], writer: &mut W) -> Result<()> {
     for offset in 0..bytes.len() {
         write_head(writer, offset)?;
@@ -40,6 +43,7 @@ pub fn write_dump<W: Write>(bytes: &[u8], writer: &mut W) -> Result<()> {
     Ok(())
 }
 
+#[inline]
 fn write_head<W: Write>(writer: &mut W, offset: usize) -> Result<()> {
     if offset % LINE_BYTES != 0 {
         return Ok(());
@@ -49,6 +53,7 @@ fn write_head<W: Write>(writer: &mut W, offset: usize) -> Result<()> {
     Ok(())
 }
 
+#[inline]
 fn write_gap<W: Write>(writer: &mut W, offset: usize) -> Result<()> {
     if offset % 2 != 0 {
         return Ok(());
@@ -56,6 +61,7 @@ fn write_gap<W: Write>(writer: &mut W, offset: usize) -> Result<()> {
     writer.write_all(b" ")
 }
 
+#[inline]
 fn write_end<W: Write>(writer: &mut W, count: usize, offset: usize) -> Result<()> {
     if offset % LINE_BYTES == LINE_BYTES - 1 || offset + 1 == count {
         return writer.write_all(b"\n");
@@ -64,6 +70,7 @@ fn write_end<W: Write>(writer: &mut W, count: usize, offset: usize) -> Result<()
 }
 
 /// Writes the last `width` hexadecimal digits of a number, the highest first.
+#[inline]
 fn write_hex<W: Write>(writer: &mut W, number: u64, width: u32) -> Result<()> {
     for done in 0..width {
         let digit = (number >> (4 * (width - done - 1))) % 16;
@@ -72,6 +79,7 @@ fn write_hex<W: Write>(writer: &mut W, number: u64, width: u32) -> Result<()> {
     Ok(())
 }
 
+#[inline]
 fn hex_digit(digit: u64) -> u8 {
     if digit < 10 {
         b'0' + digit as u8

@@ -10,6 +10,7 @@ use crate::proved::tag_pool::pool::Pool;
 
 impl<R: Copy> Pool<R> {
     /// Opens a pool as `open` does, refuses what `open` refuses, and places the hints of each hand (see `place`).
+    #[inline]
     pub fn open_placed(alloc: Global, options: Options, fill: R) -> Result<(Pool<R>, Vec<Hand<R>>), OpenFault> {
         let (pool, mut hands) = Pool::open(alloc, options, fill)?;
         place_all(&pool, hands.as_mut_slice());
@@ -21,6 +22,7 @@ impl<R: Copy> Pool<R> {
     /// placed hands meet where their parts share a word, since a get without round robin starts with the first tag of the
     /// hint's word, and once their parts are full: a get that finds no tag at all moves the hint to the set's first tag.
     /// This makes no step.
+    #[inline]
     pub fn place(&self, hand: &mut Hand<R>) {
         hand.reserved.place(&self.reserved);
         hand.ordinary.place(&self.ordinary);
@@ -28,6 +30,7 @@ impl<R: Copy> Pool<R> {
 }
 
 /// Places the hints of each hand.
+#[inline]
 fn place_all<R: Copy>(pool: &Pool<R>, hands: &mut [Hand<R>]) {
     for hand in hands.iter_mut() {
         pool.place(hand);

@@ -10,6 +10,7 @@ use crate::proved::tag_pool::resizes::ResizeCause;
 impl<R: Copy> Pool<R> {
     /// Returns `Ok` if nothing but memory can prevent a resize to `depth` tags, and otherwise why `resize` would refuse it.
     /// The hands are unchanged.
+    #[inline]
     pub fn check_resize(&self, hands: &mut Vec<Hand<R>>, depth: u32) -> Result<(), ResizeCause> {
         match self.next_layout(hands, depth) {
             Ok(_) => Ok(()),

@@ -7,6 +7,7 @@ use crate::proved::tag_core::{Caller, Map};
 use crate::proved::tag_layout::Layout;
 
 /// Moves all callers to a new map of this layout, or returns them to their own map if memory runs out.
+#[inline]
 pub(crate) fn next_map<R: Copy>(
     alloc: Global,
     tags: Map<R>,

@@ -14,6 +14,7 @@ use crate::proved::tag_pool::resizes::{PoolResizeFault, ResizeCause};
 impl<R: Copy> Pool<R> {
     /// Moves all hands to a new map of this layout, that of the ordinary tags of this total. Everything that can fail, except
     /// opening the map itself, comes before the hands are taken apart.
+    #[inline]
     pub(crate) fn reopen(
         self,
         alloc: Global,
@@ -47,6 +48,7 @@ impl<R: Copy> Pool<R> {
     }
 
     /// Returns the pool with a new ordinary map and its callers on it, or the pool as it was.
+    #[inline]
     fn go_on(
         self,
         alloc: Global,

@@ -28,6 +28,7 @@ pub(crate) struct Buffers<R> {
 
 impl<R: Copy> Buffers<R> {
     /// Reserves room for `count` hands, and makes `depth` slots that contain `fill`.
+    #[inline]
     pub(crate) fn open(alloc: Global, count: usize, depth: u32, fill: R) -> Result<Buffers<R>, AllocError> {
         let callers = Vec::with_capacity(alloc, count)?;
         let shells = Vec::with_capacity(alloc, count)?;
@@ -43,6 +44,7 @@ impl<R: Copy> Buffers<R> {
 }
 
 /// Takes the hands apart into their ordinary callers and their shells, both in the hands' order.
+#[inline]
 pub(crate) fn part<R>(
     hands: Vec<Hand<R>>,
     mut callers: Vec<Caller<R>>,
@@ -68,6 +70,7 @@ pub(crate) fn part<R>(
 }
 
 /// Puts the hands together from these callers and shells, in the same order.
+#[inline]
 pub(crate) fn unite<R>(callers: Vec<Caller<R>>, shells: Vec<Shell<R>>, mut hands: Vec<Hand<R>>) -> Vec<Hand<R>> {
     let mut callers = callers.into_iter();
     let mut shells = shells.into_iter();
@@ -78,6 +81,7 @@ pub(crate) fn unite<R>(callers: Vec<Caller<R>>, shells: Vec<Shell<R>>, mut hands
     hands
 }
 
+#[inline]
 fn hand_of<R>(caller: Caller<R>, shell: Shell<R>) -> Hand<R> {
     let Shell {
         reserved_count,

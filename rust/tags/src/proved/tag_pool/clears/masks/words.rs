@@ -48,7 +48,7 @@ pub(crate) fn give_mask<R>(map: &Map<R>, caller: &mut Caller<R>, first: u32, mas
 }
 
 /// Like `are_held`, for a mask whose tags may be in several words: by one test for each word.
-#[inline(never)]
+#[inline]
 fn are_held_across<R>(map: &Map<R>, caller: &Caller<R>, first: u32, mask: u64, last: u32) -> bool {
     let layout = map.layout();
     let from = layout.word_of(first);
@@ -62,7 +62,7 @@ fn are_held_across<R>(map: &Map<R>, caller: &Caller<R>, first: u32, mask: u64, l
 }
 
 /// Like `give_mask`, for a mask whose tags may be in several words.
-#[inline(never)]
+#[inline]
 fn give_mask_across<R>(map: &Map<R>, caller: &mut Caller<R>, first: u32, mask: u64, last: u32) {
     let layout = map.layout();
     let from = layout.word_of(first);
