@@ -1,6 +1,9 @@
+pub mod Counts
 pub mod LineMoves
+pub mod AssignedMoves
 pub mod Turns
 pub mod NoneHeld
+pub mod Skipping
 pub mod Gathered
 pub mod Ordered
 pub mod LastOnes

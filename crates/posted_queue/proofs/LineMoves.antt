@@ -1,35 +1,12 @@
 -- What hands push and pop keeps the rule of the line.
-use Rattle.std.proofs.Common.{◌&&◌, ◌++◌, ◌+◌, ◌<◌, ◌==◌, ◌∙◌, ◌∷◌, ◌≡◌}
-use Rattle.std.proofs.Common.{[], add-zero, ap, append_assoc, arith, cond, get_or, length, List, refl, set, subst, suc, sum_by, sym, zero, zero-add, ℕ}
-use Rattle.std.proofs.lemmas.List.Sums.{sum_by-cons, sum_by-set, sum_by_push}
+use Rattle.std.proofs.Common.{◌++◌, ◌+◌, ◌∙◌, ◌∷◌, ◌≡◌}
+use Rattle.std.proofs.Common.{[], add-zero, ap, append_assoc, arith, length, List, refl, sym, zero-add, ℕ}
+use Rattle.std.proofs.lemmas.List.Sums.{sum_by_push}
 use Rattle.std.specs.List.{enumerate_from}
-use mathlib.Core.Option.{some, some-injective, some-ne-none}
-use lib.ListN.{get_elem?}
 use Rattle.crossbeam_queue.specs.Fifo.{Admits, Learns, Pops, Pushes}
 use Rattle.posted_queue.specs.Line.{AreInTurn, IsSeenBy, Joins, Leaves, times_at, times_in, times_popped, times_pushed, track}
 use Rattle.posted_queue.specs.declared.line.Track.{Track}
-
-there : (tracks : List Track) (i : ℕ) (v : Track) → get_elem? tracks i ≡ some v
-    → (i < length tracks) × (get_or tracks i v ≡ v)
-there [] i v at = absurd (some-ne-none v (sym at))
-there (x ∷ xs) zero v at = (omega arith, some-injective x v at)
-there (x ∷ xs) (suc i) v at = let rest = there xs i v at in (omega (arith, rest.0), rest.1)
-
--- a sum over all hands after a change of one
-changed : (f : Track → ℕ) (tracks : List Track) (i : ℕ) (v w : Track) → get_elem? tracks i ≡ some v
-    → sum_by f (set tracks i w) + f v ≡ sum_by f tracks + f w
-changed f tracks i v w at =
-    let here = there tracks i v at in
-    subst (λ n. sum_by f (set tracks i w) + n ≡ sum_by f tracks + f w) (ap f here.1)
-    (sum_by-set f tracks i w v here.0)
-
--- what one entry more adds to how often the number stands at the place
-abbrev one : ℕ × ℕ → ℕ → ℕ → ℕ
-one entry place number = cond ((entry.0 == place) && (entry.1 == number)) 1 0
-
-longer : (entry : ℕ × ℕ) (entries : List (ℕ × ℕ)) (place number : ℕ)
-    → times_in (entry ∷ entries) place number ≡ one entry place number + times_in entries place number
-longer entry entries place number = sum_by-cons (λ (e : ℕ × ℕ). one e place number) entry entries
+use Rattle.posted_queue.proofs.Counts.{as_many, changed, longer, more, none_more, one, there}
 
 enumerated : (n : ℕ) (xs : List ℕ) (x : ℕ)
     → enumerate_from n (xs ++ x ∷ []) ≡ enumerate_from n xs ++ (n + length xs, x) ∷ []
@@ -45,12 +22,6 @@ at_end line x place number =
     ap (λ entries. times_in entries place number) (enumerated 0 line x)
     ∙ ap (λ (k : ℕ). times_in (enumerate_from 0 line ++ (k, x) ∷ []) place number) (zero-add (length line))
     ∙ sum_by_push (λ (e : ℕ × ℕ). one e place number) (enumerate_from 0 line) (length line, x)
-
-more : (p p' t t' before after new : ℕ) → p' + before ≡ p + after → after ≡ new + before → t' ≡ t + new → p ≡ t → p' ≡ t'
-more p p' t t' before after new s m l h = omega arith
-
-as_many : (p p' t t' same : ℕ) → p' + same ≡ p + same → t' ≡ t → p ≡ t → p' ≡ t'
-as_many p p' t t' same s l h = omega arith
 
 -- an empty line
 pub begins : AreInTurn [] (track [] [] ∷ [])
@@ -100,9 +71,6 @@ pops pass v x waiting tracks h at =
       },
       (length h.served, refl),
     )
-
-none_more : (p p' t : ℕ) → p' ≡ p + 0 → p ≡ t → p' ≡ t
-none_more p p' t s h = omega arith
 
 -- a hand more, which has pushed and popped nothing
 pub admits : Admits AreInTurn (track [] [])

@@ -1,5 +1,5 @@
 -- Between calls a hand of a queue holds no token.
-use Rattle.std.proofs.Common.{inl, inr, None, Option, Some, subst, ⊎_elim, ℕ, ◌≡◌}
+use Rattle.std.proofs.Common.{None, Option, Some, subst, ⊎_elim, ℕ, ◌≡◌}
 use Rattle.std.specs.Bool.{⊤}
 use Rattle.tag_bell.specs.declared.sleeping.Woken.{Woken}
 use Rattle.tag_model.proofs.HoldingFacts.{more_then_same}
@@ -7,11 +7,12 @@ use Rattle.tag_pool.specs.Gets.{IsAnswer}
 use Rattle.tag_pool.specs.Hands.{Holds}
 use Rattle.tag_pool.specs.Holding.{HoldsLess, HoldsMore, HoldsSame}
 use Rattle.tag_pool.specs.Opening.{HoldsNone}
-use Rattle.tag_pool.specs.Slots.{RefusesTake}
-use Rattle.tag_pool.specs.declared.fault.TagFault.{TagFault}
+use Rattle.tag_pool.specs.Slots.{Misses}
 use Rattle.tag_pool.specs.declared.hand.Hand.{Hand}
+use Rattle.posted_queue.specs.Hands.{in_tokens}
 use Rattle.posted_queue.specs.Serving.{Searches}
-use Rattle.posted_queue.specs.Submitting.{FindsNoToken}
+use Rattle.posted_queue.specs.Submitting.{FindsNoToken, LooksInVain}
+use Rattle.posted_queue.specs.declared.queue.PostedHand.{PostedHand}
 use Rattle.posted_queue.specs.declared.queue.PostedQueue.{PostedQueue}
 
 pub none_same : (old new : Hand ⊤) → HoldsNone old → HoldsSame old new → HoldsNone new
@@ -39,11 +40,12 @@ found_none queue answer woken old new is none s tag has = ⊎_elim (λ was. none
     (λ named. subst (λ (a : Option ℕ). IsAnswer a tag) is named)
     ((searched queue answer woken old new s).none_else tag has)
 
--- a take that is refused
-pub no_token : (token : ℕ) (fault : TagFault) (old new : Hand ⊤) → RefusesTake token fault old new → FindsNoToken old new
-no_token token fault old new refuses = ⊎_elim (λ none. inl none.1) (λ missed. inr (token, missed.1)) refuses
-
-pub none_missed : (old new : Hand ⊤) → HoldsNone old → FindsNoToken old new → HoldsNone new
-none_missed old new none finds tag has = ⊎_elim
-    (λ (same : new ≡ old). none tag (subst (λ (hand : Hand ⊤). Holds hand tag) same has))
-    (λ missed. none_same old new none missed.1.same tag has) finds
+-- a look for a token in vain
+pub none_missed : (queue : PostedQueue) (tag : ℕ) (old new : PostedHand) → HoldsNone (in_tokens old)
+    → FindsNoToken queue tag old new → HoldsNone (in_tokens new)
+none_missed queue tag old new none finds tag' has = ⊎_elim
+    (λ past. none tag' (subst (λ (own : PostedHand). Holds (in_tokens own) tag') past.1 has))
+    (λ (vain : LooksInVain queue tag old new). ⊎_elim
+    (λ same. none tag' (subst (λ (hand : Hand ⊤). Holds hand tag') same.1 has))
+    (λ (missed : Misses vain.found (in_tokens old) (in_tokens new)).
+    none_same (in_tokens old) (in_tokens new) none missed.same tag' has) vain.misses) finds

@@ -5,6 +5,8 @@ use Rattle.tag_pool.specs.Hands as pool
 use Rattle.tag_pool.specs.Opening as opening
 use Rattle.tag_pool.specs.declared.hand.Hand.{Hand}
 use Rattle.tag_pool.specs.declared.pool.Pool.{Pool}
+use Rattle.posted_queue.specs.Assigned.{assigning_in, IsSeatOf}
+use Rattle.posted_queue.specs.declared.assigned.Assigning.{Assigning}
 use Rattle.posted_queue.specs.declared.line.Track.{Track}
 use Rattle.posted_queue.specs.declared.queue.PostedHand.{PostedHand}
 use Rattle.posted_queue.specs.declared.queue.PostedQueue.{PostedQueue}
@@ -29,6 +31,10 @@ in_tokens own = own.tokens
 abbrev pub track_of : PostedHand → Track
 track_of own = view own.pass
 
+-- what the rule of the assignments knows of the hand
+abbrev pub assigning_of : PostedHand → Assigning
+assigning_of own = assigning_in own.seat
+
 -- the hand's number, from 0
 abbrev pub number_of : PostedHand → ℕ
 number_of own = pool.number_of own.tokens
@@ -39,7 +45,8 @@ numbers_of hands = map number_of hands
 
 -- the hand belongs to the queue, and holds no token
 abbrev pub IsOwnOf : PostedQueue → PostedHand → Type 0
-IsOwnOf queue own = pool.IsHandOf queue.tokens own.tokens × IsPassOf queue.line own.pass × opening.HoldsNone own.tokens
+IsOwnOf queue own = pool.IsHandOf queue.tokens own.tokens × IsPassOf queue.line own.pass × IsSeatOf queue.token_of own.seat
+    × opening.HoldsNone own.tokens
 
 -- the hand still belongs to the queue, and is the same one
 abbrev pub IsStillOwnOf : PostedQueue → PostedHand → PostedHand → Type 0

@@ -1,8 +1,9 @@
 pub mod Line
 pub mod Turns
+pub mod Assigned
 pub mod Hands
-pub mod Submitting
 pub mod Serving
+pub mod Submitting
 pub mod Waits
 pub mod Opening
 pub mod Gathering

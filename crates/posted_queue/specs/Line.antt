@@ -1,6 +1,8 @@
 -- The rule of the line, in which the numbers of submitted tags stand in the order in which they came.
-use Rattle.std.specs.Prelude.{◌&&◌, ◌++◌, ◌==◌, ◌∷◌, ◌≡◌, List, ℕ}
+use Rattle.std.specs.Prelude.{◌&&◌, ◌++◌, ◌==◌, ◌∷◌, ◌≡◌, List, ⊤, ℕ}
 use Rattle.std.specs.List.{Contains, count_by, enumerate_from, sum_by}
+use Rattle.tag_pool.specs.declared.hand.Hand.{Hand}
+use Rattle.posted_queue.specs.declared.line.Joined.{Joined}
 use Rattle.posted_queue.specs.declared.line.Track.{Track}
 
 -- what the rule knows of a hand: what it pushed and popped, newest first, each number with its place in the line
@@ -10,6 +12,14 @@ track pushed popped = record { pushed = pushed; popped = popped }
 -- the hand pushed the number besides, at some place
 abbrev pub Joins : ℕ → Track → Track → Type 0
 Joins number old new = (place : ℕ) × (new ≡ track ((place, number) ∷ old.pushed) old.popped)
+
+-- the hand of the pool as it was when the number joined the line
+abbrev pub hand_at : {R : Type 0} → Joined R → Hand R
+hand_at joined = joined.hand.value
+
+-- the hand of the tokens as it was then
+abbrev pub tokens_at : {R : Type 0} → Joined R → Hand ⊤
+tokens_at joined = joined.tokens.value
 
 -- the hand popped the number besides, from some place
 abbrev pub Leaves : ℕ → Track → Track → Type 0

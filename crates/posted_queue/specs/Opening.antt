@@ -9,7 +9,8 @@ use Rattle.tag_pool.specs.declared.hand.Hand.{Hand}
 use Rattle.tag_pool.specs.declared.options.Options.{Options}
 use Rattle.posted_queue.specs.declared.queue.PostedHand.{PostedHand}
 use Rattle.posted_queue.specs.declared.queue.PostedQueue.{PostedQueue}
-use Rattle.posted_queue.specs.Hands.{hands_of, in_tokens, IsOwnOf, number_of, room_of, tokens_of, track_of}
+use Rattle.posted_queue.specs.Assigned.{assigning}
+use Rattle.posted_queue.specs.Hands.{assigning_of, hands_of, in_tokens, IsOwnOf, number_of, room_of, tokens_of, track_of}
 use Rattle.posted_queue.specs.Line.{track}
 use Rattle.posted_queue.specs.Serving.{Searches}
 
@@ -26,11 +27,13 @@ options_of_tokens options = record options {
 abbrev pub HasSearched : PostedQueue → Hand ⊤ → Type 0
 HasSearched queue hand = (before : Hand ⊤) × (woken : Woken) × Searches queue None woken before hand
 
--- the hand belongs to the queue; it searched for free tokens until it found none, and has pushed and popped no number
+-- the hand belongs to the queue; it searched for free tokens until it found none, has pushed and popped no number, and has
+-- looked up and assigned no token
 pub record IsNewHand (queue : PostedQueue) (hand : PostedHand) : Type 0 where
   pub own : IsOwnOf queue hand
   pub searched : HasSearched queue (in_tokens hand)
   pub track : track_of hand ≡ track [] []
+  pub assigning : assigning_of hand ≡ assigning [] []
 
 -- the queue has a token for each tag, and room for all in its line; its hands are new, in the order of their numbers
 pub record IsOpen (options : Options) (queue : PostedQueue) (hands : List PostedHand) : Type 0 where

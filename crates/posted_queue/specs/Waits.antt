@@ -7,6 +7,7 @@ use Rattle.tag_bell.specs.declared.waiting.Turn.{Turn}
 use Rattle.tag_pool.specs.Waits.{EndsWait, MaySleepNow, WinsRound}
 use Rattle.tag_pool.specs.declared.hand.Hand.{Hand}
 use Rattle.tag_pool.specs.declared.kind.Kind.TheVariants.{Ordinary}
+use Rattle.tag_pool.specs.declared.pool.Pool.{Pool}
 use Rattle.posted_queue.specs.declared.queue.PostedHand.{PostedHand}
 use Rattle.posted_queue.specs.declared.queue.PostedQueue.{PostedQueue}
 use Rattle.posted_queue.specs.declared.waits.Round.{Round}
@@ -16,9 +17,9 @@ use Rattle.posted_queue.specs.Serving.{DoesNoMore, WinsAndServes}
 
 -- what one round did, by its answer: one after which the hand may sleep told nobody
 abbrev pub Goes : {R : Type 0}
-    → PostedQueue → Waiter → Turn → Round → Told → Hand R → Hand R → PostedHand → PostedHand → Type 0
-Goes queue waiter turn (Came popped) told =
-    WinsAndServes (λ token. WinsRound (tokens_of queue) Ordinary waiter turn token told) popped
-Goes queue waiter turn Over told = DoesNoMore (EndsWait (tokens_of queue) Ordinary told)
-Goes queue waiter turn Sleep told =
+    → PostedQueue → Pool R → Waiter → Turn → Round → Told → Hand R → Hand R → PostedHand → PostedHand → Type 0
+Goes queue pool waiter turn (Came popped) told =
+    WinsAndServes queue pool (λ token. WinsRound (tokens_of queue) Ordinary waiter turn token told) popped
+Goes queue pool waiter turn Over told = DoesNoMore (EndsWait (tokens_of queue) Ordinary told)
+Goes queue pool waiter turn Sleep told =
     DoesNoMore (λ old new. (told ≡ nobody) × MaySleepNow (tokens_of queue) Ordinary waiter turn old new)

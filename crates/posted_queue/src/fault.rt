@@ -11,7 +11,7 @@ pub enum SubmitFault {
     /// The hand does not hold the tag.
     #[error("the hand does not hold the tag")]
     NotHeld,
-    /// The tag's token was not found posted: somebody took the tag past the queue, and its number is still there.
+    /// The tag's token was not found posted, as where somebody took the tag past the queue and its number is still there.
     #[error("the tag is still in the queue")]
     StillQueued,
 }

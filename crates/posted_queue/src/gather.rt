@@ -79,7 +79,11 @@ fn part(mut hands: Vec<PostedHand>, mut room: Vec<Hand<()>>) -> Vec<Hand<()>>
     ensures { result.items ≡ map in_tokens hands.items }
 {
     while let Some(hand) = hands.pop() {
-        let PostedHand { tokens, pass: _ } = hand;
+        let PostedHand {
+            tokens,
+            pass: _,
+            seat: _,
+        } = hand;
         room.push_reserved(tokens);
     }
     room.reverse();

@@ -1,6 +1,7 @@
 //! Queues of posted tags over a pool: first come, first served, and a hand may sleep until one comes.
 #![tactic(auto)]
 
+mod assigned;
 mod fault;
 mod gather;
 mod laws;

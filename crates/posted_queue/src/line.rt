@@ -1,12 +1,15 @@
 //! The line: the numbers of the queued tags, in the order in which they were submitted.
+ghost use Rattle.std.specs.Prelude.{◌≡◌};
 ghost use Rattle.crossbeam_queue.specs.Passes.{view, IsPassOf, IsSamePass};
-ghost use Rattle.posted_queue.specs.Line.{Joins, Leaves};
+ghost use Rattle.posted_queue.specs.Line.{Joins, Leaves, hand_at, tokens_at};
 
 use crossbeam_queue::protocol::{Lesson, Outcome, Protocol};
 use crossbeam_queue::{Pass, RuledArrayQueue};
 use std::collections::LinkedList;
+use std::snapshot::Snapshot;
 use std::sync::Wait;
 use std::thread;
+use tag_pool::Hand;
 
 /// What the rule of the line knows of a hand. No value of this type is ever made.
 pub struct Track {
@@ -66,16 +69,35 @@ impl Lesson<u32, Track> for Standing {
 /// The numbers of the queued tags.
 pub(crate) type Line = RuledArrayQueue<u32, Track, InTurn>;
 
-/// Pushes a number. It waits while the line is full, which it is not: the line has room for all tags, and each is in it
-/// once at most.
-pub(crate) fn push_number<W: Wait>(rt: &W, line: &Line, pass: &mut Pass<u32, Track>, number: u32)
+/// What both hands had done when a number joined the line. Only the push makes it, of hands that make no step meanwhile.
+/// It has no bytes: only contracts see it.
+#[derive(Drop)]
+pub struct Joined<R> {
+    hand: Snapshot<Hand<R>>,
+    tokens: Snapshot<Hand<()>>,
+}
+
+/// Pushes a number, and returns what the hands had done by then. It waits while the line is full, which it is not: the
+/// line has room for all tags, and each is in it once at most.
+pub(crate) fn push_number<R, W: Wait>(
+    rt: &W,
+    line: &Line,
+    pass: &mut Pass<u32, Track>,
+    number: u32,
+    hand: &Hand<R>,
+    tokens: &Hand<()>,
+) -> Joined<R>
     requires { IsPassOf line.now pass.old }
     ensures pass { IsPassOf line.now pass.new × IsSamePass pass.old pass.new }
     ensures joins { Joins number (view pass.old) (view pass.new) }
+    ensures joined { (hand_at result ≡ hand.now) × (tokens_at result ≡ tokens.now) }
 {
     for _ in rt.forever() {
         let Err(_) = line.push_as::<Joining, W>(rt, pass, number) else {
-            return;
+            return Joined {
+                hand: Snapshot::of(hand),
+                tokens: Snapshot::of(tokens),
+            };
         };
         thread::yield_now();
     }

@@ -8,10 +8,10 @@ ghost use Rattle.tag_pool.specs.Refusals.{open_checks};
 ghost use Rattle.posted_queue.specs.Hands.{in_tokens, IsOwnOf, numbers_of, tokens_of};
 ghost use Rattle.posted_queue.specs.Opening.{HasSearched, IsNewHand, IsOpen, options_of_tokens as token_options};
 
+use crate::assigned::Assignments;
 use crate::line::Line;
 use crate::queue::{PostedHand, PostedQueue};
 use std::alloc::{AllocError, Global};
-use std::sync::atomic::AtomicU32;
 use tag_layout::MAX_DEPTH;
 use tag_model::MOST_WON;
 use tag_pool::{Got, Hand, OpenFault, Options, Pool};
@@ -66,20 +66,11 @@ fn lay_out(
     let queue = PostedQueue {
         tokens,
         line,
-        token_of: numbered(alloc, options.depth)?,
+        token_of: Assignments::own(alloc, options.depth)?,
         hand_count: options.hands,
     };
     let hands = queue.join(alloc, hands)?;
     Ok((queue, hands))
-}
-
-/// Returns each number below the depth, in a cell of its own.
-fn numbered(alloc: Global, depth: u32) -> Result<Vec<AtomicU32>, AllocError> {
-    let mut cells = Vec::new(alloc);
-    for number in 0..depth {
-        cells.push(AtomicU32::new(number))?;
-    }
-    Ok(cells)
 }
 
 impl PostedQueue {
@@ -108,7 +99,8 @@ impl PostedQueue {
     {
         self.post_all(&mut tokens)?;
         let pass = self.line.pass();
-        Ok(PostedHand { pass, tokens })
+        let seat = self.token_of.seat();
+        Ok(PostedHand { pass, seat, tokens })
     }
 
     /// Posts each token that is free, until a search finds none.

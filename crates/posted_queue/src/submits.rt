@@ -3,17 +3,15 @@ ghost use Rattle.std.specs.Prelude.{◌≡◌, ◌≤◌, IfNone, IfOk, IfSome};
 ghost use Rattle.tag_core.specs.declared.posts.TheConstants.{MOST_NOTE};
 ghost use Rattle.tag_pool.specs.Hands.{IsHandOf, IsStillOf};
 ghost use Rattle.tag_pool.specs.Slots.{Takes};
-ghost use Rattle.posted_queue.specs.Hands.{IsOwnOf, IsStillOwnOf, in_tokens, tokens_of, track_of};
-ghost use Rattle.posted_queue.specs.Line.{Joins};
-ghost use Rattle.posted_queue.specs.Submitting.{FindsNoToken, RefusesSubmit, Submits, hand_at, tokens_at};
-ghost use Rattle.crossbeam_queue.specs.Passes.{IsPassOf, IsSamePass};
+ghost use Rattle.posted_queue.specs.Hands.{IsOwnOf, IsStillOwnOf, assigning_of, in_tokens, tokens_of};
+ghost use Rattle.posted_queue.specs.Assigned.{IsSeatOf};
+ghost use Rattle.posted_queue.specs.Submitting.{FindsNoToken, RefusesSubmit, Submits, TakesAssigned};
 
+use crate::assigned::NO_TOKEN;
 use crate::fault::SubmitFault;
-use crate::line::push_number;
-use crate::queue::{NO_TOKEN, PostedHand, PostedQueue};
-use std::snapshot::Snapshot;
+use crate::line::{Joined, push_number};
+use crate::queue::{PostedHand, PostedQueue};
 use std::sync::Wait;
-use std::sync::atomic::Ordering::SeqCst;
 use tag_bell::Woken;
 use tag_pool::{Hand, Pool, TagFault};
 
@@ -24,13 +22,6 @@ pub struct Submitted<R> {
     pub woken: Woken,
     /// When the number joined the line.
     pub joined: Joined<R>,
-}
-
-/// What both hands had done when a number joined the line. It has no bytes: only contracts see it.
-#[derive(Drop)]
-pub struct Joined<R> {
-    pub(crate) hand: Snapshot<Hand<R>>,
-    pub(crate) tokens: Snapshot<Hand<()>>,
 }
 
 impl PostedQueue {
@@ -50,7 +41,7 @@ impl PostedQueue {
         requires own { IsOwnOf self.now own.old }
         ensures hand { IsStillOf pool.now hand.old hand.new }
         ensures own { IsStillOwnOf self.now own.old own.new }
-        ensures refusals { RefusesSubmit pool.now tag result hand.old hand.new own.old own.new }
+        ensures refusals { RefusesSubmit self.now pool.now tag result hand.old hand.new own.old own.new }
         ensures submits { IfOk result (λ done. Submits self.now tag 0 done hand.old hand.new own.old own.new) }
     {
         self.submit_noted(rt, pool, hand, own, tag, 0)
@@ -72,7 +63,7 @@ impl PostedQueue {
         requires note { note ≤ MOST_NOTE }
         ensures hand { IsStillOf pool.now hand.old hand.new }
         ensures own { IsStillOwnOf self.now own.old own.new }
-        ensures refusals { RefusesSubmit pool.now tag result hand.old hand.new own.old own.new }
+        ensures refusals { RefusesSubmit self.now pool.now tag result hand.old hand.new own.old own.new }
         ensures submits { IfOk result (λ done. Submits self.now tag note done hand.old hand.new own.old own.new) }
     {
         match pool.find_held(hand, tag) {
@@ -86,7 +77,7 @@ impl PostedQueue {
         let Ok(()) = pool.post_noted(hand, tag, note) else {
             unreachable!()
         };
-        let joined = self.join_line(rt, hand, own, tag);
+        let joined = push_number(rt, &self.line, &mut own.pass, tag, hand, &own.tokens);
         // Last, so that whoever wins the token finds a number in the line.
         let Ok(woken) = self.tokens.clear(&mut own.tokens, token) else {
             unreachable!()
@@ -94,41 +85,29 @@ impl PostedQueue {
         Ok(Submitted { woken, joined })
     }
 
-    /// Takes the tag's token, if it is posted.
+    /// Takes the tag's token, if it is posted, and notes that the tag has none.
     fn take_token(&self, own: &mut PostedHand, tag: u32) -> Option<u32>
         requires tokens { IsHandOf (tokens_of self.now) (in_tokens own.old) }
+        requires seat { IsSeatOf self.now.token_of own.old.seat }
         ensures tokens { IsStillOf (tokens_of self.now) (in_tokens own.old) (in_tokens own.new) }
+        ensures seat { IsSeatOf self.now.token_of own.new.seat }
         ensures pass { own.new.pass ≡ own.old.pass }
         ensures takes { IfSome result (λ token. Takes token (in_tokens own.old) (in_tokens own.new)) }
-        ensures none { IfNone result (FindsNoToken (in_tokens own.old) (in_tokens own.new)) }
+        ensures assigned { IfSome result (λ token. TakesAssigned tag token (assigning_of own.old) (assigning_of own.new)) }
+        ensures none { IfNone result (FindsNoToken self.now tag own.old own.new) }
     {
-        let cell = self.token_of.get(tag as usize)?;
-        let token = cell.load(SeqCst);
+        if tag >= self.tokens.depth() {
+            return None;
+        }
+        let found = self.token_of.look_up(&mut own.seat, tag);
+        if found >= u64::from(self.tokens.depth()) {
+            return None;
+        }
+        let token = found as u32;
         if self.tokens.take(&mut own.tokens, token).is_err() {
             return None;
         }
-        cell.store(NO_TOKEN, SeqCst);
+        self.token_of.assign(&mut own.seat, tag, NO_TOKEN);
         Some(token)
-    }
-
-    /// Puts a number at the end of the line, and notes what the hands have done by then.
-    fn join_line<R, W: Wait>(
-        &self,
-        rt: &W,
-        hand: &Hand<R>,
-        own: &mut PostedHand,
-        number: u32,
-    ) -> Joined<R>
-        requires pass { IsPassOf self.now.line own.old.pass }
-        ensures pass { IsPassOf self.now.line own.new.pass × IsSamePass own.old.pass own.new.pass }
-        ensures joins { Joins number (track_of own.old) (track_of own.new) }
-        ensures hand { hand_at result ≡ hand.now }
-        ensures tokens { (in_tokens own.new ≡ in_tokens own.old) × (tokens_at result ≡ in_tokens own.old) }
-    {
-        push_number(rt, &self.line, &mut own.pass, number);
-        Joined {
-            hand: Snapshot::of(hand),
-            tokens: Snapshot::of(&own.tokens),
-        }
     }
 }

@@ -54,7 +54,7 @@ impl PostedQueue {
         ensures refusals { RefusesBy (blocking_checks (tokens_of self.now) (in_tokens own.old) Ordinary)
             ((hand.new ≡ hand.old) × (own.new ≡ own.old)) result }
         ensures nexts { IfOk result (λ got.
-            WinsAndServes (λ token. GetsBlocking (tokens_of self.now) Ordinary token got.woken) got.answer
+            WinsAndServes self.now pool.now (λ token. GetsBlocking (tokens_of self.now) Ordinary token got.woken) got.answer
             hand.old hand.new own.old own.new) }
     {
         let Got { answer, woken } = self.tokens.get_blocking(rt, &mut own.tokens)?;
@@ -81,7 +81,7 @@ impl PostedQueue {
         ensures hand { IsStillOf pool.now hand.old hand.new }
         ensures own { IsStillOwnOf self.now own.old own.new }
         ensures over { result.0 ≡ Over ↔ IsTrue is_over }
-        ensures goes { Goes self.now waiter turn result.0 result.1 hand.old hand.new own.old own.new }
+        ensures goes { Goes self.now pool.now waiter turn result.0 result.1 hand.old hand.new own.old own.new }
     {
         let (next, told) = self
             .tokens

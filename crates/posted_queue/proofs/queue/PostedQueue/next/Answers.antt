@@ -9,7 +9,7 @@ pub returns-in_default-clause-own : goal.returns-in_default-clause-own
 returns-in_default-clause-own g c = let got = c.in_ok-answer.field-0 in
     let is : got.answer ≡ None = search rules in
     let none : HoldsNone c.get.new.hand = found_none c.args.self.now got.answer got.woken c.args.own.now.tokens
-    c.get.new.hand is c.requires.own.2 c.in_ok-answer.ensures.gets in
+    c.get.new.hand is c.requires.own.3 c.in_ok-answer.ensures.gets in
     search rules
 
 pub serve-popped-requires-clause-held : goal.serve-popped-requires-clause-held
@@ -22,7 +22,7 @@ pub returns-clause-own : goal.returns-clause-own
 returns-clause-own g c = let got = c.in_ok-answer.field-0 in
     let is : got.answer ≡ Some c.in-Some.token = search rules in
     let none : HoldsNone c.serve-popped.new.own.tokens = none_after c.in-Some.token c.args.own.now.tokens c.get.new.hand
-    c.serve-popped.new.own.tokens c.requires.own.2
+    c.serve-popped.new.own.tokens c.requires.own.3
     (won c.args.self.now got.answer got.woken c.args.own.now.tokens c.get.new.hand c.in-Some.token is
     c.in_ok-answer.ensures.gets)
     c.serve-popped.ensures.serves.posts.less in

@@ -14,7 +14,7 @@ returns-in-Won-clause-own g c = let token = c.in-Won.token in let tokens = c.arg
     subst (λ (n : Next). Goes tokens Ordinary c.args.waiter c.args.turn n c.wait_on-next.result.1 c.args.own.now.tokens
     c.wait_on-next.new.hand) c.in-Won.is c.wait_on-next.ensures.goes in
     let none : HoldsNone c.serve-popped.new.own.tokens = none_after token c.args.own.now.tokens c.wait_on-next.new.hand
-    c.serve-popped.new.own.tokens c.requires.own.2 won.more c.serve-popped.ensures.serves.posts.less in
+    c.serve-popped.new.own.tokens c.requires.own.3 won.more c.serve-popped.ensures.serves.posts.less in
     search rules
 
 pub returns-in-Won-clause-goes : goal.returns-in-Won-clause-goes
@@ -33,5 +33,5 @@ returns-in-Sleep-clause-own g c = let tokens = c.args.self.now.tokens in
     (subst (λ (n : Next). Goes tokens Ordinary c.args.waiter c.args.turn n c.wait_on-next.result.1 c.args.own.now.tokens
     c.wait_on-next.new.hand) c.in-Sleep.is c.wait_on-next.ensures.goes).1 in
     let none : HoldsNone c.wait_on-next.new.hand =
-    none_same c.args.own.now.tokens c.wait_on-next.new.hand c.requires.own.2 sleeps.same in
+    none_same c.args.own.now.tokens c.wait_on-next.new.hand c.requires.own.3 sleeps.same in
     search rules
