@@ -7,7 +7,7 @@ import sys
 
 PACKAGES = {
     "gcc": "gcc", "g++": "g++", "clang": "clang", "clang++": "clang", "cargo": "cargo", "rustc": "rustc", "rustfmt": "rustfmt", "cargo-clippy": "rust-clippy",
-    "valgrind": "valgrind", "pkg-config": "pkg-config",
+    "valgrind": "valgrind", "pkg-config": "pkg-config", "taskset": "util-linux",
     "cmake": "cmake", "make": "make", "ninja": "ninja-build", "man": "man-db", "musl-gcc": "musl-tools", "dpkg": "dpkg", "dpkg-deb": "dpkg", "tar": "tar", "ldconfig": "libc-bin",
     "fio": "fio", "nbdcopy": "libnbd-bin", "nbdinfo": "libnbd-bin", "nbdkit": "nbdkit", "qemu-img": "qemu-utils", "qemu-io": "qemu-utils",
     "spin": "spin", "qemu-aarch64": "qemu-user", "qemu-x86_64": "qemu-user", "aarch64-linux-gnu-g++": "g++-aarch64-linux-gnu",

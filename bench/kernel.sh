@@ -1,13 +1,13 @@
 #!/usr/bin/env bash
 # kernel.sh [REPETITIONS [ROUNDS [DEPTH..]]]: runs pair, ring, full, handoff and batch of tag_bench, over the map, the queue, a
-# pool and caches, and of what stands beside it in alternation, three times with 200000 rounds at depths 64, 1024 and 10240
-# unless told otherwise, and prints tables. Where depth 1024 is among them it prints more and draws bench/out/kernel.svg.
+# pool and caches, and of what stands beside it in alternation, three times with 1000000 rounds at depths 64, 1024 and 10240
+# unless told otherwise, and prints tables. With far fewer rounds a thread has ended before the next one begins, which is said. Where depth 1024 is among them it prints more and draws bench/out/kernel.svg.
 # rt, gcc, rustc, python3, apt-get and dpkg-deb are on the path; the first run downloads 154 MB from Debian's archive. With
 # BUILT=1 it proves and builds nothing, and measures what is there.
 set -euo pipefail
 cd "$(dirname "$0")/.."
 repetitions=${1:-3}
-rounds=${2:-200000}
+rounds=${2:-1000000}
 depths=("${@:3}")
 if [ ${#depths[@]} = 0 ]; then depths=(64 1024 10240); fi
 out=bench/out

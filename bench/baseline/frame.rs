@@ -52,6 +52,31 @@ struct Run {
     clock: Duration,
     /// Processor time of all threads together.
     processor: Duration,
+    /// Whether the last thread began before the first one had ended.
+    overlaps: bool,
+}
+
+/// The moments of a thread's work.
+struct Span {
+    begin: Instant,
+    end: Instant,
+}
+
+impl Span {
+    fn of(work: impl FnOnce()) -> Span {
+        let begin = Instant::now();
+        work();
+        Span {
+            begin,
+            end: Instant::now(),
+        }
+    }
+}
+
+/// Whether there was a moment at which all threads worked.
+fn do_overlap(spans: &[Span]) -> bool {
+    let last_begin = spans.iter().map(|span| span.begin).max();
+    last_begin < spans.iter().map(|span| span.end).min()
 }
 
 impl Case<'_> {
@@ -59,6 +84,7 @@ impl Case<'_> {
     pub fn measure(&self, work: impl Fn(u32) -> u64 + Sync) {
         let done = AtomicU64::new(0);
         let runs: Vec<Run> = (0..RUNS).map(|_| self.time(&work, &done)).collect();
+        self.warn_of(runs.iter().filter(|run| !run.overlaps).count());
         let operations = done.into_inner() / (RUNS as u64 * u64::from(self.threads));
         let sorted = |time: fn(&Run) -> Duration| {
             let mut times: Vec<f64> = runs.iter().map(|run| time(run).as_nanos() as f64).collect();
@@ -80,20 +106,37 @@ impl Case<'_> {
         );
     }
 
+    /// What a thread takes beside others is not measured where the others have not begun.
+    fn warn_of(&self, apart: usize) {
+        if apart > 0 {
+            eprintln!(
+                "{}, {}, {}, {} threads: in {apart} of {RUNS} runs the last thread began after the first had ended: take more rounds",
+                self.contender, self.workload, self.name, self.threads
+            );
+        }
+    }
+
     /// One run. As in `tag_bench`, the first thread is the caller's own.
     fn time(&self, work: &(impl Fn(u32) -> u64 + Sync), done: &AtomicU64) -> Run {
-        let run = move |index: u32| done.fetch_add(work(index), SeqCst);
+        let run = move |index: u32| {
+            Span::of(|| {
+                done.fetch_add(work(index), SeqCst);
+            })
+        };
         let processor = processor_time();
         let start = Instant::now();
-        thread::scope(|scope| {
-            for index in 1..self.threads {
-                scope.spawn(move || run(index));
-            }
-            run(0);
+        let spans: Vec<Span> = thread::scope(|scope| {
+            let others: Vec<_> = (1..self.threads)
+                .map(|index| scope.spawn(move || run(index)))
+                .collect();
+            let own = run(0);
+            let others = others.into_iter().map(|it| it.join().expect("it ends"));
+            others.chain([own]).collect()
         });
         Run {
             clock: start.elapsed(),
             processor: processor_time().saturating_sub(processor),
+            overlaps: do_overlap(&spans),
         }
     }
 }

@@ -8,16 +8,11 @@
 #include <stdint.h>
 
 #include "../../c/tags.h"
+#include "../kernel/sbitmap_user.h"
 
 struct bitmap_user {
 	/* the word at which the next search begins */
 	uint32_t hint;
-};
-
-/* As in kernel/sbitmap_tags.c. */
-struct sbitmap_user {
-	struct sbitmap_queue *queue;
-	unsigned int processor;
 };
 
 /* What a thread has of its own, on lines of its own. */

@@ -2,31 +2,39 @@
 //! the C interface of this repository, its crate for Rust, DPDK's rte_mempool where it is installed, a bitmap alone, three queues of the free
 //! tags, a list of them behind a lock, two locked steps on lines of the thread's own, and arithmetic alone.
 //! `main WORKLOAD [--only NAME;..] [--threads N] [--depth N] [--rounds N]` prints a line of JSON a case, of all contenders or of those
-//! named.
+//! named. Without `--cfg fetched` it lacks those that are downloaded: the kernel's, and the queues.
 #[path = "../baseline/clock.rs"]
 mod clock;
 #[path = "../baseline/frame.rs"]
 mod frame;
+#[cfg(fetched)]
+mod array_queue;
 mod bitmap;
+#[cfg(fetched)]
 mod kernel;
 mod limit;
 mod lists;
 mod loops;
 #[cfg(mempool)]
 mod mempool;
+#[cfg(fetched)]
 mod queues;
 mod registers;
 mod rust;
 mod tag_c;
 
+#[cfg(fetched)]
+use crate::array_queue::Queue;
 use crate::bitmap::Bitmap;
 use crate::frame::{Case, Options};
+#[cfg(fetched)]
 use crate::kernel::Kernel;
 use crate::limit::Limit;
-use crate::lists::{List, Queue};
+use crate::lists::List;
 use crate::loops::{Slots, Tags, Way, Workload};
 #[cfg(mempool)]
 use crate::mempool::Mempool;
+#[cfg(fetched)]
 use crate::queues::{Boost, FreeQueue, Moodycamel};
 use crate::registers::Registers;
 use crate::rust::{Cached, Rust, Uncached};
@@ -74,8 +82,11 @@ fn run(workload: Workload, options: &Options, only: &[String], depth: u32) {
                 rounds: options.rounds,
                 only,
             };
-            case(Hints::Apart).measure::<Kernel>();
-            case(Hints::FromZero).measure::<Kernel>();
+            #[cfg(fetched)]
+            {
+                case(Hints::Apart).measure::<Kernel>();
+                case(Hints::FromZero).measure::<Kernel>();
+            }
             case(Hints::Apart).measure::<TagC<InPool>>();
             case(Hints::FromZero).measure::<TagC<InPool>>();
             case(Hints::Apart).measure::<TagC<Beside>>();
@@ -87,9 +98,12 @@ fn run(workload: Workload, options: &Options, only: &[String], depth: u32) {
                 case(Hints::None).measure::<Mempool>();
             }
             case(Hints::Apart).measure::<Bitmap>();
-            case(Hints::None).measure::<Queue>();
-            case(Hints::None).measure::<FreeQueue<Boost>>();
-            case(Hints::None).measure::<FreeQueue<Moodycamel>>();
+            #[cfg(fetched)]
+            {
+                case(Hints::None).measure::<Queue>();
+                case(Hints::None).measure::<FreeQueue<Boost>>();
+                case(Hints::None).measure::<FreeQueue<Moodycamel>>();
+            }
             case(Hints::None).measure::<List>();
             case(Hints::None).measure::<Limit>();
             if workload == Workload::Pair {

@@ -1,23 +1,15 @@
 //! DPDK's rte_mempool, as mempool_tags.c offers it: a ring of free objects, and a cache of them for each thread.
 use crate::loops::{Slots, Tags, BATCH};
-use std::ffi::{c_int, c_uint, c_void};
+use std::ffi::{c_int, c_uint};
 use std::sync::atomic::{AtomicU64, Ordering::Relaxed};
 
 /// Tags that a cache keeps, as many as those of `tag_bench cache`.
 const MOST: u32 = 8;
 
-/// A struct mempool_tag.
-#[repr(C)]
-struct Object {
-    number: u32,
-    slot: AtomicU64,
-}
-
 /// A struct mempool_tags.
 #[repr(C)]
 struct Pool {
-    pool: *mut c_void,
-    objects: *const *const Object,
+    _opaque: [u8; 0],
 }
 
 /// DPDK's own.
@@ -28,6 +20,7 @@ struct RteMempoolCache {
 
 unsafe extern "C" {
     fn mempool_tags_open(depth: c_uint) -> *mut Pool;
+    fn mempool_tags_slots(tags: *const Pool) -> *const *const AtomicU64;
     fn mempool_tags_enter(most: c_uint) -> *mut RteMempoolCache;
     fn mempool_tags_leave(tags: *mut Pool, cache: *mut RteMempoolCache);
     fn mempool_tags_close(tags: *mut Pool) -> bool;
@@ -48,7 +41,11 @@ unsafe extern "C" {
 }
 
 /// A pool from its open to its close.
-pub struct Mempool(*mut Pool);
+pub struct Mempool {
+    pool: *mut Pool,
+    /// The slot of each tag.
+    slots: *const *const AtomicU64,
+}
 
 // SAFETY: calls on one pool may come from all threads at once, each with a cache of its own.
 unsafe impl Sync for Mempool {}
@@ -83,7 +80,9 @@ impl Tags for Mempool {
         // SAFETY: one thread opens pools, one after another.
         let pool = unsafe { mempool_tags_open(depth) };
         assert!(!pool.is_null(), "DPDK does not start, or has no memory");
-        Mempool(pool)
+        // SAFETY: the pool is open.
+        let slots = unsafe { mempool_tags_slots(pool) };
+        Mempool { pool, slots }
     }
 
     fn enter(&self, _index: u32) -> Cache {
@@ -91,7 +90,7 @@ impl Tags for Mempool {
         let cache = unsafe { mempool_tags_enter(MOST) };
         assert!(!cache.is_null(), "no memory for a cache");
         Cache {
-            pool: self.0,
+            pool: self.pool,
             cache,
         }
     }
@@ -106,7 +105,7 @@ impl Tags for Mempool {
     #[inline]
     fn touch(&self, _user: &mut Cache, _slots: &Slots, tag: u32, value: u64) {
         // SAFETY: the pool is open, and there are as many objects as tags.
-        let slot = unsafe { &(**(*self.0).objects.add(tag as usize)).slot };
+        let slot = unsafe { &**self.slots.add(tag as usize) };
         std::hint::black_box(slot.load(Relaxed));
         slot.store(value, Relaxed);
     }
@@ -135,7 +134,7 @@ impl Tags for Mempool {
 
     fn close(self) {
         // SAFETY: no thread has a cache any more.
-        let all_back = unsafe { mempool_tags_close(self.0) };
+        let all_back = unsafe { mempool_tags_close(self.pool) };
         assert!(all_back, "the pool lacks a tag");
     }
 }

@@ -15,6 +15,7 @@ struct mempool_tag {
 struct mempool_tags {
 	struct rte_mempool *pool;
 	struct mempool_tag **objects;
+	uint64_t **slots;
 };
 
 // DPDK is started once. It ties the calling thread to a processor, which is undone.
@@ -42,6 +43,7 @@ static void number(struct rte_mempool *pool, void *argument, void *object, unsig
 	tags->objects[index] = object;
 	tags->objects[index]->number = index;
 	tags->objects[index]->slot = 0;
+	tags->slots[index] = &tags->objects[index]->slot;
 }
 
 // A pool of free tags. NULL where DPDK does not start or there is no memory.
@@ -52,11 +54,18 @@ struct mempool_tags *mempool_tags_open(unsigned int depth)
 	if (tags == NULL || !started())
 		return NULL;
 	tags->objects = calloc(depth, sizeof(*tags->objects));
-	if (tags->objects == NULL)
+	tags->slots = calloc(depth, sizeof(*tags->slots));
+	if (tags->objects == NULL || tags->slots == NULL)
 		return NULL;
 	tags->pool = rte_mempool_create("tags", depth, sizeof(struct mempool_tag), 0, 0, NULL, NULL, number, tags,
 					SOCKET_ID_ANY, 0);
 	return tags->pool == NULL ? NULL : tags;
+}
+
+// The slot of each tag, for programs that know no layout of this file.
+uint64_t *const *mempool_tags_slots(const struct mempool_tags *tags)
+{
+	return tags->slots;
 }
 
 // A cache for one thread, which keeps so many tags, and half as many again before it gives some back.
@@ -79,6 +88,7 @@ bool mempool_tags_close(struct mempool_tags *tags)
 
 	rte_mempool_free(tags->pool);
 	free(tags->objects);
+	free(tags->slots);
 	free(tags);
 	return full;
 }

@@ -28,8 +28,9 @@ pub struct Rust<K> {
     keeps: PhantomData<K>,
 }
 
-/// A guard of a free tag, for which it tries until there is one, after a touch of its slot.
-#[inline]
+/// A guard of a free tag, for which it tries until there is one, after a touch of its slot. The loops have it in line, as
+/// those in C do.
+#[inline(always)]
 fn win<'a>(hand: &'a Hand, slots: &Slots, value: u64) -> Tag<'a> {
     loop {
         if let Ok(Some(tag)) = hand.get() {

@@ -1,6 +1,8 @@
 // The kernel's sbitmap_queue as main.rs calls it.
 #include <linux/sbitmap.h>
 
+#include "sbitmap_user.h"
+
 __thread unsigned int this_processor;
 
 // A map of free tags. NULL where there is no memory.
@@ -30,11 +32,23 @@ bool sbitmap_tags_close(struct sbitmap_queue *queue)
 	return none;
 }
 
-// What a thread has: the map, and the processor that it stands for.
-struct sbitmap_user {
-	struct sbitmap_queue *queue;
-	unsigned int processor;
-};
+// The same, with what the thread needs for the calls below. NULL where there is no memory.
+struct sbitmap_user *sbitmap_tags_join(struct sbitmap_queue *queue, unsigned int processor, unsigned int hint)
+{
+	struct sbitmap_user *user = zeroed(sizeof(*user));
+
+	if (user == NULL)
+		return NULL;
+	user->queue = queue;
+	user->processor = processor;
+	sbitmap_tags_enter(queue, processor, hint);
+	return user;
+}
+
+void sbitmap_tags_leave(struct sbitmap_user *user)
+{
+	free(user);
+}
 
 // A free tag, or -1.
 int sbitmap_tags_get(struct sbitmap_user *user)

@@ -13,6 +13,7 @@
 #include <ucontext.h>
 
 #include "../../c/tags.h"
+#include "../kernel/sbitmap_user.h"
 
 /*
  * Nanoseconds of an access: to a line that the processor has, without and with a lock, and by a line from another cache of
@@ -39,10 +40,7 @@ struct processor {
 	double clock;
 	bool is_done;
 	struct tags_hand hand;
-	struct {
-		void *queue;
-		unsigned int processor;
-	} kernel;
+	struct sbitmap_user kernel;
 };
 
 static struct line lines[LINES];
@@ -59,10 +57,11 @@ static const char *contender;
 uint64_t c_tags_beside_pairs(struct tags_hand *hand, volatile uint64_t *slots, uint64_t rounds);
 uint64_t c_tags_beside_ring(struct tags_hand *hand, volatile uint64_t *slots, uint32_t *held, uint64_t hold,
 			    uint64_t rounds);
-void *sbitmap_tags_open(unsigned int depth);
-void sbitmap_tags_enter(void *queue, unsigned int processor, unsigned int hint);
-uint64_t sbitmap_tags_pairs(void *user, volatile uint64_t *slots, uint64_t rounds);
-uint64_t sbitmap_tags_ring(void *user, volatile uint64_t *slots, uint32_t *held, uint64_t hold, uint64_t rounds);
+struct sbitmap_queue *sbitmap_tags_open(unsigned int depth);
+void sbitmap_tags_enter(struct sbitmap_queue *queue, unsigned int processor, unsigned int hint);
+uint64_t sbitmap_tags_pairs(struct sbitmap_user *user, volatile uint64_t *slots, uint64_t rounds);
+uint64_t sbitmap_tags_ring(struct sbitmap_user *user, volatile uint64_t *slots, uint32_t *held, uint64_t hold,
+			   uint64_t rounds);
 extern __thread unsigned int this_processor;
 
 static struct line *line_of(const void *address)
@@ -165,7 +164,7 @@ static void open_tags(uint32_t depth)
 {
 	static struct tags_pool pool = TAGS_EMPTY;
 	struct tags_options options = TAGS_OPTIONS_INIT;
-	void *queue = sbitmap_tags_open(depth);
+	struct sbitmap_queue *queue = sbitmap_tags_open(depth);
 
 	options.total = depth;
 	options.hands = count;
