@@ -1,5 +1,5 @@
 """Checks what pages claim of the tree: that links lead to headings, that commands can be given as they stand, that each crate is spoken of
-where all have to be, that a promise of README.md names clauses that its call has, and what the proof rests on.
+where all have to be, that a promise names clauses that its call has, and what the proof rests on.
 """
 import functools
 import os
@@ -11,7 +11,14 @@ import sources
 ASSEMBLY = [f"c/generated/tag_c-{it}.s" for it in ("x86_64", "x86_64-v3", "aarch64", "aarch64-lse")]
 LINK = re.compile(r"\]\(([^)#\s]*)#([^)\s]+)\)")
 BLOCK = re.compile(r"^```sh\n(.*?)^```", re.M | re.S)
-PROMISED = re.compile(r"`((?:\w+::)?\w+)` \(((?:`[a-z_]+`(?:, )?)+)\)")
+# Pages that cite contracts: a call with clauses, wrong bodies that are refused, and a call alone.
+CITING = "README.md", "docs/PROOFS.md"
+PROMISED = re.compile(r"`((?:\w+::)?\w+)` \(((?:`[a-z_]+`(?:, )?)+)(?:; refused: [^)]*)?\)")
+REFUSED = re.compile(r"\brefused: ((?:`\w+`(?:, )?)+)")
+NAMED = re.compile(r"`((?:\w+::)+[a-z_]\w*)`")
+# A name of two words or more: of a call, a clause, a wrong body, a definition or a crate. Those of others are named below.
+NAME = re.compile(r"`([a-z]+(?:_[a-z0-9]+)+)`")
+OTHERS = {"Arc", "counted_slot", "sbitmap_queue"}
 # Pages whose commands are those of a user.
 COMMANDS = re.compile(r"README\.md|docs/(?:USING\w*|BLOCK_DEVICE)\.md|c/README\.md")
 # Where pages begin to speak of all crates.
@@ -79,23 +86,48 @@ def unnamed_crates(read):
                 yield f"{page}: nothing of the crate {crate}"
 
 
+@functools.cache
 def clauses():
-    """The labels of the clauses of each public call, by its name."""
-    found = {}
-    for part in (it for crate in sources.crates() for it in sources.parts_of(crate) if it.public):
-        found.setdefault(part.name, set()).update([*part.labels(), *(label for label, _ in part.clauses)])
+    """The labels of the clauses of each call and type, by its name: of the public ones, or of the private ones where none has the name."""
+    found = {True: {}, False: {}}
+    for part in (it for crate in sources.crates() for it in sources.parts_of(crate)):
+        labels = {*part.labels(), *(label for label, _ in part.clauses)}
+        found[part.public].setdefault(sources.plain(part.name), set()).update(labels)
+    return found[True], {**found[False], **found[True]}
+
+
+def wrong_promises(name, text):
+    """The clauses that a page cites and its call does not have. A call without its type has that of the one before."""
+    (public, known), owner = clauses(), ""
+    for found in PROMISED.finditer(text):
+        call = found[1]
+        owner = call.rpartition("::")[0] or owner
+        labels = public.get(call, known.get(f"{owner}::{call}", known.get(call, set())))
+        for label in sorted(set(re.findall(r"`(\w+)`", found[2])) - labels):
+            yield f"{name}: {call} has no clause {label}"
+
+
+@functools.cache
+def cited_names():
+    """The names of all calls, with their types and without, of clauses, wrong bodies, definitions and crates."""
+    found = {*clauses()[1], *sources.crates()}
+    for crate in sources.crates():
+        found.update(name for name, _, _ in sources.definitions_of(crate))
+        for part in sources.parts_of(crate):
+            found.update([part.last(), *part.labels(), *part.edits])
     return found
 
 
-def wrong_promises(read):
-    """The clauses that README.md cites and its call does not have. A call without its type has that of the one before."""
-    known, owner = clauses(), ""
-    for found in PROMISED.finditer(read("README.md")):
-        name = found[1]
-        owner = name.rpartition("::")[0] or owner
-        labels = known.get(name, known.get(f"{owner}::{name}", set()))
-        for label in set(re.findall(r"`(\w+)`", found[2])) - labels:
-            yield f"README.md: {name} has no clause {label}"
+def wrong_citations(read):
+    """What README.md and docs/PROOFS.md cite of contracts and is not there: clauses, calls, wrong bodies and definitions."""
+    bodies = {it for crate in sources.crates() for part in sources.parts_of(crate) for it in part.edits}
+    for name in CITING:
+        text = re.sub(r"\s+", " ", re.sub(r"^```.*?^```", "", read(name), flags=re.M | re.S))
+        yield from wrong_promises(name, text)
+        named = {it for it in [*NAMED.findall(text), *NAME.findall(text)] if it.split("::")[0] not in OTHERS}
+        yield from (f"{name}: no such call, clause, wrong body or definition: {it}" for it in sorted(named - cited_names()))
+        refused = {it for found in REFUSED.findall(text) for it in re.findall(r"\w+", found)}
+        yield from (f"{name}: no such wrong body: {it}" for it in sorted(refused - bodies))
 
 
 def wrong_ground(read):
@@ -125,7 +157,7 @@ def wrong_claims(files, read):
             if COMMANDS.fullmatch(name):
                 yield from wrong_commands(name, read(name), files, read)
     yield from unnamed_crates(read)
-    yield from wrong_promises(read)
+    yield from wrong_citations(read)
     yield from wrong_ground(read)
     lines = read("README.md").count("\n")
     if lines > MOST_LINES:

@@ -19,6 +19,8 @@ CLAUSE = re.compile(r"^ *ensures\*? +(?:(\w+) +)?\{", re.M)
 # What a type keeps; the rule of a table or a queue, the invariant of a type, and what Display writes of it.
 KEPT = re.compile(r"^    ghost (\w+): \{", re.M)
 RULE = re.compile(r"^    ghost (holds|invariant|output) = \{", re.M)
+# A public definition of specs/ with the comment above it; what else begins with pub there names files and definitions.
+DEFINITION = re.compile(r"^(?P<said>(?:--(?: .*)?\n)*)(?:\w+ )?pub (?!mod\b|use\b)(?:record |data )?(?P<name>[^\s(){}:]+)", re.M)
 # A record of specs/, to the next blank line, and what begins a definition or a constant.
 FIELDS = re.compile(r"^pub record (?P<name>[\w'?-]+).*\n(?:.+\n)*", re.M)
 DEFINED = re.compile(r"^(?!--)(?:abbrev )?(?:pub )?(?:const |record |data )?([\w'?-]+)", re.M)
@@ -39,6 +41,11 @@ class Part:
         for label, text in self.clauses:
             name = re.match(r"\w*", text)[0]
             yield from label == RECORD and records_of(home_of(name, self)).get(name) or [label]
+
+
+def plain(name):
+    """`Map::number` of `<Map as Numbered>::number`."""
+    return re.sub(r"^<(\w+) as [\w:]+>", r"\1", name)
 
 
 def read(path):
@@ -189,3 +196,13 @@ def parts_of(crate):
     """The parts of a crate in the order of its files."""
     parts = give_rules([it for path in files_of(crate, "src", ".rt") for it in parts_of_file(crate, path)])
     return parts + place_edits(crate, parts)
+
+
+def definitions_of(crate):
+    """The public definitions of specs/: their names, their files, and what the comments above them say. One without a comment
+    shares that of the one before."""
+    said = ""
+    for path in files_of(crate, "specs", ".antt"):
+        for it in DEFINITION.finditer(read(path)):
+            said = re.sub(r"(?:^|\n)--(?: |$)", " ", it["said"]).strip() or said
+            yield it["name"], path, said
